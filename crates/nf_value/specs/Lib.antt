@@ -1,0 +1,9 @@
+pub mod Plain
+pub mod Coding
+pub mod View
+pub mod Mem
+pub mod Place
+pub mod Fault
+pub mod Order
+pub mod PairOrder
+pub mod Falls

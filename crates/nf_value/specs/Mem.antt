@@ -1,0 +1,4 @@
+use Rattle.nf_value.specs.declared.mem.Mem.{Mem}
+
+abbrev pub mem : Mem
+mem = record {}

@@ -1,0 +1,15 @@
+//! Values, their order, and why a value can't be made.
+#![tactic(auto)]
+
+mod fault;
+mod mem;
+mod order;
+mod place;
+mod text;
+mod value;
+
+pub use fault::{EvalFault, EvalKind, EvalRefusal};
+pub use mem::Mem;
+pub use place::Place;
+pub use text::Txt;
+pub use value::{Digest, FileRef, Pairs, Vals, Value};

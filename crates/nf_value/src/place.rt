@@ -1,0 +1,23 @@
+//! Places in a script.
+
+ghost use Rattle.std.specs.Prelude.{◌≡◌, Some};
+ghost use Rattle.nf_value.specs.Place.{place_text};
+
+use std::fmt;
+
+/// A place in a text. Both numbers count from 1; a column counts bytes (own).
+#[derive(Debug, Clone, Copy, PartialEq, Eq)]
+pub struct Place {
+    pub line: u32,
+    pub col: u32,
+}
+
+impl fmt::Display for Place {
+    ghost output = { λ p. Some (place_text p.line p.col) };
+
+    fn fmt<W: fmt::Write>(&self, f: &mut fmt::Formatter<W>) -> fmt::Result {
+        let line = self.line;
+        let col = self.col;
+        write!(f, "{line}:{col}")
+    }
+}
