@@ -1,6 +1,7 @@
 //! Values, their order, and why a value can't be made.
 #![tactic(auto)]
 
+mod bytes;
 mod fault;
 mod mem;
 mod order;
@@ -8,6 +9,7 @@ mod place;
 mod text;
 mod value;
 
+pub use bytes::Bytes;
 pub use fault::{EvalFault, EvalKind, EvalRefusal};
 pub use mem::Mem;
 pub use place::Place;
