@@ -1,0 +1,172 @@
+//! The form of the first chain, found on a script's tree.
+
+ghost use Rattle.std.specs.Prelude.{◌≡◌, Some, None, Option, option_map, map, is_some};
+ghost use Rattle.nf_ast.specs.Tree.{trees};
+ghost use Rattle.nf_ast.specs.View.{view, views, view_stmts, view_closure, view_script, view_workflow, view_top, view_stmt};
+ghost use Rattle.nf_ast.specs.Chain.{chain_of, called as called_of, called_with as called_with_of, property_of as property_found, single, is_sum as is_sum_of, are_numbers as are_numbers_of, is_name as is_name_of, is_empty, whole, viewed, mapped, source};
+
+use crate::expr::{Closure, Expr, Stmt};
+use crate::script::{Script, Top, Workflow};
+
+/// The parts of `workflow { channel.of(NUMBER {, NUMBER}).map { SUM }.view() }` that differ from script to script.
+#[derive(Clone, Copy)]
+pub struct Chain<'a> {
+    /// The numbers of `of`, each an `Expr::Number`.
+    pub numbers: &'a [Expr],
+    /// The sum of `map`: numbers, `it`, `+`, `-` and `*`.
+    pub sum: &'a Expr,
+}
+
+impl Script {
+    /// The parts of the chain that the script is, if it is one.
+    #[tactic(auto, unfolding(crate::specs::Chain::chain_of))]
+    pub fn chain(&self) -> Option<Chain<'_>>
+        ensures { option_map (λ c. (views c.numbers.now, view c.sum.now)) result ≡ chain_of (view_script self.now) }
+    {
+        let viewed = viewed_of(whole_of(self)?)?;
+        let (mapped, sum) = mapped_of(viewed)?;
+        let numbers = numbers_of(mapped)?;
+        is_sum(sum).then_some(Chain { numbers, sum })
+    }
+}
+
+fn whole_of(script: &Script) -> Option<&Expr>
+    ensures { option_map (λ e. view e.now) result ≡ whole (view_script script.now) }
+{
+    let workflow = single_workflow(script)?;
+    single_expr(&workflow.body)
+}
+
+fn viewed_of(expr: &Expr) -> Option<&Expr>
+    ensures { option_map (λ e. view e.now) result ≡ viewed (view expr.now) }
+{
+    let (of, args) = called(expr, "view")?;
+    if are_none(args) { Some(of) } else { None }
+}
+
+fn are_none(exprs: &[Expr]) -> bool
+    ensures { result ≡ is_empty (views exprs.now) }
+{
+    match exprs {
+        [] => true,
+        [_, ..] => false,
+    }
+}
+
+fn mapped_of(expr: &Expr) -> Option<(&Expr, &Expr)>
+    ensures { option_map (λ x. (view x.0.now, view x.1.now)) result ≡ mapped (view expr.now) }
+{
+    let (of, closure) = called_with(expr, "map")?;
+    let sum = single_expr(&closure.body)?;
+    Some((of, sum))
+}
+
+fn numbers_of(expr: &Expr) -> Option<&[Expr]>
+    ensures { option_map (λ es. views es.now) result ≡ source (view expr.now) }
+{
+    let (of, numbers) = called(expr, "of")?;
+    if is_name(of, "channel") && are_numbers(numbers) {
+        Some(numbers)
+    } else {
+        None
+    }
+}
+
+fn single_workflow(script: &Script) -> Option<&Workflow>
+    ensures { option_map (λ w. view_workflow w.now) result ≡ single (view_script script.now) }
+{
+    if script.tops.len() != 1 {
+        return None;
+    }
+    Some(workflow_of(&script.tops[0]))
+}
+
+fn workflow_of(top: &Top) -> &Workflow
+    ensures { view_workflow result.now ≡ view_top top.now }
+{
+    match top {
+        Top::Workflow(workflow) => workflow,
+    }
+}
+
+fn single_expr(body: &Vec<Stmt>) -> Option<&Expr>
+    ensures { option_map (λ e. view e.now) result ≡ single (view_stmts body.now.items) }
+{
+    if body.len() != 1 {
+        return None;
+    }
+    Some(expr_of(&body[0]))
+}
+
+fn expr_of(stmt: &Stmt) -> &Expr
+    ensures { view result.now ≡ view_stmt stmt.now }
+{
+    match stmt {
+        Stmt::Expr(expr) => expr,
+    }
+}
+
+fn property_of<'a>(expr: &'a Expr, word: &str) -> Option<&'a Expr>
+    ensures { option_map (λ e. view e.now) result ≡ property_found word.now (view expr.now) }
+{
+    match expr {
+        Expr::Property(_, of, name) if name.as_str() == word => Some(of),
+        _ => None,
+    }
+}
+
+fn called<'a>(expr: &'a Expr, word: &str) -> Option<(&'a Expr, &'a [Expr])>
+    ensures { option_map (λ x. (view x.0.now, views x.1.now)) result ≡ called_of word.now (view expr.now) }
+{
+    match expr {
+        Expr::Call(_, of, args) => {
+            let of = property_of(of, word)?;
+            Some((of, args.as_slice()))
+        }
+        _ => None,
+    }
+}
+
+fn called_with<'a>(expr: &'a Expr, word: &str) -> Option<(&'a Expr, &'a Closure)>
+    ensures { option_map (λ x. (view x.0.now, view_closure x.1.now)) result ≡ called_with_of word.now (view expr.now) }
+{
+    match expr {
+        Expr::CallWith(of, closure) => {
+            let of = property_of(of, word)?;
+            Some((of, closure))
+        }
+        _ => None,
+    }
+}
+
+fn is_name(expr: &Expr, word: &str) -> bool
+    ensures { result ≡ is_name_of word.now (view expr.now) }
+{
+    match expr {
+        Expr::Name(_, name) => name.as_str() == word,
+        _ => false,
+    }
+}
+
+fn are_numbers(exprs: &[Expr]) -> bool
+    ensures { result ≡ are_numbers_of (views exprs.now) }
+{
+    for expr in exprs {
+        match expr {
+            Expr::Number(_, _) => {}
+            _ => return false,
+        }
+    }
+    true
+}
+
+fn is_sum(expr: &Expr) -> bool
+    ensures { result ≡ is_sum_of (view expr.now) }
+{
+    match expr {
+        Expr::Number(_, _) => true,
+        Expr::Name(_, name) => name.as_str() == "it",
+        Expr::Binary(_, _, left, right) => is_sum(left) && is_sum(right),
+        _ => false,
+    }
+}

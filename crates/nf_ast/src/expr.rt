@@ -1,0 +1,142 @@
+//! Expressions, closures and statements.
+
+ghost use Rattle.std.specs.Prelude.{◌≡◌, IfOk};
+ghost use Rattle.nf_ast.specs.Tree.{number as number_of, name as name_of, binary as binary_of, property as property_of, call as call_of, call_with as call_with_of, closure as closure_of};
+ghost use Rattle.nf_ast.specs.View.{view, views, view_stmt, view_stmts, view_closure};
+
+use nf_value::{Mem, Place, Txt};
+use std::alloc::Global;
+
+/// The mark between two operands.
+#[derive(Debug, Clone, Copy, PartialEq, Eq)]
+pub enum BinaryMark {
+    /// `+`
+    Plus,
+    /// `-`
+    Minus,
+    /// `*`
+    Times,
+}
+
+/// An expression.
+#[cycle(tree)]
+#[derive(Drop)]
+pub enum Expr {
+    /// A number, with the place of its first digit.
+    Number(Place, i64),
+    /// A name.
+    Name(Place, Txt),
+    /// Two operands, with their mark and its place.
+    Binary(Place, BinaryMark, Box<Expr>, Box<Expr>),
+    /// `e.name`, with the place of the name.
+    Property(Place, Box<Expr>, Txt),
+    /// `e(..)`, with the place of the `(`.
+    Call(Place, Box<Expr>, Vec<Expr>),
+    /// `e { .. }`: a call with a closure after it.
+    CallWith(Box<Expr>, Closure),
+}
+
+/// A closure, with the place of its `{`.
+#[cycle(tree)]
+#[derive(Drop)]
+pub struct Closure {
+    pub place: Place,
+    pub body: Vec<Stmt>,
+}
+
+/// A statement.
+#[cycle(tree)]
+#[derive(Drop)]
+pub enum Stmt {
+    /// An expression.
+    Expr(Expr),
+}
+
+impl Expr {
+    /// Two operands and the mark between them.
+    ///
+    /// # Errors
+    ///
+    /// `Mem` where there is no memory for the node.
+    pub fn binary(
+        alloc: Global,
+        place: Place,
+        mark: BinaryMark,
+        left: Expr,
+        right: Expr,
+    ) -> Result<Expr, Mem>
+        ensures { IfOk result (λ e. view e ≡ binary_of place mark (view left) (view right)) }
+    {
+        let left = Box::new(alloc, left)?;
+        let right = Box::new(alloc, right)?;
+        Ok(Expr::Binary(place, mark, left, right))
+    }
+
+    /// A property of an expression.
+    ///
+    /// # Errors
+    ///
+    /// `Mem` where there is no memory for the node.
+    pub fn property(alloc: Global, place: Place, of: Expr, name: Txt) -> Result<Expr, Mem>
+        ensures { IfOk result (λ e. view e ≡ property_of place (view of) name) }
+    {
+        let of = Box::new(alloc, of)?;
+        Ok(Expr::Property(place, of, name))
+    }
+
+    /// A call with its arguments.
+    ///
+    /// # Errors
+    ///
+    /// `Mem` where there is no memory for the node.
+    pub fn call(alloc: Global, place: Place, of: Expr, args: Vec<Expr>) -> Result<Expr, Mem>
+        ensures { IfOk result (λ e. view e ≡ call_of place (view of) (views args.items)) }
+    {
+        let of = Box::new(alloc, of)?;
+        Ok(Expr::Call(place, of, args))
+    }
+
+    /// A call with a closure after it.
+    ///
+    /// # Errors
+    ///
+    /// `Mem` where there is no memory for the node.
+    pub fn call_with(alloc: Global, of: Expr, closure: Closure) -> Result<Expr, Mem>
+        ensures { IfOk result (λ e. view e ≡ call_with_of (view of) (view_closure closure)) }
+    {
+        let of = Box::new(alloc, of)?;
+        Ok(Expr::CallWith(of, closure))
+    }
+
+    /// A number.
+    pub fn number(place: Place, value: i64) -> Expr
+        ensures { view result ≡ number_of place value }
+    {
+        Expr::Number(place, value)
+    }
+
+    /// A name.
+    pub fn name(place: Place, name: Txt) -> Expr
+        ensures { view result ≡ name_of place name }
+    {
+        Expr::Name(place, name)
+    }
+}
+
+impl Closure {
+    /// A closure without names for its parameters.
+    pub fn new(place: Place, body: Vec<Stmt>) -> Closure
+        ensures { view_closure result ≡ closure_of place (view_stmts body.items) }
+    {
+        Closure { place, body }
+    }
+}
+
+impl Stmt {
+    /// A statement that is an expression.
+    pub fn expr(expr: Expr) -> Stmt
+        ensures { view_stmt result ≡ view expr }
+    {
+        Stmt::Expr(expr)
+    }
+}

@@ -1,0 +1,10 @@
+//! The tree of a script.
+#![tactic(auto)]
+
+mod chain;
+mod expr;
+mod script;
+
+pub use chain::Chain;
+pub use expr::{BinaryMark, Closure, Expr, Stmt};
+pub use script::{Script, Top, Workflow};
