@@ -7,6 +7,8 @@ pub data Tree : Type 0 where
   -- no part, and a part with those after it
   empty : Tree
   cons : Tree → Tree → Tree
+  -- a mark or word of which only its place counts
+  point : Place → Tree
   -- expressions
   number : Place → ℤ → Tree
   name : Place → List ℕ → Tree
@@ -22,3 +24,10 @@ pub data Tree : Type 0 where
 abbrev pub trees : List Tree → Tree
 trees [] = empty
 trees (x ∷ xs) = cons x (trees xs)
+
+-- where a mark, a name or a number stands
+abbrev pub place_of : Tree → Place
+place_of (point p) = p
+place_of (name p n) = p
+place_of (number p n) = p
+place_of _ = record { line = 0; col = 0 }
