@@ -1,0 +1,6 @@
+//! How items run through a script.
+#![tactic(auto)]
+
+mod chains;
+
+pub use chains::{ChainFault, Rules, chain};

@@ -1,0 +1,6 @@
+//! The value of an expression.
+#![tactic(auto)]
+
+mod sums;
+
+pub use sums::sum;
