@@ -1,0 +1,10 @@
+-- How a fault of the words is written.
+use Rattle.std.specs.Prelude.{ℕ, List, ◌++◌, codes, decimal}
+use Rattle.nf_words.specs.declared.fault.UsageFault.{UsageFault}
+use Rattle.nf_words.specs.declared.fault.UsageFault.TheVariants.{NoCommand, UnknownWord, NoValue, Mem}
+
+abbrev pub usage_text : UsageFault → List ℕ
+usage_text NoCommand = codes "NoCommand"
+usage_text (UnknownWord at) = codes "UnknownWord at word " ++ decimal at
+usage_text (NoValue at) = codes "NoValue at word " ++ decimal at
+usage_text Mem = codes "Mem"

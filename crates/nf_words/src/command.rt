@@ -1,0 +1,71 @@
+//! The command that the words give.
+
+ghost use Rattle.std.specs.Prelude.{◌≡◌, None, map, string_bytes, IfOk};
+ghost use Rattle.nf_words.specs.Words.{command_of, run_from, is_option as is_option_of, Reads};
+
+use crate::fault::UsageFault;
+use nf_value::{Mem, Txt};
+use std::alloc::Global;
+
+/// What is to be done.
+#[derive(Drop)]
+pub enum Command {
+    /// `run FILE`: run the script of that file.
+    Run(RunWords),
+}
+
+/// The words of `run`.
+#[derive(Drop)]
+pub struct RunWords {
+    /// The path of the script.
+    pub file: Txt,
+}
+
+/// Reads a command line: `run` with one FILE. Words are judged from left to right, and missing ones last (own; the
+/// Nextflow reference documentation has the command `run` under "Command line").
+///
+/// # Errors
+///
+/// `NoCommand` exactly where there are no words; `UnknownWord` at the first word that is no command, begins with `-`
+/// or is a second FILE; `NoValue` where all words are right and FILE is missing; `Mem` where there is no memory for
+/// a copy of FILE.
+pub fn read_words(alloc: Global, words: &[String]) -> Result<Command, UsageFault>
+    ensures { Reads (command_of (map string_bytes words.now)) result }
+{
+    let Some((command, rest)) = words.split_first() else {
+        return Err(UsageFault::NoCommand);
+    };
+    if command.as_str() != "run" {
+        return Err(UsageFault::UnknownWord { at: 0 });
+    }
+    run_words(alloc, rest)
+}
+
+fn run_words(alloc: Global, words: &[String]) -> Result<Command, UsageFault>
+    ensures { Reads (run_from 1 None (map string_bytes words.now)) result }
+{
+    let Some((file, rest)) = words.split_first() else {
+        return Err(UsageFault::NoValue { at: 1 });
+    };
+    if is_option(file.as_str()) {
+        return Err(UsageFault::UnknownWord { at: 1 });
+    }
+    if rest.split_first().is_some() {
+        return Err(UsageFault::UnknownWord { at: 2 });
+    }
+    let file = copied(alloc, file.as_str())?;
+    Ok(Command::Run(RunWords { file }))
+}
+
+fn is_option(word: &str) -> bool
+    ensures { result ≡ is_option_of word.now }
+{
+    word.as_bytes().first() == Some(&b'-')
+}
+
+fn copied(alloc: Global, word: &str) -> Result<Txt, Mem>
+    ensures { IfOk result (λ t. t ≡ word.now) }
+{
+    let text = String::from_str(alloc, word)?;
+    Ok(Txt::of(text))
+}

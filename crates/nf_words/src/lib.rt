@@ -1,0 +1,8 @@
+//! The words of a command line.
+#![tactic(auto)]
+
+mod command;
+mod fault;
+
+pub use command::{Command, RunWords, read_words};
+pub use fault::UsageFault;
