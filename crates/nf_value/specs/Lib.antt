@@ -7,3 +7,4 @@ pub mod Fault
 pub mod Order
 pub mod PairOrder
 pub mod Falls
+pub mod Text

@@ -6,6 +6,7 @@ mod fault;
 mod mem;
 mod order;
 mod place;
+mod print;
 mod text;
 mod value;
 
@@ -13,5 +14,6 @@ pub use bytes::Bytes;
 pub use fault::{EvalFault, EvalKind, EvalRefusal};
 pub use mem::Mem;
 pub use place::Place;
+pub use print::text_of;
 pub use text::Txt;
 pub use value::{Digest, FileRef, Pairs, Vals, Value};
