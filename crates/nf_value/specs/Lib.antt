@@ -8,3 +8,6 @@ pub mod Order
 pub mod PairOrder
 pub mod Falls
 pub mod Text
+pub mod Code
+pub mod Depth
+pub mod Truth

@@ -3,6 +3,7 @@
 
 mod bytes;
 mod fault;
+mod measure;
 mod mem;
 mod order;
 mod place;
@@ -12,6 +13,7 @@ mod value;
 
 pub use bytes::Bytes;
 pub use fault::{EvalFault, EvalKind, EvalRefusal};
+pub use measure::{depth, truth, weight};
 pub use mem::Mem;
 pub use place::Place;
 pub use print::text_of;

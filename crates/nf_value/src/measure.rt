@@ -1,0 +1,154 @@
+//! Numbers that tell how large a value is, and its truth.
+
+ghost use Rattle.std.specs.Prelude.{◌≡◌, ◌+◌, ◌^◌, ◌≤◌, ◌∷◌, [], min, length, suc, ℕ};
+ghost use Rattle.nf_value.specs.Plain.{plains_of, plain_pairs_of};
+ghost use Rattle.nf_value.specs.View.{plain_of};
+ghost use Rattle.nf_value.specs.Code.{code, all_code, pairs_code, text_code, file_code, head_code};
+ghost use Rattle.nf_value.specs.Depth.{depth_of, deepest, deepest_pair};
+ghost use Rattle.nf_value.specs.Truth.{truth_of};
+ghost use Rattle.std.specs.Fmt.{signed_decimal};
+ghost use Rattle.nf_value.specs.Code.{int_code};
+
+use crate::text::Txt;
+use crate::value::{FileRef, Pairs, Vals, Value};
+use itoa::Buffer;
+
+/// Where depths and weights stop.
+const MOST: u64 = 1 << 63;
+
+/// How many hexadecimal digits a digest has.
+const DIGEST_DIGITS: u64 = 64;
+
+/// Whether a value counts as true (Groovy truth): null, false, 0 and an empty text, list or map don't. A file does.
+pub fn truth(value: &Value) -> bool
+    ensures { result ≡ truth_of (plain_of value.now) }
+{
+    match value {
+        Value::Null => false,
+        Value::Truth(b) => *b,
+        Value::Int(number) => *number != 0,
+        Value::Text(text) => !text.as_str().is_empty(),
+        Value::File(_) => true,
+        Value::List(list) => list.len() != 0,
+        Value::Map(pairs) => pairs.len() != 0,
+    }
+}
+
+/// The depth of a value (own): 0 where it isn't a list or map, 1 for an empty list or map, else one more than its deepest member.
+/// At most 2^63, which also stands for all larger depths.
+#[cycle(depth)]
+pub fn depth(value: &Value) -> u64
+    ensures { result ≡ min (depth_of (plain_of value.now)) (2 ^ 63) }
+{
+    match value {
+        Value::List(list) => one_more(depth_all(list)),
+        Value::Map(pairs) => one_more(depth_pairs(pairs)),
+        _ => 0,
+    }
+}
+
+fn one_more(n: u64) -> u64
+    requires { n ≤ 2 ^ 63 }
+    ensures { result ≡ min (suc n) (2 ^ 63) }
+{
+    if n < MOST { n + 1 } else { n }
+}
+
+#[cycle(depth)]
+fn depth_all(list: &Vals) -> u64
+    ensures { result ≡ min (deepest (plains_of list.now)) (2 ^ 63) }
+{
+    let mut most = 0;
+    for item in &list.items {
+        most = depth(item).max(most);
+    }
+    most
+}
+
+#[cycle(depth)]
+fn depth_pairs(pairs: &Pairs) -> u64
+    ensures { result ≡ min (deepest_pair (plain_pairs_of pairs.now)) (2 ^ 63) }
+{
+    let mut most = 0;
+    for (_, item) in &pairs.items {
+        most = depth(item).max(most);
+    }
+    most
+}
+
+/// The weight of a value (own): how many bytes its code has. At most 2^63, which also stands for all larger weights.
+#[cycle(weight)]
+pub fn weight(value: &Value) -> u64
+    ensures { result ≡ min (length (code (plain_of value.now))) (2 ^ 63) }
+{
+    match value {
+        Value::Null | Value::Truth(_) => 1,
+        Value::Int(number) => int_weight(*number),
+        Value::Text(text) => text_weight(text),
+        Value::File(file) => file_weight(file),
+        Value::List(list) => capped(head_len(list.len()), weight_all(list)),
+        Value::Map(pairs) => capped(head_len(pairs.len()), weight_pairs(pairs)),
+    }
+}
+
+fn capped(a: u64, b: u64) -> u64
+    requires a { a ≤ 2 ^ 63 }
+    requires b { b ≤ 2 ^ 63 }
+    ensures { result ≡ min (a + b) (2 ^ 63) }
+{
+    (a + b.min(MOST - a)).min(MOST)
+}
+
+fn head_len(count: usize) -> u64
+    ensures len { (letter : ℕ) → result ≡ length (head_code (letter ∷ []) count) }
+    ensures small { result ≤ 2 ^ 63 }
+{
+    let mut buffer = Buffer::new();
+    buffer.format(count).len() as u64 + 2
+}
+
+fn int_weight(number: i64) -> u64
+    ensures { result ≡ min (length (int_code (signed_decimal number))) (2 ^ 63) }
+{
+    let mut buffer = Buffer::new();
+    buffer.format(number).len() as u64 + 2
+}
+
+fn text_weight(text: &Txt) -> u64
+    ensures { result ≡ min (length (text_code text.now)) (2 ^ 63) }
+{
+    let len = text.as_str().len();
+    capped(head_len(len), (len as u64).min(MOST))
+}
+
+fn file_weight(file: &FileRef) -> u64
+    ensures { result ≡ min (length (file_code file.now.name file.now.digest.0 file.now.len)) (2 ^ 63) }
+{
+    let len = file.name.as_str().len();
+    let mut buffer = Buffer::new();
+    let digits = buffer.format(file.len).len() as u64;
+    let name = capped(head_len(len), (len as u64).min(MOST));
+    capped(name, DIGEST_DIGITS + digits + 1)
+}
+
+#[cycle(weight)]
+fn weight_all(list: &Vals) -> u64
+    ensures { result ≡ min (length (all_code (plains_of list.now))) (2 ^ 63) }
+{
+    let mut sum = 0;
+    for item in &list.items {
+        sum = capped(sum, weight(item));
+    }
+    sum
+}
+
+#[cycle(weight)]
+fn weight_pairs(pairs: &Pairs) -> u64
+    ensures { result ≡ min (length (pairs_code (plain_pairs_of pairs.now))) (2 ^ 63) }
+{
+    let mut sum = 0;
+    for (key, item) in &pairs.items {
+        sum = capped(sum, capped(text_weight(key), weight(item)));
+    }
+    sum
+}
