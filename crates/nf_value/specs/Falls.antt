@@ -6,10 +6,10 @@ use Rattle.nf_value.specs.Plain.{nodes, nodes_all, nodes_pairs, plains_of, plain
 use Rattle.nf_value.specs.View.{plain_of, pair_of}
 use Rattle.nf_value.specs.declared.value.Value.{Value}
 use Rattle.nf_value.specs.declared.value.Value.TheVariants as v
-use Rattle.nf_value.specs.declared.value.Pairs.TheDeep.{deep-Value, deep-Vals, deep-Pairs}
-use Rattle.nf_value.specs.declared.value.Pairs.TheShapes.{weighed-Pairs-items-at-2}
-use Rattle.nf_value.specs.declared.value.Vals.TheInside as vals
-use Rattle.nf_value.specs.declared.value.Pairs.TheInside as pairs
+use Rattle.nf_value.specs.declared.list.Vals.TheDeep.{deep-Value, deep-Vals, deep-Pairs}
+use Rattle.nf_value.specs.declared.list.Vals.TheShapes.{weighed-Pairs-items-at-2}
+use Rattle.nf_value.specs.declared.list.Vals.TheInside as vals
+use Rattle.nf_value.specs.declared.map.Pairs.TheInside as pairs
 
 pub deep_le : (x : Value) → deep-Value x ≤ nodes (plain_of x)
 deep_le v.Null = omega arith

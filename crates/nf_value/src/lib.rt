@@ -3,6 +3,9 @@
 
 mod bytes;
 mod fault;
+mod file;
+mod list;
+mod map;
 mod measure;
 mod mem;
 mod order;
@@ -13,9 +16,12 @@ mod value;
 
 pub use bytes::Bytes;
 pub use fault::{EvalFault, EvalKind, EvalRefusal};
+pub use file::{Digest, FileRef};
+pub use list::Vals;
+pub use map::Pairs;
 pub use measure::{depth, truth, weight};
 pub use mem::Mem;
 pub use place::Place;
 pub use print::text_of;
 pub use text::Txt;
-pub use value::{Digest, FileRef, Pairs, Vals, Value};
+pub use value::Value;

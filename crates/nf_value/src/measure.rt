@@ -10,7 +10,10 @@ ghost use Rattle.std.specs.Fmt.{signed_decimal};
 ghost use Rattle.nf_value.specs.Code.{int_code};
 
 use crate::text::Txt;
-use crate::value::{FileRef, Pairs, Vals, Value};
+use crate::file::FileRef;
+use crate::list::Vals;
+use crate::map::Pairs;
+use crate::value::Value;
 use itoa::Buffer;
 
 /// Where depths and weights stop.

@@ -10,7 +10,10 @@ ghost use Rattle.nf_value.specs.View.{plain_of, pair_of};
 ghost use Rattle.nf_value.specs.Order.{value_cmp, items_cmp, pairs_cmp, value_cmp_total, rank};
 
 use crate::text::Txt;
-use crate::value::{FileRef, Pairs, Vals, Value};
+use crate::file::FileRef;
+use crate::list::Vals;
+use crate::map::Pairs;
+use crate::value::Value;
 use std::cmp::Ordering;
 
 impl PartialEq for Value {

@@ -8,7 +8,9 @@ ghost use Rattle.nf_value.specs.Text.{value_text, with_commas, entries_text, ite
 
 use crate::mem::Mem;
 use crate::text::Txt;
-use crate::value::{Pairs, Vals, Value};
+use crate::list::Vals;
+use crate::map::Pairs;
+use crate::value::Value;
 use std::alloc::Global;
 
 /// The text of a value, as a template or `println` prints it (Nextflow reference, "Script: String interpolation"):

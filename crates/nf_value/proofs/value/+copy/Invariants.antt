@@ -1,9 +1,0 @@
-use Rattle.std.proofs.Common.{◌≡◌, map, take}
-use Rattle.nf_value.specs.View.{plain_of, pair_of}
-use Rattle.nf_value.proofs.value.+copy.Given as goal
-
-abbrev pub invariant-Pairs::copy-loop-key : goal.invariant-Pairs::copy-loop-key
-invariant-Pairs::copy-loop-key l = map pair_of l.copies.items ≡ map pair_of (take l.key-index l.key-items)
-
-abbrev pub invariant-Vals::copy-loop-item : goal.invariant-Vals::copy-loop-item
-invariant-Vals::copy-loop-item l = map plain_of l.copies.items ≡ map plain_of (take l.item-index l.item-items)

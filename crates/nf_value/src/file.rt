@@ -1,0 +1,36 @@
+//! Files as values.
+
+ghost use Rattle.std.specs.Prelude.{◌≡◌, IfOk};
+
+use crate::mem::Mem;
+use crate::text::Txt;
+
+/// A SHA-256 digest (FIPS 180-4): its 32 bytes in the order in which that standard writes them.
+#[derive(Clone, Copy, Drop)]
+pub struct Digest(pub [u8; 32]);
+
+/// A file, known by its name and what is in it (own): the last part of its path, the digest of its bytes and their number.
+#[derive(Drop)]
+pub struct FileRef {
+    pub name: Txt,
+    pub digest: Digest,
+    pub len: u64,
+}
+
+impl FileRef {
+    /// Another value for the same file.
+    ///
+    /// # Errors
+    ///
+    /// `Mem` where there is no memory for its name.
+    pub fn copy(&self) -> Result<FileRef, Mem>
+        ensures { IfOk result (λ f. f ≡ self.now) }
+    {
+        let name = self.name.copy()?;
+        Ok(FileRef {
+            name,
+            digest: self.digest,
+            len: self.len,
+        })
+    }
+}
