@@ -1,0 +1,28 @@
+-- What a host holds, and what a read gives of it.
+use Rattle.std.specs.Prelude.{◌≡◌, ℕ, ◌≤◌, List, length, take, drop, if◌then◌else◌, None, Some, bytes_eq}
+use Rattle.std.specs.declared.option.Option.{Option}
+use Rattle.nf_host.specs.declared.host.Piece.{Piece}
+use Rattle.nf_host.specs.declared.host.Piece.TheVariants.{Absent, Bytes}
+
+-- the bytes of each path that is there
+abbrev pub Files : Type 0
+Files = List ℕ → Option (List ℕ)
+
+-- no path is there
+abbrev pub no_files : Files
+no_files = λ path. None
+
+-- the files with these bytes at this path
+abbrev pub put : Files → List ℕ → List ℕ → Files
+put f path bytes = λ q. if bytes_eq q path then Some bytes else f q
+
+-- the bytes from `at` of the file, at most 65,536 of them
+abbrev pub IsPiece : Option (List ℕ) → ℕ → Piece → Type 0
+IsPiece None at p = p ≡ Absent
+IsPiece (Some b) at (Bytes v) = v ≡ take 65536 (drop at b)
+IsPiece (Some b) at Absent = ⊥
+
+-- at most 65,536 bytes
+abbrev pub IsShort : Piece → Type 0
+IsShort Absent = Unit {0}
+IsShort (Bytes v) = length v ≤ 65536

@@ -1,0 +1,6 @@
+pub mod Faults
+pub mod Files
+pub mod MemHost
+pub mod MemSink
+pub mod Sink
+pub mod Whole

@@ -1,0 +1,80 @@
+//! The files of the system.
+
+ghost use Rattle.std.specs.Prelude.{◌≡◌, ◌≤◌, None, IfOk, length, vec_len};
+
+use crate::host::{Host, HostRefusal, PIECE_LEN, Piece};
+use nf_value::Bytes;
+use std::alloc::{AllocError, Global};
+use std::fs::File;
+use std::io;
+use std::io::{ErrorKind, Read, Seek, SeekFrom};
+use std::rt::Files;
+
+/// The files of the system that the program runs on. It tells no content (own).
+#[derive(Drop)]
+pub struct FsHost<R> {
+    rt: R,
+    faults: u64,
+}
+
+impl<R: Files> FsHost<R> {
+    /// A host over the runtime's files. Takes no memory.
+    pub fn new(rt: R) -> FsHost<R>
+        ensures { result.faults ≡ 0 }
+    {
+        FsHost { rt, faults: 0 }
+    }
+}
+
+impl<R: Files> Host for FsHost<R> {
+    ghost files = { λ _. None };
+
+    ghost faults = { λ s. s.faults };
+
+    fn read_at(&mut self, alloc: Global, path: &str, at: u64) -> Result<Piece, HostRefusal> {
+        let mut room = vec![in alloc; 0u8; PIECE_LEN]?;
+        match read_front(&self.rt, path, at, &mut room) {
+            Ok(len) => {
+                room.truncate(len);
+                Ok(Piece::Bytes(Bytes::of(room)))
+            }
+            Err(error) if is_absence(&error) => Ok(Piece::Absent),
+            Err(_) => {
+                self.faults = self.faults.saturating_add(1);
+                Err(HostRefusal::Failed)
+            }
+        }
+    }
+
+    fn faults(&self) -> u64 {
+        self.faults
+    }
+}
+
+fn is_absence(error: &io::Error) -> bool {
+    let kind = error.kind();
+    kind == ErrorKind::NotFound || kind == ErrorKind::NotADirectory
+}
+
+// How many bytes of the file stand in `room` now: fewer than it has only at the file's end.
+fn read_front<R: Files>(rt: &R, path: &str, at: u64, room: &mut [u8]) -> io::Result<usize> {
+    let mut file = File::open(rt, path)?;
+    file.seek(SeekFrom::Start(at))?;
+    fill(&mut file, room)
+}
+
+fn fill<F: Read>(file: &mut F, room: &mut [u8]) -> io::Result<usize> {
+    let mut len = 0;
+    for _ in 0..u64::MAX {
+        if len >= room.len() {
+            return Ok(len);
+        }
+        match file.read(&mut room[len..]) {
+            Ok(0) => return Ok(len),
+            Ok(count) => len += count,
+            Err(error) if error.kind() == ErrorKind::Interrupted => {}
+            Err(error) => return Err(error),
+        }
+    }
+    Err(io::Error::from(ErrorKind::Interrupted))
+}

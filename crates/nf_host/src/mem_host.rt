@@ -1,0 +1,110 @@
+//! Files in memory.
+
+ghost use Rattle.std.specs.Prelude.{◌≡◌, ◌≤◌, ◌↔◌, ◌+◌, ◌-◌, ◌^◌, ◌++◌, ℕ, [], ◌∷◌, min, Some, IfSome, IfOk, IfErr, OnOk, OnErr, IsErrOf, Contains, take, drop, length};
+ghost use Rattle.nf_host.specs.Faults.{Rose, OnFailed};
+ghost use Rattle.nf_host.specs.Files.{IsPiece, IsShort, put, no_files};
+
+use crate::host::{Host, HostRefusal, PIECE_LEN, Piece};
+use nf_value::{Bytes, Mem};
+use std::alloc::{AllocError, Global};
+use std::collections::BTreeMap;
+
+/// Files in memory. It tells them, and fails at the calls that it was told to fail at (own).
+#[derive(Drop)]
+pub struct MemHost {
+    files: BTreeMap<String, Vec<u8>>,
+    failing: Vec<u64>,
+    calls: u64,
+    faults: u64,
+    alloc: Global,
+}
+
+impl MemHost {
+    ghost use Rattle.nf_host.specs.MemHost.{files_of, failing_of, calls_of, faults_of};
+
+    /// A host with no files, that never fails. Takes no memory.
+    pub fn new(alloc: Global) -> MemHost
+        ensures files { files_of result ≡ no_files }
+        ensures failing { failing_of result ≡ [] }
+        ensures calls { calls_of result ≡ 0 }
+        ensures faults { faults_of result ≡ 0 }
+    {
+        MemHost {
+            files: BTreeMap::new(alloc),
+            failing: Vec::new(alloc),
+            calls: 0,
+            faults: 0,
+            alloc,
+        }
+    }
+
+    /// Puts a file with these bytes at the path, in the place of one that is there.
+    ///
+    /// # Errors
+    ///
+    /// `Mem` where there is no memory for it. The files are as before.
+    pub fn put(&mut self, path: &str, bytes: &[u8]) -> Result<(), Mem>
+        ensures ok { OnOk result ((q : _) → files_of self.new q ≡ put (files_of self.old) path.now bytes.now q) }
+        ensures err { OnErr result ((q : _) → files_of self.new q ≡ files_of self.old q) }
+        ensures failing { failing_of self.new ≡ failing_of self.old }
+        ensures calls { calls_of self.new ≡ calls_of self.old }
+        ensures faults { faults_of self.new ≡ faults_of self.old }
+    {
+        let name = String::from_str(self.alloc, path)?;
+        let copy = Vec::from_slice(self.alloc, bytes)?;
+        self.files.insert(name, copy)?;
+        Ok(())
+    }
+
+    /// Lets a call of `read_at` fail: the one with this number, counted from 0 and from the making
+    /// of the host.
+    ///
+    /// # Errors
+    ///
+    /// `Mem` where there is no memory for it. The host is as before.
+    pub fn fail_at(&mut self, call: u64) -> Result<(), Mem>
+        ensures ok { OnOk result (failing_of self.new ≡ failing_of self.old ++ call ∷ []) }
+        ensures err { OnErr result (failing_of self.new ≡ failing_of self.old) }
+        ensures files { files_of self.new ≡ files_of self.old }
+        ensures calls { calls_of self.new ≡ calls_of self.old }
+        ensures faults { faults_of self.new ≡ faults_of self.old }
+    {
+        self.failing.push(call)?;
+        Ok(())
+    }
+}
+
+impl Host for MemHost {
+    ghost use Rattle.nf_host.specs.MemHost.{files_of, failing_of, calls_of, faults_of};
+
+    ghost files = { λ s. Some (files_of s) };
+
+    ghost faults = { λ s. faults_of s };
+
+    fn read_at(&mut self, alloc: Global, path: &str, at: u64) -> Result<Piece, HostRefusal> {
+        let call = self.calls;
+        self.calls = call.saturating_add(1);
+        if self.failing.contains(&call) {
+            self.faults = self.faults.saturating_add(1);
+            return Err(HostRefusal::Failed);
+        }
+        let Some(bytes) = self.files.get(path) else {
+            return Ok(Piece::Absent);
+        };
+        Ok(Piece::Bytes(Bytes::of(cut(alloc, bytes.as_slice(), at)?)))
+    }
+
+    fn faults(&self) -> u64 {
+        self.faults
+    }
+}
+
+fn cut(alloc: Global, bytes: &[u8], at: u64) -> Result<Vec<u8>, AllocError>
+    ensures ok { IfOk result (λ v. v.items ≡ take 65536 (drop at bytes.now)) }
+    ensures short { IfOk result (λ v. length v.items ≤ 65536) }
+{
+    let from = (at as usize).min(bytes.len());
+    let rest = &bytes[from..];
+    let len = PIECE_LEN.min(rest.len());
+    Ok(Vec::from_slice(alloc, &rest[..len])?)
+}

@@ -1,0 +1,98 @@
+//! A sink in memory.
+
+ghost use Rattle.std.specs.Prelude.{◌≡◌, ◌≤◌, ◌+◌, ◌-◌, ◌^◌, ◌++◌, ◌==◌, ℕ, [], min, Some, None, IfSome, OnOk, OnErr, take, length, if◌then◌else◌};
+
+use crate::sink::{Sink, SinkFailed};
+use nf_value::Mem;
+use std::alloc::{AllocError, Global};
+use std::collections::BTreeMap;
+
+/// A sink in memory. It tells what it has taken, and fails at the calls that it was told to fail
+/// at (own).
+#[derive(Drop)]
+pub struct MemSink {
+    written: Vec<u8>,
+    failing: BTreeMap<u64, u64>,
+    calls: u64,
+    faults: u64,
+}
+
+impl MemSink {
+    ghost use Rattle.nf_host.specs.MemSink.{written_of, failing_of, calls_of, faults_of};
+
+    /// A sink that has taken nothing, and fails only for want of memory. Takes no memory.
+    pub fn new(alloc: Global) -> MemSink
+        ensures written { written_of result ≡ [] }
+        ensures failing { (q : ℕ) → failing_of result q ≡ None }
+        ensures calls { calls_of result ≡ 0 }
+        ensures faults { faults_of result ≡ 0 }
+    {
+        MemSink {
+            written: Vec::new(alloc),
+            failing: BTreeMap::new(alloc),
+            calls: 0,
+            faults: 0,
+        }
+    }
+
+    /// Lets a call of `write` fail: the one with this number, counted from 0 and from the making of
+    /// the sink. It takes the first `front` bytes of its piece, or all where there are fewer.
+    ///
+    /// # Errors
+    ///
+    /// `Mem` where there is no memory for it. The sink is as before.
+    pub fn fail_at(&mut self, call: u64, front: u64) -> Result<(), Mem>
+        ensures ok { OnOk result ((q : ℕ) → failing_of self.new q ≡ (if q == call then Some front else failing_of self.old q)) }
+        ensures err { OnErr result ((q : ℕ) → failing_of self.new q ≡ failing_of self.old q) }
+        ensures written { written_of self.new ≡ written_of self.old }
+        ensures calls { calls_of self.new ≡ calls_of self.old }
+        ensures faults { faults_of self.new ≡ faults_of self.old }
+    {
+        self.failing.insert(call, front)?;
+        Ok(())
+    }
+
+    /// All that it has taken. Takes no memory.
+    pub fn written(&self) -> &[u8]
+        ensures { result.now ≡ written_of self.now }
+    {
+        self.written.as_slice()
+    }
+
+    fn fail(&mut self) -> SinkFailed
+        ensures written { written_of self.new ≡ written_of self.old }
+        ensures calls { calls_of self.new ≡ calls_of self.old }
+        ensures failing { self.new.failing ≡ self.old.failing }
+        ensures faults { faults_of self.new ≡ min (faults_of self.old + 1) (2 ^ 64 - 1) }
+        ensures later { faults_of self.old ≤ faults_of self.new }
+    {
+        self.faults = self.faults.saturating_add(1);
+        SinkFailed
+    }
+}
+
+impl Sink for MemSink {
+    ghost use Rattle.nf_host.specs.MemSink.{written_of, failing_of, calls_of, faults_of};
+
+    ghost written = { λ s. Some (written_of s) };
+
+    ghost faults = { λ s. faults_of s };
+
+    fn write(&mut self, piece: &[u8]) -> Result<(), SinkFailed> {
+        let call = self.calls;
+        self.calls = call.saturating_add(1);
+        if let Some(front) = self.failing.get(&call) {
+            let len = (*front as usize).min(piece.len());
+            let _ = self.written.extend_from_slice(&piece[..len]);
+            return Err(self.fail());
+        }
+        match self.written.extend_from_slice(piece) {
+            Ok(()) => Ok(()),
+            Err(_) => Err(self.fail()),
+        }
+    }
+
+    fn faults(&self) -> u64 {
+        self.faults
+    }
+}
