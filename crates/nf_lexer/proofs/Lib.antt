@@ -1,0 +1,5 @@
+pub mod Places
+pub mod OneList
+pub mod Takes
+pub mod Braces
+pub mod Steps

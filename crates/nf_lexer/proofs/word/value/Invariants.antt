@@ -1,0 +1,7 @@
+use Rattle.std.proofs.Common.{◌≡◌, ◌≤◌, take}
+use Rattle.std.specs.Str.Parse.{digits_value}
+use Rattle.nf_lexer.specs.First.{limit}
+use Rattle.nf_lexer.proofs.word.value.Given as goal
+
+abbrev pub invariant-loop-b : goal.invariant-loop-b
+invariant-loop-b l = (l.value ≡ digits_value 10 (take l.b-index l.digits)) × (l.value ≤ limit)

@@ -1,0 +1,27 @@
+-- How keywords and marks are spelled.
+use Rattle.std.specs.Prelude.{ℕ, List, [], ◌∷◌, codes}
+use Rattle.nf_lexer.specs.declared.token.Keyword.{Keyword}
+use Rattle.nf_lexer.specs.declared.token.Keyword.TheVariants as k
+use Rattle.nf_lexer.specs.declared.token.Mark.{Mark}
+use Rattle.nf_lexer.specs.declared.token.Mark.TheVariants as m
+
+abbrev pub keywords : List (List ℕ × Keyword)
+keywords =
+    (codes "def", k.Def) ∷ (codes "else", k.Else) ∷ (codes "false", k.False) ∷ (codes "if", k.If)
+    ∷ (codes "in", k.In) ∷ (codes "null", k.Null) ∷ (codes "return", k.Return) ∷ (codes "true", k.True) ∷ []
+
+-- of two marks where one begins the other the longer stands first
+abbrev pub marks : List (List ℕ × Mark)
+marks =
+    (codes "(", m.OpenRound) ∷ (codes ")", m.CloseRound) ∷ (codes "[", m.OpenSquare) ∷ (codes "]", m.CloseSquare)
+    ∷ (codes "{", m.OpenBrace) ∷ (codes "}", m.CloseBrace) ∷ (codes ",", m.Comma) ∷ (codes ":", m.Colon)
+    ∷ (codes "+", m.Plus) ∷ (codes "*", m.Times) ∷ (codes "%", m.Percent)
+    ∷ (codes "..", m.DotDot) ∷ (codes ".", m.Dot)
+    ∷ (codes "->", m.Arrow) ∷ (codes "-", m.Minus)
+    ∷ (codes "==~", m.Matches) ∷ (codes "==", m.Same) ∷ (codes "=", m.Equals)
+    ∷ (codes "<=", m.AtMost) ∷ (codes "<", m.Less)
+    ∷ (codes ">=", m.AtLeast) ∷ (codes ">", m.Greater)
+    ∷ (codes "!=", m.Differs) ∷ (codes "!", m.Not)
+    ∷ (codes "&&", m.And)
+    ∷ (codes "||", m.Or) ∷ (codes "|", m.Pipe)
+    ∷ (codes "?.", m.QuestionDot) ∷ (codes "?:", m.Elvis) ∷ (codes "?", m.Question) ∷ []
