@@ -1,6 +1,7 @@
 -- What a host holds, and what a read gives of it.
 use Rattle.std.specs.Prelude.{◌≡◌, ℕ, ◌≤◌, List, length, take, drop, if◌then◌else◌, None, Some, bytes_eq}
 use Rattle.std.specs.declared.option.Option.{Option}
+use Rattle.nf_host.specs.declared.host.TheConstants.{PIECE_LEN}
 use Rattle.nf_host.specs.declared.host.Piece.{Piece}
 use Rattle.nf_host.specs.declared.host.Piece.TheVariants.{Absent, Bytes}
 
@@ -19,10 +20,10 @@ put f path bytes = λ q. if bytes_eq q path then Some bytes else f q
 -- the bytes from `at` of the file, at most 65,536 of them
 abbrev pub IsPiece : Option (List ℕ) → ℕ → Piece → Type 0
 IsPiece None at p = p ≡ Absent
-IsPiece (Some b) at (Bytes v) = v ≡ take 65536 (drop at b)
+IsPiece (Some b) at (Bytes v) = v ≡ take PIECE_LEN (drop at b)
 IsPiece (Some b) at Absent = ⊥
 
 -- at most 65,536 bytes
 abbrev pub IsShort : Piece → Type 0
 IsShort Absent = Unit {0}
-IsShort (Bytes v) = length v ≤ 65536
+IsShort (Bytes v) = length v ≤ PIECE_LEN

@@ -1,6 +1,7 @@
 -- What a host in memory holds.
-use Rattle.std.specs.Prelude.{ℕ, List, option_map}
+use Rattle.std.specs.Prelude.{ℕ, List, Bool, ◌==◌, option_map}
 use Rattle.std.specs.BTreeMap.{get_by_text}
+use Rattle.std.specs.List.{list_any}
 use Rattle.nf_host.specs.Files.{Files}
 use Rattle.nf_host.specs.declared.mem_host.MemHost.{MemHost}
 
@@ -19,3 +20,7 @@ calls_of h = h.calls
 -- how often it has failed
 abbrev pub faults_of : MemHost → ℕ
 faults_of h = h.faults
+
+-- whether its next read fails
+abbrev pub is_next_failing : MemHost → Bool
+is_next_failing h = list_any (λ call. call == calls_of h) (failing_of h)

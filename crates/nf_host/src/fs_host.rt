@@ -1,6 +1,7 @@
 //! The files of the system.
 
-ghost use Rattle.std.specs.Prelude.{◌≡◌, ◌≤◌, None, IfOk, length, vec_len};
+ghost use Rattle.std.specs.Prelude.{◌≡◌, ◌⊎◌, ◌↔◌, ◌≤◌, None, IfSome, IfOk, IsTrue, length, take};
+ghost use Rattle.std.specs.IoError.{error_kind};
 
 use crate::host::{Host, HostRefusal, PIECE_LEN, Piece};
 use nf_value::Bytes;
@@ -18,18 +19,22 @@ pub struct FsHost<R> {
 }
 
 impl<R: Files> FsHost<R> {
+    ghost use Rattle.nf_host.specs.FsHost.{faults_of};
+
     /// A host over the runtime's files. Takes no memory.
     pub fn new(rt: R) -> FsHost<R>
-        ensures { result.faults ≡ 0 }
+        ensures { faults_of result ≡ 0 }
     {
         FsHost { rt, faults: 0 }
     }
 }
 
 impl<R: Files> Host for FsHost<R> {
+    ghost use Rattle.nf_host.specs.FsHost.{faults_of};
+
     ghost files = { λ _. None };
 
-    ghost faults = { λ s. s.faults };
+    ghost faults = { faults_of };
 
     fn read_at(&mut self, alloc: Global, path: &str, at: u64) -> Result<Piece, HostRefusal> {
         let mut room = vec![in alloc; 0u8; PIECE_LEN]?;
@@ -51,19 +56,26 @@ impl<R: Files> Host for FsHost<R> {
     }
 }
 
-fn is_absence(error: &io::Error) -> bool {
+fn is_absence(error: &io::Error) -> bool
+    ensures { IsTrue result ↔ ((error_kind error.now ≡ ErrorKind.NotFound) ⊎ (error_kind error.now ≡ ErrorKind.NotADirectory)) }
+{
     let kind = error.kind();
     kind == ErrorKind::NotFound || kind == ErrorKind::NotADirectory
 }
 
 // How many bytes of the file stand in `room` now: fewer than it has only at the file's end.
-fn read_front<R: Files>(rt: &R, path: &str, at: u64, room: &mut [u8]) -> io::Result<usize> {
+fn read_front<R: Files>(rt: &R, path: &str, at: u64, room: &mut [u8]) -> io::Result<usize>
+    ensures { IfOk result (λ n. n ≤ length room.new) }
+{
     let mut file = File::open(rt, path)?;
     file.seek(SeekFrom::Start(at))?;
     fill(&mut file, room)
 }
 
-fn fill<F: Read>(file: &mut F, room: &mut [u8]) -> io::Result<usize> {
+fn fill<F: Read>(file: &mut F, room: &mut [u8]) -> io::Result<usize>
+    ensures within { IfOk result (λ n. n ≤ length room.new) }
+    ensures front { IfSome (F.remaining file.old) (λ xs. IfOk result (λ n. take n room.new ≡ take (length room.new) xs)) }
+{
     let mut len = 0;
     for _ in 0..u64::MAX {
         if len >= room.len() {

@@ -1,6 +1,7 @@
 //! Files in memory.
 
-ghost use Rattle.std.specs.Prelude.{◌≡◌, ◌≤◌, ◌↔◌, ◌+◌, ◌-◌, ◌^◌, ◌++◌, ℕ, [], ◌∷◌, min, Some, IfSome, IfOk, IfErr, OnOk, OnErr, IsErrOf, Contains, take, drop, length};
+ghost use Rattle.std.specs.Prelude.{◌≡◌, ◌≤◌, ◌+◌, ◌-◌, ◌^◌, ◌++◌, [], ◌∷◌, min, if◌then◌else◌, Some, Err, IfOk, OnOk, OnErr, IsTrue, take, drop, length};
+ghost use Rattle.std.specs.Bool.{OnTrue};
 ghost use Rattle.nf_host.specs.Faults.{Rose, OnFailed};
 ghost use Rattle.nf_host.specs.Files.{IsPiece, IsShort, put, no_files};
 
@@ -75,13 +76,26 @@ impl MemHost {
 }
 
 impl Host for MemHost {
-    ghost use Rattle.nf_host.specs.MemHost.{files_of, failing_of, calls_of, faults_of};
+    ghost use Rattle.nf_host.specs.MemHost.{files_of, failing_of, calls_of, faults_of, is_next_failing};
 
     ghost files = { λ s. Some (files_of s) };
 
     ghost faults = { λ s. faults_of s };
 
-    fn read_at(&mut self, alloc: Global, path: &str, at: u64) -> Result<Piece, HostRefusal> {
+    fn read_at(&mut self, alloc: Global, path: &str, at: u64) -> Result<Piece, HostRefusal>
+        ensures later { faults_of self.old ≤ faults_of self.new }
+        ensures cause { OnFailed result (Rose (faults_of self.old) (faults_of self.new)) }
+        ensures same { files_of self.new ≡ files_of self.old }
+        ensures short { IfOk result IsShort }
+        ensures content { IfOk result (IsPiece (files_of self.old path.now) at) }
+
+        // It fails exactly at the calls that it was told to fail at.
+        ensures fails { OnTrue (is_next_failing self.old) (result ≡ Err HostRefusal.Failed) }
+        ensures fails_only { OnFailed result (IsTrue (is_next_failing self.old)) }
+        ensures counted { faults_of self.new ≡ (if is_next_failing self.old then min (faults_of self.old + 1) (2 ^ 64 - 1) else faults_of self.old) }
+        ensures calls { calls_of self.new ≡ min (calls_of self.old + 1) (2 ^ 64 - 1) }
+        ensures failing { failing_of self.new ≡ failing_of self.old }
+    {
         let call = self.calls;
         self.calls = call.saturating_add(1);
         if self.failing.contains(&call) {
@@ -100,8 +114,8 @@ impl Host for MemHost {
 }
 
 fn cut(alloc: Global, bytes: &[u8], at: u64) -> Result<Vec<u8>, AllocError>
-    ensures ok { IfOk result (λ v. v.items ≡ take 65536 (drop at bytes.now)) }
-    ensures short { IfOk result (λ v. length v.items ≤ 65536) }
+    ensures ok { IfOk result (λ v. v.items ≡ take PIECE_LEN (drop at bytes.now)) }
+    ensures short { IfOk result (λ v. length v.items ≤ PIECE_LEN) }
 {
     let from = (at as usize).min(bytes.len());
     let rest = &bytes[from..];

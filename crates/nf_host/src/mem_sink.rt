@@ -1,6 +1,8 @@
 //! A sink in memory.
 
-ghost use Rattle.std.specs.Prelude.{◌≡◌, ◌≤◌, ◌+◌, ◌-◌, ◌^◌, ◌++◌, ◌==◌, ℕ, [], min, Some, None, IfSome, OnOk, OnErr, take, length, if◌then◌else◌};
+ghost use Rattle.std.specs.Prelude.{◌≡◌, ◌⊎◌, ◌≤◌, ◌+◌, ◌-◌, ◌^◌, ◌++◌, ◌==◌, ℕ, [], min, if◌then◌else◌, Some, None, IfSome, OnSome, OnOk, OnErr, IsErr, is_ok, take};
+ghost use Rattle.nf_host.specs.Faults.{Rose};
+ghost use Rattle.nf_host.specs.Sink.{GrowsByFront};
 
 use crate::sink::{Sink, SinkFailed};
 use nf_value::Mem;
@@ -78,7 +80,20 @@ impl Sink for MemSink {
 
     ghost faults = { λ s. faults_of s };
 
-    fn write(&mut self, piece: &[u8]) -> Result<(), SinkFailed> {
+    fn write(&mut self, piece: &[u8]) -> Result<(), SinkFailed>
+        ensures later { faults_of self.old ≤ faults_of self.new }
+        ensures cause { OnErr result (Rose (faults_of self.old) (faults_of self.new)) }
+        ensures front { GrowsByFront (written_of self.old) piece.now (written_of self.new) }
+        ensures all { OnOk result (written_of self.new ≡ written_of self.old ++ piece.now) }
+
+        // It fails at the calls that it was told to fail at, with that front or for want of memory
+        // with nothing.
+        ensures fails { OnSome (failing_of self.old (calls_of self.old)) (IsErr result) }
+        ensures given { IfSome (failing_of self.old (calls_of self.old)) (λ n. (written_of self.new ≡ written_of self.old ++ take n piece.now) ⊎ (written_of self.new ≡ written_of self.old)) }
+        ensures counted { faults_of self.new ≡ (if is_ok result then faults_of self.old else min (faults_of self.old + 1) (2 ^ 64 - 1)) }
+        ensures calls { calls_of self.new ≡ min (calls_of self.old + 1) (2 ^ 64 - 1) }
+        ensures failing { (q : ℕ) → failing_of self.new q ≡ failing_of self.old q }
+    {
         let call = self.calls;
         self.calls = call.saturating_add(1);
         if let Some(front) = self.failing.get(&call) {

@@ -14,18 +14,22 @@ pub struct StdSink<R> {
 }
 
 impl<R: Print> StdSink<R> {
+    ghost use Rattle.nf_host.specs.StdSink.{faults_of};
+
     /// A sink over the runtime's standard output. Takes no memory.
     pub fn new(rt: R) -> StdSink<R>
-        ensures { result.faults ≡ 0 }
+        ensures { faults_of result ≡ 0 }
     {
         StdSink { rt, faults: 0 }
     }
 }
 
 impl<R: Print> Sink for StdSink<R> {
+    ghost use Rattle.nf_host.specs.StdSink.{faults_of};
+
     ghost written = { λ _. None };
 
-    ghost faults = { λ s. s.faults };
+    ghost faults = { faults_of };
 
     fn write(&mut self, piece: &[u8]) -> Result<(), SinkFailed> {
         match print_all(&self.rt, piece) {
