@@ -1,6 +1,6 @@
 //! The form of the first chain, found on a script's tree.
 
-ghost use Rattle.std.specs.Prelude.{◌≡◌, Some, None, Option, option_map, map, is_some};
+ghost use Rattle.std.specs.Prelude.{◌≡◌, true, option_map, IfSome};
 ghost use Rattle.nf_ast.specs.Tree.{trees};
 ghost use Rattle.nf_ast.specs.View.{view, views, view_stmts, view_closure, view_script, view_workflow, view_top, view_stmt};
 ghost use Rattle.nf_ast.specs.Chain.{chain_of, called as called_of, called_with as called_with_of, property_of as property_found, single, is_sum as is_sum_of, are_numbers as are_numbers_of, is_name as is_name_of, is_empty, whole, viewed, mapped, source};
@@ -21,12 +21,18 @@ impl Script {
     /// The parts of the chain that the script is, if it is one.
     #[tactic(auto, unfolding(crate::specs::Chain::chain_of))]
     pub fn chain(&self) -> Option<Chain<'_>>
-        ensures { option_map (λ c. (views c.numbers.now, view c.sum.now)) result ≡ chain_of (view_script self.now) }
+        ensures parts { option_map (λ c. (views c.numbers.now, view c.sum.now)) result ≡ chain_of (view_script self.now) }
+        ensures numbers { IfSome result (λ c. are_numbers_of (views c.numbers.now) ≡ true) }
+        ensures sum { IfSome result (λ c. is_sum_of (view c.sum.now) ≡ true) }
     {
         let viewed = viewed_of(whole_of(self)?)?;
         let (mapped, sum) = mapped_of(viewed)?;
         let numbers = numbers_of(mapped)?;
-        is_sum(sum).then_some(Chain { numbers, sum })
+        if is_sum(sum) {
+            Some(Chain { numbers, sum })
+        } else {
+            None
+        }
     }
 }
 
@@ -62,7 +68,8 @@ fn mapped_of(expr: &Expr) -> Option<(&Expr, &Expr)>
 }
 
 fn numbers_of(expr: &Expr) -> Option<&[Expr]>
-    ensures { option_map (λ es. views es.now) result ≡ source (view expr.now) }
+    ensures parts { option_map (λ es. views es.now) result ≡ source (view expr.now) }
+    ensures numbers { IfSome result (λ es. are_numbers_of (views es.now) ≡ true) }
 {
     let (of, numbers) = called(expr, "of")?;
     if is_name(of, "channel") && are_numbers(numbers) {
