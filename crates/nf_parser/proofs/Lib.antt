@@ -1,0 +1,6 @@
+pub mod Outcomes
+pub mod Short
+pub mod Parts
+pub mod Rest
+pub mod Whole
+pub mod Chains

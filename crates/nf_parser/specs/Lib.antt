@@ -1,0 +1,6 @@
+pub mod Gram
+pub mod Rules
+pub mod Spells
+pub mod Outcome
+pub mod Parses
+pub mod Unbuilt

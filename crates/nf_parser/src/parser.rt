@@ -1,0 +1,57 @@
+//! A whole script.
+
+ghost use Rattle.std.specs.Prelude.{◌≡◌, ◌-◌, ◌≤◌, IfOk, IsSome, length, drop};
+ghost use Rattle.nf_ast.specs.Tree.{Tree};
+ghost use Rattle.nf_ast.specs.Chain.{chain_of};
+ghost use Rattle.nf_ast.specs.View.{view_script};
+ghost use Rattle.nf_parser.specs.Parses.{Answers};
+ghost use Rattle.nf_parser.specs.Spells.{Spells};
+ghost use Rattle.nf_parser.specs.Unbuilt.{IsUnbuiltIfErr, first_place};
+
+use crate::fault::{Fault, ParseFault};
+use crate::rows;
+use nf_ast::Script;
+use nf_lexer::{Lexeme, Tokens};
+use nf_value::Place;
+use std::alloc::Global;
+
+/// The script that the tokens spell, all of the tokens.
+///
+/// # Errors
+///
+/// `Unbuilt` where they spell none; `Mem` where there is no memory for the tree.
+pub fn script(alloc: Global, tokens: &Tokens) -> Result<Script, ParseFault>
+    ensures spelled { IfOk result (λ s. Spells tokens.now.0 (view_script s)) }
+    ensures only { IfOk result (λ s. (v : Tree) → Spells tokens.now.0 v → v ≡ view_script s) }
+    ensures chain { IfOk result (λ s. IsSome (chain_of (view_script s))) }
+    ensures unbuilt { IsUnbuiltIfErr tokens.now.0 tokens.now.1 result }
+{
+    match whole(alloc, tokens.items()) {
+        Ok(script) => Ok(script),
+        Err(Fault::Unexpected(left)) => Err(ParseFault::Unbuilt {
+            place: place_at(tokens.items(), tokens.end(), left),
+        }),
+        Err(Fault::Mem) => Err(ParseFault::Mem),
+    }
+}
+
+fn whole(alloc: Global, tokens: &[Lexeme]) -> Result<Script, Fault>
+    ensures { Answers view_script tokens.now result }
+{
+    let (script, rest) = rows::script(alloc, tokens)?;
+    if !rest.is_empty() {
+        return Err(Fault::Unexpected(rest.len()));
+    }
+    Ok(script)
+}
+
+/// Where so many tokens are left.
+fn place_at(tokens: &[Lexeme], end: Place, left: usize) -> Place
+    requires { left ≤ length tokens.now }
+    ensures { result ≡ first_place end (drop (length tokens.now - left) tokens.now) }
+{
+    match &tokens[tokens.len() - left..] {
+        [first, ..] => first.place,
+        [] => end,
+    }
+}
