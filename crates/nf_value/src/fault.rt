@@ -56,14 +56,18 @@ impl fmt::Display for EvalKind {
 /// A fault of an evaluation, with the place of the operator or name that failed.
 #[derive(Debug, Clone, Copy, PartialEq, Eq)]
 pub struct EvalFault {
+    /// What is wrong.
     pub kind: EvalKind,
+    /// Where the operator or name stands.
     pub place: Place,
 }
 
 /// An evaluation has no value: a fault, or want of memory.
 #[derive(Debug, Clone, Copy, PartialEq, Eq)]
 pub enum EvalRefusal {
+    /// The expression has this fault.
     Fault(EvalFault),
+    /// There was no memory for the value.
     Mem,
 }
 

@@ -12,8 +12,11 @@ pub struct Digest(pub [u8; 32]);
 /// A file, known by its name and what is in it (own): the last part of its path, the digest of its bytes and their number.
 #[derive(Drop)]
 pub struct FileRef {
+    /// The last part of the path.
     pub name: Txt,
+    /// The digest of the bytes.
     pub digest: Digest,
+    /// How many bytes there are.
     pub len: u64,
 }
 

@@ -4,6 +4,7 @@
 mod bytes;
 mod fault;
 mod file;
+pub mod laws;
 mod list;
 mod map;
 mod measure;
@@ -11,6 +12,8 @@ mod mem;
 mod order;
 mod place;
 mod print;
+#[cfg(test)]
+mod tests;
 mod text;
 mod value;
 
@@ -18,7 +21,7 @@ pub use bytes::Bytes;
 pub use fault::{EvalFault, EvalKind, EvalRefusal};
 pub use file::{Digest, FileRef};
 pub use list::Vals;
-pub use map::Pairs;
+pub use map::{Pairs, is_rising};
 pub use measure::{depth, truth, weight};
 pub use mem::Mem;
 pub use place::Place;

@@ -1,6 +1,8 @@
 //! Maps from texts to values.
 
 ghost use Rattle.std.specs.Prelude.{◌≡◌, IfOk, map, true, length};
+ghost use Rattle.std.specs.Ordering.{nat_cmp, is_lt};
+ghost use Rattle.std.specs.Cmp.Lexicographic.{slice_cmp};
 ghost use Rattle.nf_value.specs.View.{pair_of, rising};
 
 use crate::mem::Mem;
@@ -78,4 +80,22 @@ impl Pairs {
         }
         Ok(Pairs { items: copies })
     }
+}
+
+/// Whether the keys of these pairs rise, each below the next by its bytes. It is what `Pairs::of` asks for.
+pub fn is_rising(items: &[(Txt, Value)]) -> bool
+    ensures { result ≡ rising (map pair_of items.now) }
+{
+    for i in 1..items.len() {
+        if !is_below(&items[i - 1].0, &items[i].0) {
+            return false;
+        }
+    }
+    true
+}
+
+fn is_below(a: &Txt, b: &Txt) -> bool
+    ensures { result ≡ is_lt (slice_cmp nat_cmp a.now b.now) }
+{
+    a.as_str() < b.as_str()
 }

@@ -9,10 +9,10 @@ ghost use Rattle.nf_value.specs.Truth.{truth_of};
 ghost use Rattle.std.specs.Fmt.{signed_decimal};
 ghost use Rattle.nf_value.specs.Code.{int_code};
 
-use crate::text::Txt;
 use crate::file::FileRef;
 use crate::list::Vals;
 use crate::map::Pairs;
+use crate::text::Txt;
 use crate::value::Value;
 use itoa::Buffer;
 

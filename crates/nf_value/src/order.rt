@@ -9,10 +9,10 @@ ghost use Rattle.nf_value.specs.PairOrder.{pair_cmp};
 ghost use Rattle.nf_value.specs.View.{plain_of, pair_of};
 ghost use Rattle.nf_value.specs.Order.{value_cmp, items_cmp, pairs_cmp, value_cmp_total, rank};
 
-use crate::text::Txt;
 use crate::file::FileRef;
 use crate::list::Vals;
 use crate::map::Pairs;
+use crate::text::Txt;
 use crate::value::Value;
 use std::cmp::Ordering;
 

@@ -8,7 +8,9 @@ use std::fmt;
 /// A place in a text. Both numbers count from 1; a column counts bytes (own).
 #[derive(Debug, Clone, Copy, PartialEq, Eq)]
 pub struct Place {
+    /// The line, from 1.
     pub line: u32,
+    /// The byte in the line, from 1.
     pub col: u32,
 }
 

@@ -6,10 +6,10 @@ ghost use Rattle.nf_value.specs.Plain.{plains_of, plain_pairs_of};
 ghost use Rattle.nf_value.specs.View.{plain_of};
 ghost use Rattle.nf_value.specs.Text.{value_text, with_commas, entries_text, item_texts, pair_texts};
 
-use crate::mem::Mem;
-use crate::text::Txt;
 use crate::list::Vals;
 use crate::map::Pairs;
+use crate::mem::Mem;
+use crate::text::Txt;
 use crate::value::Value;
 use std::alloc::Global;
 
