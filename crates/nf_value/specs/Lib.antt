@@ -11,3 +11,4 @@ pub mod Text
 pub mod Code
 pub mod Depth
 pub mod Truth
+pub mod Identity

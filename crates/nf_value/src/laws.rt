@@ -16,7 +16,7 @@ pub fn order_is_total()
 {}
 
 /// Values that the order finds equal are one value, and so are values for which `==` answers true.
-#[tactic(auto, using(crate::proofs::Identity::same, crate::proofs::Identity::same_by_eq))]
+#[tactic(auto, using(crate::specs::Identity::value_cmp_exact, crate::specs::Identity::same_by_eq))]
 pub fn equal_is_same()
     ensures cmp { (a : Plain) → (b : Plain) → value_cmp a b ≡ Equal → a ≡ b }
     ensures eq { (a : Value) → (b : Value) → eq_by_cmp (on plain_of value_cmp) a b ≡ true → plain_of a ≡ plain_of b }

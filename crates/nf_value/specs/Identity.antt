@@ -4,7 +4,7 @@ use Rattle.std.specs.declared.cmp.Ordering.{Ordering}
 use Rattle.std.specs.declared.cmp.Ordering.TheVariants.{Less, Equal, Greater}
 use Rattle.std.specs.Ordering.{bool_cmp, ordering_then, on, eq_by_cmp}
 use Rattle.std.proofs.lemmas.Map.Views.{tells_apart}
-use Rattle.std.proofs.lemmas.Map.Lookups.{exact_signed, exact_unsigned, exact_bytes}
+use Rattle.std.proofs.lemmas.Map.Lookups.{CmpEqualImpliesEq, exact_signed, exact_unsigned, exact_bytes}
 use Rattle.nf_value.specs.Plain.{Plain, null, truth, int, text, file, list, table, Plains, no_items, item, PlainPairs, no_pairs, pair}
 use Rattle.nf_value.specs.View.{plain_of}
 use Rattle.nf_value.specs.declared.value.Value.{Value}
@@ -38,7 +38,7 @@ same_truth false true h = absurd (not_less h)
 same_truth false false h = refl
 
 mutual
-  pub same : (a b : Plain) → value_cmp a b ≡ Equal → a ≡ b
+  same : (a b : Plain) → value_cmp a b ≡ Equal → a ≡ b
   same null null h = refl
   same null (truth c) h = absurd (not_less h)
   same null (int j) h = absurd (not_less h)
@@ -102,5 +102,8 @@ mutual
   same_pairs (pair k v ps) (pair l w qs) h =
       λ j. pair (exact_bytes k l (first_part _ _ h) j) (same v w (first_part _ _ (second_part _ _ h)) j) (same_pairs ps qs (second_part (value_cmp v w) _ (second_part _ _ h)) j)
 
+pub value_cmp_exact : CmpEqualImpliesEq value_cmp
+value_cmp_exact = same
+
 pub same_by_eq : (a b : Value) → eq_by_cmp (on plain_of value_cmp) a b ≡ true → plain_of a ≡ plain_of b
-same_by_eq a b = tells_apart same (plain_of a) (plain_of b)
+same_by_eq a b = tells_apart value_cmp_exact (plain_of a) (plain_of b)
