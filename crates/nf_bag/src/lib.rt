@@ -1,0 +1,4 @@
+//! Lists of values up to order.
+#![tactic(auto)]
+
+pub mod laws;
