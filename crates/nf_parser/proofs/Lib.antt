@@ -4,3 +4,4 @@ pub mod Parts
 pub mod Rest
 pub mod Whole
 pub mod Chains
+pub mod Decided

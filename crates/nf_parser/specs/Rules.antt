@@ -30,8 +30,12 @@ number_at _ p = None
 abbrev pub number_of : Lexeme → Option Tree
 number_of x = number_at x.token x.place
 
+-- the two marks are one
+abbrev pub same_mark : Mark → Mark → Bool
+same_mark = sameb the_type
+
 abbrev pub mark_at : Mark → Token → Place → Option Tree
-mark_at mark (t.Mark m) p = if sameb the_type m mark then Some (point p) else None
+mark_at mark (t.Mark m) p = if same_mark m mark then Some (point p) else None
 mark_at mark _ p = None
 
 -- this mark

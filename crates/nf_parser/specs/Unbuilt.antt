@@ -1,5 +1,5 @@
 -- Where tokens that spell no script go wrong.
-use Rattle.std.specs.Prelude.{◌≡◌, ◌≤◌, List, [], ◌∷◌, length, Result, Ok, Err}
+use Rattle.std.specs.Prelude.{◌≡◌, ◌≤◌, List, [], ◌∷◌, length}
 use Rattle.nf_value.specs.declared.place.Place.{Place}
 use Rattle.nf_ast.specs.Tree.{Tree}
 use Rattle.nf_lexer.specs.declared.token.Lexeme.{Lexeme}
@@ -21,11 +21,7 @@ pub record IsUnbuilt (ts : List Lexeme) (end p : Place) : Type 0 where
   pub farthest : (q : List Lexeme) → Stands (rule Script) ts q → length rest ≤ length q
   pub place : p ≡ first_place end rest
 
+-- an error other than want of memory names the place
 abbrev pub Refuses : List Lexeme → Place → ParseFault → Type 0
 Refuses ts end (Unbuilt p) = IsUnbuilt ts end p
 Refuses ts end Mem = Unit {0}
-
--- an error other than want of memory names the place
-abbrev pub IsUnbuiltIfErr : {X : Type 0} → List Lexeme → Place → Result X ParseFault → Type 0
-IsUnbuiltIfErr ts end (Ok x) = Unit {0}
-IsUnbuiltIfErr ts end (Err e) = Refuses ts end e

@@ -6,10 +6,10 @@ ghost use Rattle.nf_parser.specs.declared.fault.Fault.TheVariants.{Mem};
 use nf_value::Place;
 use std::alloc::{AllocError, AllocFailed};
 
-/// Tokens are no script.
+/// Tokens are no script, or the script found no memory (own).
 #[derive(Debug, Clone, Copy, PartialEq, Eq)]
 pub enum ParseFault {
-    /// The tokens go no further as a script than up to this place: that of the first token that can't follow, or of the text's end.
+    /// The farthest place up to which the tokens can be read as a script: that of the first token that can't follow, or of the text's end.
     Unbuilt { place: Place },
     /// Memory that was asked for wasn't there.
     Mem,

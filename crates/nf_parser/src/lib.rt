@@ -4,9 +4,12 @@
 mod build;
 mod expect;
 mod fault;
+pub mod laws;
 mod parser;
 mod peek;
 mod rows;
+#[cfg(test)]
+mod tests;
 
 pub use fault::ParseFault;
 pub use parser::script;

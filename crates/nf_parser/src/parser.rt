@@ -1,12 +1,12 @@
 //! A whole script.
 
-ghost use Rattle.std.specs.Prelude.{◌≡◌, ◌-◌, ◌≤◌, IfOk, IsSome, length, drop};
+ghost use Rattle.std.specs.Prelude.{◌≡◌, ◌-◌, ◌≤◌, IfOk, IfErr, IsSome, length, drop};
 ghost use Rattle.nf_ast.specs.Tree.{Tree};
 ghost use Rattle.nf_ast.specs.Chain.{chain_of};
 ghost use Rattle.nf_ast.specs.View.{view_script};
 ghost use Rattle.nf_parser.specs.Parses.{Answers};
 ghost use Rattle.nf_parser.specs.Spells.{Spells};
-ghost use Rattle.nf_parser.specs.Unbuilt.{IsUnbuiltIfErr, first_place};
+ghost use Rattle.nf_parser.specs.Unbuilt.{Refuses, first_place};
 
 use crate::fault::{Fault, ParseFault};
 use crate::rows;
@@ -15,16 +15,21 @@ use nf_lexer::{Lexeme, Tokens};
 use nf_value::Place;
 use std::alloc::Global;
 
-/// The script that the tokens spell, all of the tokens.
+/// The script that the tokens spell, all of the tokens. Takes time linear in their number.
+///
+/// This version reads `workflow { channel.of(NUMBER {, NUMBER}).map { SUM }.view() }` (Nextflow reference: "Workflows"; "Channel
+/// factories", `of`; "Operators", `map` and `view`; "Syntax", closures). SUM has numbers, `it`, `+`, `-` and `*`, which binds tighter;
+/// each of them is read from the left. A separator may stand before and after `workflow { .. }` and before each `}`.
+/// Limits (own): 10,000 numbers, 256 terms in a sum, 256 operands in a term.
 ///
 /// # Errors
 ///
-/// `Unbuilt` where they spell none; `Mem` where there is no memory for the tree.
+/// `Unbuilt` where the tokens spell no such script, or pass a limit; `Mem` where there is no memory for the tree.
 pub fn script(alloc: Global, tokens: &Tokens) -> Result<Script, ParseFault>
     ensures spelled { IfOk result (λ s. Spells tokens.now.0 (view_script s)) }
     ensures only { IfOk result (λ s. (v : Tree) → Spells tokens.now.0 v → v ≡ view_script s) }
     ensures chain { IfOk result (λ s. IsSome (chain_of (view_script s))) }
-    ensures unbuilt { IsUnbuiltIfErr tokens.now.0 tokens.now.1 result }
+    ensures unbuilt { IfErr result (Refuses tokens.now.0 tokens.now.1) }
 {
     match whole(alloc, tokens.items()) {
         Ok(script) => Ok(script),

@@ -136,18 +136,18 @@ fn sum(alloc: Global, tokens: &[Lexeme]) -> Result<(Expr, &[Lexeme]), Fault>
 fn term(alloc: Global, tokens: &[Lexeme]) -> Result<(Expr, &[Lexeme]), Fault>
     ensures { Parses (λ x. view x.0) (λ x. x.1.now) (rule Term) tokens.now result }
 {
-    let (mut left, mut rest) = operand(alloc, tokens)?;
+    let (mut product, mut rest) = operand(alloc, tokens)?;
     let mut count: u32 = 1;
     while let Some((place, mark, after)) = peek::term_mark(rest) {
         if count >= MOST_OPERANDS {
             return Err(Fault::Unexpected(rest.len()));
         }
-        let (right, after) = operand(alloc, after)?;
-        left = Expr::binary(alloc, place, mark, left, right)?;
+        let (factor, after) = operand(alloc, after)?;
+        product = Expr::binary(alloc, place, mark, product, factor)?;
         rest = after;
         count += 1;
     }
-    Ok((left, rest))
+    Ok((product, rest))
 }
 
 fn operand(alloc: Global, tokens: &[Lexeme]) -> Result<(Expr, &[Lexeme]), Fault>

@@ -24,7 +24,7 @@ pub loop-after-init : goal.loop-after-init
 unfolding rules
 loop-after-init c =
     let fits : SFits w64 c.in_ok-place.value = search std_rules in
-    let items = c.in_ok-push.ensures.items ∙ ap (λ (x : List Expr). x ++ c.number-2.result ∷ []) c.new-all.ensures.items in
+    let items : c.push.new.self.items ≡ c.number-2.result ∷ [] = c.in_ok-push.ensures.items ∙ ap (λ (x : List Expr). x ++ c.number-2.result ∷ []) c.new-all.ensures.items in
     let seen : views c.push.new.self.items ≡ cons (number c.in_ok-place.place c.in_ok-place.value) empty = ap views items ∙ ap (λ (x : Tree). cons x empty) (c.number-2.ensures ∙ ap (λ (z : ℤ). number c.in_ok-place.place z) (to_z-of_z w64 c.in_ok-place.value fits)) in
     λ o p. ruled (seq c.in_ok-place.ensures (with_acc (ap length items) seen p))
 

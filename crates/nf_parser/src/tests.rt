@@ -1,0 +1,145 @@
+//! Worked scripts.
+
+use crate::{ParseFault, laws, script};
+use nf_ast::{BinaryMark, Expr, Script};
+use nf_lexer::tokens;
+use std::alloc::Global;
+use std::fmt::Write;
+use std::test::Fail;
+
+const WORKED: &str = "workflow { channel.of(3, 1, 2).map { it * 10 }.view() }";
+
+#[test]
+fn reads_worked_scripts(rt: HostRuntime) -> Result<(), Fail> {
+    laws::one_tree();
+    laws::one_place();
+    laws::not_both();
+    laws::some_answer();
+    laws::some_chain();
+    for (text, want) in [
+        (WORKED, "3 numbers, Times at 1:41"),
+        (
+            ";\nworkflow {\n    channel.of(1)\n        .map { it\n }\n        .view()\n}\n\n",
+            "1 numbers, no mark",
+        ),
+        (
+            "workflow { channel.of(1).map { it - 1 - it }.view(); }",
+            "1 numbers, Minus at 1:39",
+        ),
+        (
+            "workflow { channel.of(1).map { 1 + 2 * it }.view() }",
+            "1 numbers, Plus at 1:34",
+        ),
+        (
+            "workflow { channel.of(1).map { 1 * 2 + it }.view() }",
+            "1 numbers, Plus at 1:38",
+        ),
+        ("", "Unbuilt at 1:1"),
+        ("\n\n", "Unbuilt at 3:1"),
+        ("workflow { channel.empty().view() }", "Unbuilt at 1:20"),
+        (
+            "workflow { channel.of().map { it }.view() }",
+            "Unbuilt at 1:23",
+        ),
+        (
+            "workflow { channel.of(1,).map { it }.view() }",
+            "Unbuilt at 1:25",
+        ),
+        (
+            "workflow { channel.of(1).maps { it }.view() }",
+            "Unbuilt at 1:26",
+        ),
+        (
+            "workflow { channel.of(1).map { it\n * 10 }.view() }",
+            "Unbuilt at 2:2",
+        ),
+        (
+            "workflow { channel.of(1).map { x }.view() }",
+            "Unbuilt at 1:32",
+        ),
+        (
+            "workflow { channel.of(1).map { it }.view() } workflow",
+            "Unbuilt at 1:46",
+        ),
+        (
+            "workflow { channel.of(1).map { it }.view() }; ;\n'",
+            "Unbuilt at 2:1",
+        ),
+    ] {
+        let found = shown(rt.alloc(), text.as_bytes())?;
+        assert_eq!(rt; found.as_str(), want, "at {text:?}");
+    }
+    Ok(())
+}
+
+#[test]
+fn places_the_end_of_a_front(rt: HostRuntime) -> Result<(), Fail> {
+    for end in [
+        0, 8, 10, 18, 19, 21, 22, 23, 24, 26, 27, 29, 30, 31, 34, 36, 39, 41, 44, 46, 47, 51, 52,
+        53,
+    ] {
+        let front = WORKED.as_bytes().get(..end).unwrap_or(&[]);
+        let found = shown(rt.alloc(), front)?;
+        let want = format!(in rt.alloc(); "Unbuilt at 1:{}", end + 1)?;
+        assert_eq!(rt; found.as_str(), want.as_str());
+    }
+    Ok(())
+}
+
+#[test]
+fn stops_at_the_limits(rt: HostRuntime) -> Result<(), Fail> {
+    for (front, more, count, back, want) in [
+        ("1", ",1", 9999, ").map { it", "10000 numbers, no mark"),
+        ("1", ",1", 10000, ").map { it", "Unbuilt at 1:20023"),
+        ("1).map { it", "-1", 255, "", "1 numbers, Minus at 1:542"),
+        ("1).map { it", "-1", 256, "", "Unbuilt at 1:544"),
+        ("1).map { it", "*1", 255, "", "1 numbers, Times at 1:542"),
+        ("1).map { it", "*1", 256, "", "Unbuilt at 1:544"),
+    ] {
+        let mut text = String::new(rt.alloc());
+        write!(text, "workflow {{ channel.of({front}")?;
+        for _ in 0..count {
+            text.push_str(more)?;
+        }
+        write!(text, "{back} }}.view() }}")?;
+        let found = shown(rt.alloc(), text.as_bytes())?;
+        assert_eq!(rt; found.as_str(), want);
+    }
+    Ok(())
+}
+
+/// What is read of a text.
+fn shown(alloc: Global, text: &[u8]) -> Result<String, Fail> {
+    let mut out = String::new(alloc);
+    if text.len() > 1048576 {
+        return Ok(out);
+    }
+    let tokens = tokens(alloc, text)?;
+    match script(alloc, &tokens) {
+        Ok(script) => show_script(&mut out, &script)?,
+        Err(ParseFault::Unbuilt { place }) => write!(out, "Unbuilt at {place}")?,
+        Err(ParseFault::Mem) => write!(out, "Mem")?,
+    }
+    Ok(out)
+}
+
+fn show_script(out: &mut String, script: &Script) -> Result<(), Fail> {
+    let Some(chain) = script.chain() else {
+        write!(out, "no chain")?;
+        return Ok(());
+    };
+    write!(out, "{} numbers, ", chain.numbers.len())?;
+    match chain.sum {
+        Expr::Binary(place, mark, _, _) => write!(out, "{} at {place}", mark_text(*mark))?,
+        _ => write!(out, "no mark")?,
+    }
+    Ok(())
+}
+
+fn mark_text(mark: BinaryMark) -> &'static str {
+    match mark {
+        BinaryMark::Plus => "Plus",
+        BinaryMark::Minus => "Minus",
+        BinaryMark::Times => "Times",
+    }
+}
