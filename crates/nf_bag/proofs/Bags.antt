@@ -1,8 +1,6 @@
 -- Counts and sums over bags.
-use Rattle.std.proofs.Common.{◌≡◌, ℕ, ◌+◌, ◌<◌, ◌≤◌, List, [], ◌∷◌, ◌++◌, length, Bool, true, false, cond, refl, ap, sym, ◌∙◌, subst, ⊎_elim, arith}
-use Rattle.std.specs.Prelude.{sum_by, count_by}
-use Rattle.std.specs.declared.cmp.Ordering.{Ordering}
-use Rattle.std.specs.declared.cmp.Ordering.TheVariants.{Less, Equal, Greater}
+use Rattle.std.proofs.Common.{◌≡◌, ℕ, ◌+◌, ◌<◌, ◌≤◌, List, [], ◌∷◌, ◌++◌, length, Bool, true, false, cond, not, refl, ap, sym, ◌∙◌, ⊎_elim, arith}
+use Rattle.std.specs.Prelude.{sum_by}
 use Rattle.std.specs.Ordering.{eq_by_cmp, is_eq}
 use Rattle.std.proofs.lemmas.Bool.{cases_Bool}
 use Rattle.std.proofs.lemmas.Cmp.{tied_itself}
@@ -28,8 +26,8 @@ same_from = tells_apart value_cmp_exact
 pub count-cons : (v x : Plain) (xs : List Plain) → count v (x ∷ xs) ≡ one_if (is_same x v) + count v xs
 count-cons v x xs = sum_by-cons (λ y. one_if (is_same y v)) x xs
 
-pub count-append : (v : Plain) (xs ys : List Plain) → count v (xs ++ ys) ≡ count v xs + count v ys
-count-append v xs ys = sum_by-append (λ y. one_if (is_same y v)) xs ys
+pub count_append : (v : Plain) (xs ys : List Plain) → count v (xs ++ ys) ≡ count v xs + count v ys
+count_append v xs ys = sum_by-append (λ y. one_if (is_same y v)) xs ys
 
 pub count_itself : (x : Plain) (xs : List Plain) → 0 < count x (x ∷ xs)
 count_itself x xs = let e : one_if (is_same x x) ≡ 1 = ap one_if (is_same-itself x) in omega (arith, count-cons x x xs, e)
@@ -45,10 +43,10 @@ sum_by-without f x (y ∷ ys) h =
     ⊎_elim
     (λ e. let same : y ≡ x = same_from y x e in let gone : without x (y ∷ ys) ≡ ys = ap (λ b. cond b ys (y ∷ without x ys)) e in omega (arith, sum_by-cons f y ys, ap f same, ap (sum_by f) gone))
     (λ e.
-        let kept : without x (y ∷ ys) ≡ y ∷ without x ys = ap (λ b. cond b ys (y ∷ without x ys)) e in
-        let none : one_if (is_same y x) ≡ 0 = ap one_if e in
-        let some : 0 < count x ys = omega (arith, count-cons x y ys, none) in
-        omega (arith, sum_by-cons f y ys, ap (sum_by f) kept, sum_by-cons f y (without x ys), sum_by-without f x ys some))
+    let kept : without x (y ∷ ys) ≡ y ∷ without x ys = ap (λ b. cond b ys (y ∷ without x ys)) e in
+    let none : one_if (is_same y x) ≡ 0 = ap one_if e in
+    let some : 0 < count x ys = omega (arith, count-cons x y ys, none) in
+    omega (arith, sum_by-cons f y ys, ap (sum_by f) kept, sum_by-cons f y (without x ys), sum_by-without f x ys some))
     (cases_Bool (is_same y x))
 
 pub sub_sum : (f : Plain → ℕ) (a b : List Plain) → IsSubBag a b → sum_by f a ≤ sum_by f b
@@ -85,16 +83,43 @@ sub_of_none [] h = refl
 sub_of_none (x ∷ a) h = absurd (omega (arith, sub_length (x ∷ a) [] h))
 
 pub same_cancel : (c a b : List Plain) → IsSameBag (c ++ a) (c ++ b) → IsSameBag a b
-same_cancel c a b h = record { at = λ v. omega (arith, count-append v c a, count-append v c b, h.at v) }
+same_cancel c a b h = record { at = λ v. omega (arith, count_append v c a, count_append v c b, h.at v) }
 
 pub sub_cancel : (c a b : List Plain) → IsSubBag (c ++ a) (c ++ b) → IsSubBag a b
-sub_cancel c a b h = record { at = λ v. omega (arith, count-append v c a, count-append v c b, h.at v) }
+sub_cancel c a b h = record { at = λ v. omega (arith, count_append v c a, count_append v c b, h.at v) }
 
 pub sub_append : (a b c d : List Plain) → IsSubBag a b → IsSubBag c d → IsSubBag (a ++ c) (b ++ d)
-sub_append a b c d h k = record { at = λ v. omega (arith, count-append v a c, count-append v b d, h.at v, k.at v) }
+sub_append a b c d h k = record { at = λ v. omega (arith, count_append v a c, count_append v b d, h.at v, k.at v) }
 
 pub same_append : (a b c d : List Plain) → IsSameBag a b → IsSameBag c d → IsSameBag (a ++ c) (b ++ d)
-same_append a b c d h k = record { at = λ v. omega (arith, count-append v a c, count-append v b d, h.at v, k.at v) }
+same_append a b c d h k = record { at = λ v. omega (arith, count_append v a c, count_append v b d, h.at v, k.at v) }
 
 pub same_swap : (a b : List Plain) → IsSameBag (a ++ b) (b ++ a)
-same_swap a b = record { at = λ v. omega (arith, count-append v a b, count-append v b a) }
+same_swap a b = record { at = λ v. omega (arith, count_append v a b, count_append v b a) }
+
+pub sub_trans : (a b c : List Plain) → IsSubBag a b → IsSubBag b c → IsSubBag a c
+sub_trans a b c h k = record { at = λ v. omega (arith, h.at v, k.at v) }
+
+pub same_from_both : (a b : List Plain) → IsSubBag a b → IsSubBag b a → IsSameBag a b
+same_from_both a b h k = record { at = λ v. omega (arith, h.at v, k.at v) }
+
+-- the other values
+others : Plain → List Plain → ℕ
+others v xs = sum_by (λ y. one_if (not (is_same y v))) xs
+
+one_or_other : (b : Bool) → one_if b + one_if (not b) ≡ 1
+one_or_other true = refl
+one_or_other false = refl
+
+count_and_others : (v : Plain) (xs : List Plain) → count v xs + others v xs ≡ length xs
+unfolding others
+count_and_others v [] = refl
+count_and_others v (x ∷ xs) =
+    omega (arith, count-cons v x xs, sum_by-cons (λ y. one_if (not (is_same y v))) x xs, one_or_other (is_same x v), count_and_others v xs)
+
+sub_others : (v : Plain) (a b : List Plain) → IsSubBag a b → others v a ≤ others v b
+unfolding others
+sub_others v a b h = sub_sum (λ y. one_if (not (is_same y v))) a b h
+
+pub same_from_length : (a b : List Plain) → IsSubBag a b → length a ≡ length b → IsSameBag a b
+same_from_length a b h e = record { at = λ v. omega (arith, h.at v, sub_others v a b h, count_and_others v a, count_and_others v b, e) }

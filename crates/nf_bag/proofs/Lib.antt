@@ -1,2 +1,4 @@
 pub mod Bags
 pub mod Rising
+pub mod Once
+pub mod Sorts

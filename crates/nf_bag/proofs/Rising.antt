@@ -1,16 +1,16 @@
 -- A bag has one rising list.
-use Rattle.std.proofs.Common.{◌≡◌, ℕ, ◌+◌, ◌<◌, ◌≤◌, List, [], ◌∷◌, Bool, true, false, cond, refl, ap, sym, ◌∙◌, subst, ⊎_elim, arith, map, length, get_or, suc}
+use Rattle.std.proofs.Common.{◌≡◌, ℕ, ◌+◌, ◌<◌, List, [], ◌∷◌, true, false, cond, refl, ap, sym, ◌∙◌, subst, ⊎_elim, arith}
 use Rattle.std.specs.Prelude.{sum_by}
 use Rattle.std.specs.declared.cmp.Ordering.{Ordering}
 use Rattle.std.specs.declared.cmp.Ordering.TheVariants.{Less, Equal, Greater}
-use Rattle.std.specs.Ordering.{is_gt, is_lt, ordering_reverse}
+use Rattle.std.specs.Ordering.{is_gt, ordering_reverse}
 use Rattle.std.proofs.lemmas.Bool.{cases_Bool, true≢false}
 use Rattle.std.proofs.lemmas.Cmp.{upto, tied_itself}
 use Rattle.std.proofs.lemmas.List.Sums.{sum_by-cons}
 use Rattle.nf_value.specs.Plain.{Plain}
 use Rattle.nf_value.specs.Order.{value_cmp, value_cmp_total}
 use Rattle.nf_value.specs.Identity.{value_cmp_exact}
-use Rattle.nf_bag.specs.Bag.{count, IsSubBag, IsSameBag}
+use Rattle.nf_bag.specs.Bag.{count, IsSameBag}
 use Rattle.nf_bag.specs.Sorted.{IsAboveNone, IsRising, inserted, sorted_of}
 use Rattle.nf_bag.proofs.Bags.{is_same, one_if, same_from, count-cons, count_itself, same-sym, same-trans}
 
@@ -55,20 +55,20 @@ sum_by-inserted f v [] = sum_by-cons f v []
 sum_by-inserted f v (x ∷ xs) =
     ⊎_elim
     (λ e. let is : inserted v (x ∷ xs) ≡ x ∷ inserted v xs = ap (λ b. cond b (x ∷ inserted v xs) (v ∷ x ∷ xs)) e in
-        omega (arith, ap (sum_by f) is, sum_by-cons f x (inserted v xs), sum_by-cons f x xs, sum_by-inserted f v xs))
+    omega (arith, ap (sum_by f) is, sum_by-cons f x (inserted v xs), sum_by-cons f x xs, sum_by-inserted f v xs))
     (λ e. ap (λ b. sum_by f (cond b (x ∷ inserted v xs) (v ∷ x ∷ xs))) e ∙ sum_by-cons f v (x ∷ xs))
     (cases_Bool (is_gt (value_cmp v x)))
 
-pub IsRising-sorted_of : (xs : List Plain) → IsRising (sorted_of xs)
-IsRising-sorted_of [] = tt
-IsRising-sorted_of (x ∷ xs) = IsRising-inserted x (sorted_of xs) (IsRising-sorted_of xs)
+pub sorted_of_rises : (xs : List Plain) → IsRising (sorted_of xs)
+sorted_of_rises [] = tt
+sorted_of_rises (x ∷ xs) = IsRising-inserted x (sorted_of xs) (sorted_of_rises xs)
 
 pub sum_by-sorted_of : (f : Plain → ℕ) (xs : List Plain) → sum_by f (sorted_of xs) ≡ sum_by f xs
 sum_by-sorted_of f [] = refl
 sum_by-sorted_of f (x ∷ xs) = omega (arith, sum_by-inserted f x (sorted_of xs), sum_by-cons f x xs, sum_by-sorted_of f xs)
 
-pub same-sorted_of : (xs : List Plain) → IsSameBag (sorted_of xs) xs
-same-sorted_of xs = record { at = λ v. sum_by-sorted_of (λ y. one_if (is_same y v)) xs }
+pub sorted_of_is_same : (xs : List Plain) → IsSameBag (sorted_of xs) xs
+sorted_of_is_same xs = record { at = λ v. sum_by-sorted_of (λ y. one_if (is_same y v)) xs }
 
 -- what occurs after y in a rising list isn't below y
 first_is_least : (x y : Plain) (ys : List Plain) → IsAboveNone y ys → 0 < count x (y ∷ ys) → is_gt (value_cmp y x) ≡ false
@@ -77,8 +77,10 @@ first_is_least x y ys h some =
   where
     none : (z : Plain) → is_same z x ≡ false → one_if (is_same z x) ≡ 0
     none z e = ap one_if e
+
     gt_none : (z : Plain) → is_gt (value_cmp z z) ≡ false
     gt_none z = ap is_gt (tied_itself value_cmp_total z)
+
     later : (zs : List Plain) → IsAboveNone y zs → 0 < count x zs → is_gt (value_cmp y x) ≡ false
     later [] k s = absurd (omega arith)
     later (z ∷ zs) k s =
@@ -95,5 +97,5 @@ rising_is_unique (x ∷ a) (y ∷ b) h k s =
 
 pub sorted_of_same : (a b : List Plain) → IsSameBag a b → sorted_of a ≡ sorted_of b
 sorted_of_same a b h =
-    rising_is_unique (sorted_of a) (sorted_of b) (IsRising-sorted_of a) (IsRising-sorted_of b)
-    (same-trans (sorted_of a) a (sorted_of b) (same-sorted_of a) (same-trans a b (sorted_of b) h (same-sym (sorted_of b) b (same-sorted_of b))))
+    rising_is_unique (sorted_of a) (sorted_of b) (sorted_of_rises a) (sorted_of_rises b)
+    (same-trans (sorted_of a) a (sorted_of b) (sorted_of_is_same a) (same-trans a b (sorted_of b) h (same-sym (sorted_of b) b (sorted_of_is_same b))))

@@ -1,2 +1,3 @@
 pub mod Bag
 pub mod Sorted
+pub mod Fault

@@ -1,4 +1,16 @@
-//! Lists of values up to order.
+//! Lists of values up to order, and what operators on them need.
 #![tactic(auto)]
 
+mod bag;
+mod fault;
 pub mod laws;
+mod options;
+mod sorting;
+
+pub use bag::{count_of, same_bag};
+pub use fault::OpFault;
+pub use options::{OpOpts, Total};
+pub use sorting::{distinct, sorted};
+
+#[cfg(test)]
+mod tests;

@@ -57,6 +57,13 @@ impl Vals {
         self.items.as_slice()
     }
 
+    /// The vector of the items. Takes no memory.
+    pub fn into_items(self) -> Vec<Value>
+        ensures { map plain_of result.items ≡ self }
+    {
+        self.items
+    }
+
     /// Another list of the same values.
     ///
     /// # Errors

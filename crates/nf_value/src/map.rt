@@ -64,6 +64,14 @@ impl Pairs {
         self.items.as_slice()
     }
 
+    /// The vector of the pairs. Takes no memory.
+    pub fn into_items(self) -> Vec<(Txt, Value)>
+        ensures items { map pair_of result.items ≡ self }
+        ensures rising { rising self ≡ true }
+    {
+        self.items
+    }
+
     /// Another map of the same pairs.
     ///
     /// # Errors
