@@ -1,0 +1,6 @@
+//! Values as bytes, and back.
+#![tactic(auto)]
+
+mod write;
+
+pub use write::encode;
