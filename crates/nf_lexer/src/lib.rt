@@ -9,6 +9,8 @@ mod list;
 mod marks;
 mod place;
 mod settler;
+#[cfg(test)]
+mod tests;
 mod token;
 mod word;
 
