@@ -57,7 +57,7 @@ past_if : (c : Bool) (b x : ℕ) (w bs rest : List ℕ) → (c ≡ true → b �
 past_if true b x w bs rest h k e = ap (λ z. z ∷ bs) (h refl) ∙ ap (λ z. x ∷ z) (k e)
 past_if false b x w bs rest h k e = absurd cc
 
-past_is : (w bs rest : List ℕ) → past w bs ≡ Some rest → bs ≡ w ++ rest
+pub past_is : (w bs rest : List ℕ) → past w bs ≡ Some rest → bs ≡ w ++ rest
 past_is [] bs rest e = cc
 past_is (x ∷ w) [] rest e = absurd cc
 past_is (x ∷ w) (b ∷ bs) rest e = past_if (b == x) b x w bs rest (Decides-eqb b x).0 (past_is w bs rest) e
@@ -131,7 +131,7 @@ takes_of bs x e = subst (TakesFirst bs) (sym e) (first_takes bs)
 
 -- ---- names are ASCII, numbers are digits
 
-ascii_cons : (b : ℕ) (w : List ℕ) → b < 128 → IsAscii w → IsAscii (b ∷ w)
+pub ascii_cons : (b : ℕ) (w : List ℕ) → b < 128 → IsAscii w → IsAscii (b ∷ w)
 ascii_cons b w h k zero = h
 ascii_cons b w h k (suc i) = k i
 

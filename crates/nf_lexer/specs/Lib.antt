@@ -6,3 +6,4 @@ pub mod Brackets
 pub mod Separators
 pub mod Tokens
 pub mod View
+pub mod Longest

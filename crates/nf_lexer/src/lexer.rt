@@ -16,8 +16,21 @@ use crate::word::token_of;
 use nf_value::{Mem, Place};
 use std::alloc::Global;
 
-/// The tokens of a script of at most 1,048,576 bytes, each with the place of
-/// its first byte, and the place of the text's end (own: the subset's tokens).
+/// The tokens of a script of at most 1,048,576 bytes, each with its place, and the
+/// place after the script's last byte.
+///
+/// Blanks, tabs and carriage returns stand between tokens and are nothing else; a
+/// line ends at a line feed alone (own). A first line that begins with `#!` is
+/// skipped (Nextflow reference documentation, Syntax, Shebang), up to a byte in it
+/// that isn't UTF-8 (own).
+///
+/// A line end separates where three things hold (own). The innermost open bracket
+/// is `{`, or there is none. The token before isn't one of `, ( [ { -> : = + - * %
+/// < <= > >= == != ==~ && || | ? ?: . ?. ..`. The next token, past other line ends,
+/// isn't one of `. ?. | || && ? ?: ..` or `else`. A `;` separates always, and of
+/// several separators in a row the first counts. A `)` or `]` closes the innermost
+/// open bracket only where that is of its own kind, and a `}` the nearest open `{`
+/// with all that is open in it.
 ///
 /// The first byte at which no token begins is one token `Unbuilt`, and the list
 /// ends there.

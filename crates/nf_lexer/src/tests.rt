@@ -8,7 +8,10 @@ use std::test::Fail;
 
 #[test]
 fn lexes_worked_texts(rt: HostRuntime) -> Result<(), Fail> {
+    laws::some_list();
     laws::one_list();
+    laws::longest_mark();
+    laws::broken_first_line();
     for (text, want) in [
         (
             "workflow { channel.of(3, 1, 2).map { it * 10 }.view() }",

@@ -2,20 +2,29 @@
 
 use nf_value::{Place, Txt};
 
-/// A word that is no name (own: the subset's keywords).
+/// A word that is a keyword wherever it stands, and never a name (own: these eight).
 #[derive(Debug, Clone, Copy, PartialEq, Eq)]
 pub enum Keyword {
+    /// `def`
     Def,
+    /// `else`
     Else,
+    /// `false`
     False,
+    /// `if`
     If,
+    /// `in`
     In,
+    /// `null`
     Null,
+    /// `return`
     Return,
+    /// `true`
     True,
 }
 
-/// A mark of one to three bytes (own: the subset's marks).
+/// A mark of one to three bytes (own: these thirty). Where several stand in front
+/// the longest is taken.
 #[derive(Debug, Clone, Copy, PartialEq, Eq)]
 pub enum Mark {
     /// `(`
@@ -80,22 +89,29 @@ pub enum Mark {
     Elvis,
 }
 
-/// A token.
+/// A token of a script (own: the subset's tokens; strings, patterns and comments
+/// aren't built yet).
 #[derive(Drop)]
 pub enum Token {
-    /// A letter or `_`, then letters, digits and `_`, all ASCII, that is no keyword.
+    /// The longest run of letters, digits and `_`, all ASCII, that begins with no
+    /// digit and is no keyword.
     Name(Txt),
+    /// A keyword, which such a run is that is spelled so.
     Keyword(Keyword),
-    /// Decimal digits, up to 9223372036854775807.
+    /// The longest run of decimal digits, leading zeros allowed, of a value up to
+    /// 9223372036854775807.
     Number(i64),
+    /// A mark.
     Mark(Mark),
-    /// `;`, or a line end that separates (own: which line ends do).
+    /// A `;`, or a line end that separates. Of several in a row only the first is a
+    /// token.
     Separator,
-    /// The first byte at which no token of this version begins. It is the last token.
+    /// The first byte at which no other token begins, or the first digit of a
+    /// number above the greatest. It is the last token of its list.
     Unbuilt,
 }
 
-/// A token, and the place of its first byte.
+/// A token, and the place of its first byte; of a separator, of its `;` or line feed.
 #[derive(Drop)]
 pub struct Lexeme {
     pub token: Token,
