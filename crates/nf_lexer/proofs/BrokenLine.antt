@@ -1,5 +1,5 @@
 -- Where a first line breaks UTF-8 no token begins.
-use Rattle.std.proofs.Common.{◌≡◌, ℕ, zero, suc, ◌+◌, ◌≤◌, ◌<◌, Bool, true, false, cond, List, [], ◌∷◌, ◌++◌, length, take, drop, get_or, refl, sym, ap, ◌∙◌, subst, arith, drop-cons}
+use Rattle.std.proofs.Common.{◌≡◌, ℕ, zero, suc, ◌+◌, ◌≤◌, ◌<◌, Bool, true, false, cond, List, [], ◌∷◌, length, take, drop, get_or, refl, sym, ap, ◌∙◌, subst, arith, drop-cons}
 use Rattle.std.specs.Prelude.{◌==◌, ◌&&◌, nat_lt, take_while, nat_eq, codes}
 use Rattle.std.specs.List.{prefix_len, starts_with}
 use Rattle.std.specs.Str.{IsUtf8, is_utf8}
@@ -7,7 +7,7 @@ use Rattle.std.specs.Str.Lossy.{utf8_valid_len, valid_len_up_to}
 use Rattle.std.specs.Char.{is_ascii_digit}
 use Rattle.std.proofs.lemmas.Bool.Decides.{nat_tests}
 use Rattle.std.proofs.lemmas.Bool.{ltb-true, ne_eqb}
-use Rattle.std.proofs.lemmas.Str.{IsUtf8-nil, IsUtf8-append, IsUtf8-from_ascii, IsUtf8-from_is_utf8, is_utf8-from_IsUtf8, utf8_valid_len_le}
+use Rattle.std.proofs.lemmas.Str.{IsUtf8-nil, IsUtf8-append, IsUtf8-from_ascii, IsUtf8-from_is_utf8, is_utf8-from_IsUtf8}
 use Rattle.std.proofs.lemmas.List.{take_all, take_more, get_or-take}
 use Rattle.std.proofs.lemmas.List.Folds.{length-prefix_len}
 use Rattle.std.proofs.lemmas.List.Sums.{prefix_len-le-length}
@@ -46,9 +46,9 @@ unfolding utf8_valid_len
 stops_past_ascii bs h =
     let n = utf8_valid_len bs in
     let no : get_or bs n 0 < 128 → ⊥ = λ low.
-        let one : IsUtf8 (get_or bs n 0 ∷ []) = IsUtf8-from_ascii _ (ascii_cons (get_or bs n 0) [] low (λ i. omega arith)) in
-        let more : IsUtf8 (take (n + 1) bs) = subst IsUtf8 (sym (take_more bs n 0 h)) (IsUtf8-append _ _ (front_utf8 bs (length bs)) one) in
-        omega (arith, front_most bs (length bs) (n + 1) (omega arith) (is_utf8-from_IsUtf8 _ more)) in
+    let one : IsUtf8 (get_or bs n 0 ∷ []) = IsUtf8-from_ascii _ (ascii_cons (get_or bs n 0) [] low (λ i. omega arith)) in
+    let more : IsUtf8 (take (n + 1) bs) = subst IsUtf8 (sym (take_more bs n 0 h)) (IsUtf8-append _ _ (front_utf8 bs (length bs)) one) in
+    omega (arith, front_most bs (length bs) (n + 1) (omega arith) (is_utf8-from_IsUtf8 _ more)) in
     omega (arith, no)
 
 broken_short : (bs : List ℕ) → (IsUtf8 bs → ⊥) → utf8_valid_len bs < length bs

@@ -1,10 +1,9 @@
 -- Of the marks that stand in front the longest is taken.
-use Rattle.std.proofs.Common.{◌≡◌, ℕ, zero, suc, ◌+◌, ◌≤◌, ◌<◌, Bool, true, false, cond, List, [], ◌∷◌, ◌++◌, length, Option, Some, None, ◌⊎◌, inl, inr, refl, sym, ap, ◌∙◌, arith, eq-eqb}
-use Rattle.std.specs.Prelude.{◌==◌, ◌&&◌, not, is_some}
+use Rattle.std.proofs.Common.{◌≡◌, ℕ, zero, suc, ◌≤◌, Bool, true, false, List, [], ◌∷◌, ◌++◌, length, Option, Some, None, ◌⊎◌, inl, inr, refl, sym, ap, ◌∙◌, arith, eq-eqb}
+use Rattle.std.specs.Prelude.{◌&&◌, not, is_some}
 use Rattle.std.specs.List.{Contains}
 use Rattle.nf_lexer.specs.declared.token.Mark.{Mark}
-use Rattle.nf_lexer.specs.declared.token.Token.TheVariants as t
-use Rattle.nf_lexer.specs.First.{First, token, mark, mark_in, mark_or, past}
+use Rattle.nf_lexer.specs.First.{mark, mark_in, mark_or, past}
 use Rattle.nf_lexer.specs.Spellings.{marks}
 use Rattle.nf_lexer.specs.Longest.{IsLongest}
 use Rattle.nf_lexer.proofs.Takes.{past_is}
@@ -54,18 +53,18 @@ begins_not w [] h x c e = absurd (omega (arith, c.1))
 begins_not w (m ∷ ms) h x c e =
     let k = both (not (is_some (past w m.0))) (begins_none w ms) h in
     elim (head_or_tail m x ms c) [
-      inl s ↦ not_true (is_some (past w m.0)) k.0 (ap (λ (y : List ℕ × Mark). is_some (past w y.0)) s ∙ e)
-    | inr d ↦ begins_not w ms k.1 x d e
+      | inl s ↦ not_true (is_some (past w m.0)) k.0 (ap (λ (y : List ℕ × Mark). is_some (past w y.0)) s ∙ e)
+      | inr d ↦ begins_not w ms k.1 x d e
     ]
 
 -- a first row that fits is the longest that fits
 first_longest : (m x : List ℕ × Mark) (ms : List (List ℕ × Mark)) (bs rest more : List ℕ) → begins_none m.0 ms ≡ true → bs ≡ m.0 ++ rest → Contains (m ∷ ms) x → bs ≡ x.0 ++ more → length x.0 ≤ length m.0
 first_longest m x ms bs rest more h e c f =
     elim (head_or_tail m x ms c) [
-      inl s ↦ omega (arith, ap (λ (y : List ℕ × Mark). length y.0) s)
-    | inr d ↦
-        let no : length m.0 ≤ length x.0 → ⊥ = λ le. begins_not m.0 ms h x d (begins_longer m.0 x.0 rest more (sym e ∙ f) le) in
-        omega (arith, no)
+      | inl s ↦ omega (arith, ap (λ (y : List ℕ × Mark). length y.0) s)
+      | inr d ↦
+          let no : length m.0 ≤ length x.0 → ⊥ = λ le. begins_not m.0 ms h x d (begins_longer m.0 x.0 rest more (sym e ∙ f) le) in
+          omega (arith, no)
     ]
 
 step : (o : Option (List ℕ)) (m x : List ℕ × Mark) (ms : List (List ℕ × Mark)) (bs more : List ℕ) → past m.0 bs ≡ o → begins_none m.0 ms ≡ true → Contains (m ∷ ms) x → bs ≡ x.0 ++ more → (Contains ms x → IsLongest ms (mark_in ms bs) bs x) → IsLongest (m ∷ ms) (mark_or o m.1 (mark_in ms bs)) bs x
@@ -80,17 +79,17 @@ step (Some rest) m x ms bs more p h c f k =
     }
 step None m x ms bs more p h c f k =
     elim (head_or_tail m x ms c) [
-      inl s ↦ absurd (let e : past m.0 bs ≡ Some more = ap (past m.0) (f ∙ ap (λ (y : List ℕ × Mark). y.0 ++ more) (sym s)) ∙ past_of m.0 more in cc)
-    | inr d ↦
-        let r = k d in
-        record {
-          row = r.row;
-          rest = r.rest;
-          listed = later m r.row ms r.listed;
-          stands = r.stands;
-          taken = r.taken;
-          longest = r.longest;
-        }
+      | inl s ↦ absurd (let e : past m.0 bs ≡ Some more = ap (past m.0) (f ∙ ap (λ (y : List ℕ × Mark). y.0 ++ more) (sym s)) ∙ past_of m.0 more in cc)
+      | inr d ↦
+          let r = k d in
+          record {
+            row = r.row;
+            rest = r.rest;
+            listed = later m r.row ms r.listed;
+            stands = r.stands;
+            taken = r.taken;
+            longest = r.longest;
+          }
     ]
 
 longest_in : (ms : List (List ℕ × Mark)) → is_in_order ms ≡ true → (bs : List ℕ) (x : List ℕ × Mark) (more : List ℕ) → Contains ms x → bs ≡ x.0 ++ more → IsLongest ms (mark_in ms bs) bs x

@@ -22,6 +22,7 @@ abbrev pub is_brace : Bracket → Bool
 is_brace Brace = true
 is_brace _ = false
 
+-- a brace is open
 abbrev pub has_brace : List Bracket → Bool
 has_brace [] = false
 has_brace (Brace ∷ o) = true
@@ -37,6 +38,7 @@ around_brace (_ ∷ o) = around_brace o
 abbrev pub after_close_brace : List Bracket → List Bracket
 after_close_brace o = if has_brace o then around_brace o else o
 
+-- what is open after a mark
 abbrev pub after_mark : Mark → List Bracket → List Bracket
 after_mark m.OpenRound o = Round ∷ o
 after_mark m.OpenSquare o = Square ∷ o
@@ -46,6 +48,7 @@ after_mark m.CloseSquare o = after_close_square o
 after_mark m.CloseBrace o = after_close_brace o
 after_mark _ o = o
 
+-- no other token opens or closes
 abbrev pub after_token : Token → List Bracket → List Bracket
 after_token (t.Mark m) o = after_mark m o
 after_token _ o = o

@@ -23,6 +23,7 @@ pub data First : Type 0 where
 abbrev pub after : (ℕ → Bool) → List ℕ → List ℕ
 after p bs = drop (prefix_len p bs) bs
 
+-- the keyword of the list that is spelled so
 abbrev pub keyword_in : List (List ℕ × Keyword) → List ℕ → Option Keyword
 keyword_in [] w = None
 keyword_in (k ∷ ks) w = if bytes_eq w k.0 then Some k.1 else keyword_in ks w
@@ -35,6 +36,7 @@ keyword_or_name None w = t.Name w
 unfoldable pub word_token : List ℕ → Token
 word_token w = keyword_or_name (keyword_in keywords w) w
 
+-- the longest name or keyword
 abbrev pub word : List ℕ → First
 word bs = token (word_token (take_while is_in_name bs)) (after is_in_name bs)
 
@@ -42,6 +44,7 @@ word bs = token (word_token (take_while is_in_name bs)) (after is_in_name bs)
 abbrev pub limit : ℕ
 limit = 9223372036854775807
 
+-- the longest number, at whose first digit no token begins where it is above the limit
 unfoldable pub number : List ℕ → First
 number bs = let n = digits_value 10 (take_while is_ascii_digit bs) in if nat_lt limit n then foreign else token (t.Number (pos n)) (after is_ascii_digit bs)
 
@@ -60,9 +63,11 @@ abbrev pub mark_in : List (List ℕ × Mark) → List ℕ → First
 mark_in [] bs = foreign
 mark_in (m ∷ ms) bs = mark_or (past m.0 bs) m.1 (mark_in ms bs)
 
+-- the longest mark
 unfoldable pub mark : List ℕ → First
 mark bs = mark_in marks bs
 
+-- a line feed is 10, a `;` 59
 unfoldable pub first : List ℕ → First
 first [] = finished
 first (b ∷ bs) =

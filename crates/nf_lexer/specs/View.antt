@@ -38,7 +38,7 @@ outcome s rest = s.out.items ++ settled (reverse s.out.items) (waiting_pieces s.
 
 -- the settler knows which brackets are open after its tokens
 abbrev pub IsInStep : Settler → Type 0
-IsInStep s = s.open ≡ opened (reverse s.out.items)
+IsInStep s = s.brackets ≡ opened (reverse s.out.items)
 
 -- a word is ASCII
 abbrev pub IsSpelledRaw : Raw → Type 0

@@ -20,7 +20,7 @@ pub enum Bracket {
 /// The brackets that are open. Contracts see their list, innermost first.
 #[derive(Drop)]
 pub struct Brackets {
-    open: Vec<Bracket>,
+    held: Vec<Bracket>,
     braces: usize,
 }
 
@@ -31,9 +31,9 @@ impl Model for Brackets {
 
     ghost Value = { List Bracket };
 
-    ghost view = { λ b. reverse b.open.items };
+    ghost view = { λ b. reverse b.held.items };
 
-    ghost invariant = { λ b. b.braces ≡ count_by is_brace (reverse b.open.items) };
+    ghost invariant = { λ b. b.braces ≡ count_by is_brace (reverse b.held.items) };
 }
 
 impl Brackets {
@@ -41,7 +41,7 @@ impl Brackets {
         ensures { result ≡ [] }
     {
         Brackets {
-            open: Vec::new(alloc),
+            held: Vec::new(alloc),
             braces: 0,
         }
     }
@@ -50,7 +50,7 @@ impl Brackets {
     pub fn let_lines_end(&self) -> bool
         ensures { result ≡ lets_lines_end self.now }
     {
-        matches!(self.open.last(), None | Some(Bracket::Brace))
+        matches!(self.held.last(), None | Some(Bracket::Brace))
     }
 
     /// Opens and closes what the token opens and closes.
@@ -81,7 +81,7 @@ impl Brackets {
     fn enter(&mut self, bracket: Bracket) -> Result<(), Mem>
         ensures { OnOk result (self.new ≡ bracket ∷ self.old) }
     {
-        self.open.push(bracket)?;
+        self.held.push(bracket)?;
         if let Bracket::Brace = bracket {
             self.braces += 1;
         }
@@ -91,16 +91,16 @@ impl Brackets {
     fn close_round(&mut self)
         ensures { self.new ≡ after_close_round self.old }
     {
-        if let Some(Bracket::Round) = self.open.last() {
-            let _ = self.open.pop();
+        if let Some(Bracket::Round) = self.held.last() {
+            let _ = self.held.pop();
         }
     }
 
     fn close_square(&mut self)
         ensures { self.new ≡ after_close_square self.old }
     {
-        if let Some(Bracket::Square) = self.open.last() {
-            let _ = self.open.pop();
+        if let Some(Bracket::Square) = self.held.last() {
+            let _ = self.held.pop();
         }
     }
 
@@ -108,17 +108,17 @@ impl Brackets {
         ensures { self.new ≡ after_close_brace self.old }
     {
         if self.braces > 0 {
-            leave_brace(&mut self.open);
+            leave_brace(&mut self.held);
             self.braces -= 1;
         }
     }
 }
 
 /// Takes the innermost bracket off until one was a brace.
-fn leave_brace(open: &mut Vec<Bracket>)
-    ensures { reverse open.new.items ≡ around_brace (reverse open.old.items) }
+fn leave_brace(brackets: &mut Vec<Bracket>)
+    ensures { reverse brackets.new.items ≡ around_brace (reverse brackets.old.items) }
 {
-    while let Some(bracket) = open.pop() {
+    while let Some(bracket) = brackets.pop() {
         if let Bracket::Brace = bracket {
             return;
         }

@@ -15,23 +15,19 @@ ghost use Rattle.nf_lexer.specs.Tokens.{IsTokensOf, skipped};
 /// A text has a list of tokens, and an end.
 pub fn some_list()
     ensures { (text : List ℕ) → (t : List Lexeme × Place) × IsTokensOf text t }
-{
-}
+{}
 
 /// A text has one list of tokens, and one end.
 pub fn one_list()
     ensures { (text : List ℕ) (t u : List Lexeme × Place) → IsTokensOf text t → IsTokensOf text u → t ≡ u }
-{
-}
+{}
 
 /// Where marks stand in front, one of them is taken, and it is the longest.
 pub fn longest_mark()
     ensures { (bs : List ℕ) (x : List ℕ × Mark) (more : List ℕ) → Contains marks x → bs ≡ x.0 ++ more → IsLongest marks (mark bs) bs x }
-{
-}
+{}
 
 /// Where a first line that begins with `#!` isn't UTF-8, no token begins after what is skipped of it.
 pub fn broken_first_line()
     ensures { (text : List ℕ) → starts_with nat_eq text (codes "#!") ≡ true → ¬ (IsUtf8 (take_while is_not_line_feed text)) → first (drop (skipped text) text) ≡ foreign }
-{
-}
+{}

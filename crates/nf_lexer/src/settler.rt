@@ -15,7 +15,7 @@ use std::alloc::Global;
 #[derive(Drop)]
 pub struct Settler {
     pub out: Vec<Lexeme>,
-    pub open: Brackets,
+    pub brackets: Brackets,
     pub waiting: Option<Place>,
 }
 
@@ -26,7 +26,7 @@ impl Settler {
     {
         Settler {
             out: Vec::new(alloc),
-            open: Brackets::new(alloc),
+            brackets: Brackets::new(alloc),
             waiting: None,
         }
     }
@@ -88,7 +88,7 @@ impl Settler {
         ensures { let before = reverse self.now.out.items in result ≡ ((lets_lines_end (opened before) && not (last_awaits_more_of before)) && not (is_after_separator_of before)) }
     {
         let out = self.out.as_slice();
-        self.open.let_lines_end() && !last_awaits_more(out) && !is_after_separator(out)
+        self.brackets.let_lines_end() && !last_awaits_more(out) && !is_after_separator(out)
     }
 
     fn push(&mut self, lexeme: Lexeme) -> Result<(), Mem>
@@ -97,7 +97,7 @@ impl Settler {
         ensures waiting { OnOk result (self.new.waiting ≡ self.old.waiting) }
         ensures out { OnOk result (self.new.out.items ≡ self.old.out.items ++ lexeme ∷ []) }
     {
-        self.open.pass(&lexeme.token)?;
+        self.brackets.pass(&lexeme.token)?;
         self.out.push(lexeme)?;
         Ok(())
     }

@@ -30,7 +30,7 @@ loop-b-preserved c =
     elim c.if-b-eq10.branch [
       | then-b-eq10 w ↦
           let h : (b == 10) ≡ true = eq-eqb b 10 (omega arith) in
-          (omega (arith, w.place-is, ap (λ x. (place_after x).line) e, line_feed-line front b h, w.next_line-place.ensures, c.loop-b.invariant, ap (λ (x : Place). x.line) w.place-is), omega (arith, ap (λ x. (place_after x).col) e, line_feed-col front b h, w.next_line-place.ensures, ap (λ (x : Place). x.col) w.place-is))
+          (omega (arith, ap (λ x. (place_after x).line) e, line_feed-line front b h, w.next_line-place.ensures, c.loop-b.invariant, ap (λ (x : Place). x.line) w.place-is), omega (arith, ap (λ x. (place_after x).col) e, line_feed-col front b h, w.next_line-place.ensures, ap (λ (x : Place). x.col) w.place-is))
       | else-b-eq10 w ↦
           let h : (b == 10) ≡ false = ne_eqb b 10 w.if-b-eq10.false in
           (omega (arith, ap (λ x. (place_after x).line) e, other-line front b h, w.further-place.ensures, c.loop-b.invariant, ap (λ (x : Place). x.line) w.place-is), omega (arith, ap (λ x. (place_after x).col) e, other-col front b h, w.further-place.ensures, c.loop-b.invariant, ap (λ (x : Place). x.col) w.place-is))
