@@ -2,6 +2,7 @@
 
 ghost use Rattle.std.specs.Prelude.{◌≡◌, ◌⊎◌, ◌↔◌, ◌≤◌, None, IfSome, IfOk, IsTrue, length, take};
 ghost use Rattle.std.specs.IoError.{error_kind};
+ghost use Rattle.nf_host.specs.Faults.{Rose};
 
 use crate::host::{Host, HostRefusal, PIECE_LEN, Piece};
 use nf_value::Bytes;
@@ -11,7 +12,8 @@ use std::io;
 use std::io::{ErrorKind, Read, Seek, SeekFrom};
 use std::rt::Files;
 
-/// The files of the system that the program runs on. It tells no content (own).
+/// The files of the system that the program runs on. It tells no content. A path that is missing,
+/// empty or through a plain file isn't there; a folder in a file's place is a failure (own).
 #[derive(Drop)]
 pub struct FsHost<R> {
     rt: R,
@@ -27,6 +29,15 @@ impl<R: Files> FsHost<R> {
     {
         FsHost { rt, faults: 0 }
     }
+
+    fn fail(&mut self) -> HostRefusal
+        ensures failed { result ≡ HostRefusal.Failed }
+        ensures later { faults_of self.old ≤ faults_of self.new }
+        ensures rose { Rose (faults_of self.old) (faults_of self.new) }
+    {
+        self.faults = self.faults.saturating_add(1);
+        HostRefusal::Failed
+    }
 }
 
 impl<R: Files> Host for FsHost<R> {
@@ -38,16 +49,17 @@ impl<R: Files> Host for FsHost<R> {
 
     fn read_at(&mut self, alloc: Global, path: &str, at: u64) -> Result<Piece, HostRefusal> {
         let mut room = vec![in alloc; 0u8; PIECE_LEN]?;
-        match read_front(&self.rt, path, at, &mut room) {
+        let mut file = match File::open(&self.rt, path) {
+            Ok(file) => file,
+            Err(error) if is_absence(&error) => return Ok(Piece::Absent),
+            Err(_) => return Err(self.fail()),
+        };
+        match read_front(&mut file, at, &mut room) {
             Ok(len) => {
                 room.truncate(len);
                 Ok(Piece::Bytes(Bytes::of(room)))
             }
-            Err(error) if is_absence(&error) => Ok(Piece::Absent),
-            Err(_) => {
-                self.faults = self.faults.saturating_add(1);
-                Err(HostRefusal::Failed)
-            }
+            Err(_) => Err(self.fail()),
         }
     }
 
@@ -63,13 +75,13 @@ fn is_absence(error: &io::Error) -> bool
     kind == ErrorKind::NotFound || kind == ErrorKind::NotADirectory
 }
 
-// How many bytes of the file stand in `room` now: fewer than it has only at the file's end.
-fn read_front<R: Files>(rt: &R, path: &str, at: u64, room: &mut [u8]) -> io::Result<usize>
+// Reads from byte `at` on into the front of `room`, and says how many bytes: fewer than it has only
+// at the file's end.
+fn read_front<F: Read + Seek>(file: &mut F, at: u64, room: &mut [u8]) -> io::Result<usize>
     ensures { IfOk result (λ n. n ≤ length room.new) }
 {
-    let mut file = File::open(rt, path)?;
     file.seek(SeekFrom::Start(at))?;
-    fill(&mut file, room)
+    fill(file, room)
 }
 
 fn fill<F: Read>(file: &mut F, room: &mut [u8]) -> io::Result<usize>
