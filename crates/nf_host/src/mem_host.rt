@@ -1,6 +1,6 @@
 //! Files in memory.
 
-ghost use Rattle.std.specs.Prelude.{◌≡◌, ◌≤◌, ◌+◌, ◌-◌, ◌^◌, ◌++◌, [], ◌∷◌, min, if◌then◌else◌, Some, Err, IfOk, OnOk, OnErr, IsTrue, take, drop, length};
+ghost use Rattle.std.specs.Prelude.{◌≡◌, ◌≤◌, ◌+◌, ◌-◌, ◌^◌, ◌++◌, ℕ, List, [], ◌∷◌, min, if◌then◌else◌, Some, Err, IfOk, OnOk, OnErr, IsTrue, take, drop, length};
 ghost use Rattle.std.specs.Bool.{OnTrue};
 ghost use Rattle.nf_host.specs.Faults.{Rose, OnFailed};
 ghost use Rattle.nf_host.specs.Files.{IsPiece, IsShort, put, no_files};
@@ -45,8 +45,8 @@ impl MemHost {
     ///
     /// `Mem` where there is no memory for it. The files are as before.
     pub fn put(&mut self, path: &str, bytes: &[u8]) -> Result<(), Mem>
-        ensures ok { OnOk result ((q : _) → files_of self.new q ≡ put (files_of self.old) path.now bytes.now q) }
-        ensures err { OnErr result ((q : _) → files_of self.new q ≡ files_of self.old q) }
+        ensures ok { OnOk result ((q : List ℕ) → files_of self.new q ≡ put (files_of self.old) path.now bytes.now q) }
+        ensures err { OnErr result ((q : List ℕ) → files_of self.new q ≡ files_of self.old q) }
         ensures failing { failing_of self.new ≡ failing_of self.old }
         ensures calls { calls_of self.new ≡ calls_of self.old }
         ensures faults { faults_of self.new ≡ faults_of self.old }

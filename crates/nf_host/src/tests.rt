@@ -1,5 +1,9 @@
 //! Each public call once, with memory enough.
 
+ghost use Rattle.std.specs.Prelude.{IfOk, codes};
+ghost use Rattle.nf_host.specs.MemHost.{files_of};
+ghost use Rattle.nf_host.specs.Whole.{IsWhole};
+
 use crate::{
     FsHost, Host, HostRefusal, MemHost, MemSink, Piece, Sink, SinkFailed, StdSink, Whole,
     read_whole,
@@ -66,6 +70,13 @@ fn is_whole(whole: &Whole, want: &[u8], fits: bool) -> bool {
     }
 }
 
+// A host in memory tells its files, so that a caller knows the whole answer.
+fn whole_in_memory(alloc: Global, host: &mut MemHost, limit: u64) -> Result<Whole, HostRefusal>
+    ensures { IfOk result (IsWhole (files_of host.old (codes "file")) limit) }
+{
+    read_whole(alloc, host, "file", limit)
+}
+
 #[test]
 fn a_host_in_memory(rt: HostRuntime) -> Result<(), Fail> {
     let alloc = rt.alloc();
@@ -106,7 +117,7 @@ fn whole_files(rt: HostRuntime) -> Result<(), Fail> {
         let mut host = MemHost::new(alloc);
         host.put("file", &bytes)?;
         host.fail_at(reads)?;
-        let whole = read_whole(alloc, &mut host, "file", limit)?;
+        let whole = whole_in_memory(alloc, &mut host, limit)?;
         assert!(rt;
             is_whole(&whole, &bytes, fits),
             "{len} bytes, limit {limit}"
