@@ -1,0 +1,5 @@
+pub mod Writing
+pub mod Numbers
+pub mod Outcomes
+pub mod Runs
+pub mod Ending

@@ -1,0 +1,49 @@
+-- The status and the error line of each end.
+use Rattle.std.specs.Prelude.{ℕ, List, [], ◌++◌, codes}
+use Rattle.nf_value.specs.declared.place.Place.{Place}
+use Rattle.nf_value.specs.Place.{place_text}
+use Rattle.nf_value.specs.Fault.{kind_text}
+use Rattle.nf_value.specs.Text.{value_text}
+use Rattle.nf_value.specs.View.{plain_of}
+use Rattle.nf_words.specs.Usage.{usage_text}
+use Rattle.nf_words.specs.declared.fault.UsageFault.{UsageFault}
+use Rattle.nf_words.specs.declared.fault.UsageFault.TheVariants as usage
+use Rattle.nf_cli.specs.declared.ends.End.{End}
+use Rattle.nf_cli.specs.declared.ends.End.TheVariants as end
+use Rattle.nf_cli.specs.declared.ends.ItemCause.{ItemCause}
+use Rattle.nf_cli.specs.declared.ends.ItemCause.TheVariants.{Eval}
+
+abbrev pub status_of : End → ℕ
+status_of end.Ok = 0
+status_of (end.ItemFault p c) = 1
+status_of (end.Usage f) = 2
+status_of end.NoScript = 3
+status_of (end.Unbuilt p) = 3
+status_of end.HostFault = 4
+status_of end.SinkFault = 4
+status_of end.Mem = 5
+
+-- NAME on ITEM
+abbrev pub cause_text : ItemCause → List ℕ
+cause_text (Eval item fault) = kind_text fault.kind ++ codes " on " ++ value_text (plain_of item)
+
+-- LINE:COL: TEXT
+abbrev pub placed : Place → List ℕ → List ℕ
+placed p text = place_text p.line p.col ++ codes ": " ++ text
+
+abbrev pub end_text : End → List ℕ
+end_text (end.ItemFault p c) = placed p (cause_text c)
+end_text (end.Usage f) = codes "usage: " ++ usage_text f
+end_text end.NoScript = codes "NoScript"
+end_text (end.Unbuilt p) = placed p (codes "Unbuilt")
+end_text end.HostFault = codes "HostFault"
+end_text _ = []
+
+-- the line that is written, after each end but Ok, SinkFault and Mem
+abbrev pub error_line : End → List ℕ
+error_line e = codes "error: " ++ end_text e ++ codes "\n"
+
+-- want of memory has an end of its own
+abbrev pub end_of_usage : UsageFault → End
+end_of_usage usage.Mem = end.Mem
+end_of_usage fault = end.Usage fault

@@ -1,0 +1,62 @@
+//! How a call ends.
+
+ghost use Rattle.std.specs.Prelude.{◌≡◌};
+ghost use Rattle.nf_cli.specs.Ends.{status_of};
+
+use nf_value::{EvalFault, Place, Value};
+use nf_words::UsageFault;
+
+/// How a call ended (own).
+#[derive(Drop)]
+pub enum End {
+    /// All was written.
+    Ok,
+    /// An item has a fault: the first item in the text that has one, with its first fault. `place` is that of the
+    /// operator's mark.
+    ItemFault { place: Place, fault: ItemCause },
+    /// The words aren't a command line.
+    Usage(UsageFault),
+    /// The script isn't there.
+    NoScript,
+    /// The text isn't of a form that is built. `place` is that of the first token that no reading of a form goes on
+    /// with, or of the text's end.
+    Unbuilt { place: Place },
+    /// The host failed.
+    HostFault,
+    /// The sink failed.
+    SinkFault,
+    /// Want of memory. Nothing was written.
+    Mem,
+}
+
+/// What is wrong with an item.
+#[derive(Drop)]
+pub enum ItemCause {
+    /// An evaluation with this item has a fault.
+    Eval { item: Value, fault: EvalFault },
+}
+
+/// A call's end, and the status with which the program ends.
+#[derive(Drop)]
+pub struct NfEnd {
+    /// 0 where all went well, 1 for a fault of the run, 2 for the words, 3 for the script, 4 for what is outside of
+    /// the program, 5 for want of memory (own).
+    pub status: u8,
+    pub end: End,
+}
+
+impl End {
+    /// The status with which the program ends.
+    pub fn status(&self) -> u8
+        ensures { result ≡ status_of self.now }
+    {
+        match self {
+            End::Ok => 0,
+            End::ItemFault { .. } => 1,
+            End::Usage(_) => 2,
+            End::NoScript | End::Unbuilt { .. } => 3,
+            End::HostFault | End::SinkFault => 4,
+            End::Mem => 5,
+        }
+    }
+}

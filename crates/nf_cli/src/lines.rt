@@ -1,0 +1,55 @@
+//! The lines of text that a call writes.
+
+ghost use Rattle.std.specs.Prelude.{◌≡◌, IfOk, string_bytes};
+ghost use Rattle.nf_cli.specs.Ends.{cause_text, end_text, placed, error_line as error_line_of};
+
+use crate::ends::{End, ItemCause};
+use nf_value::{Mem, Place, text_of};
+use std::alloc::Global;
+
+/// The error line of an end.
+///
+/// # Errors
+///
+/// `Mem` where there is no memory for it.
+pub fn error_line(alloc: Global, end: &End) -> Result<String, Mem>
+    ensures { IfOk result (λ s. string_bytes s ≡ error_line_of end.now) }
+{
+    let text = text_of_end(alloc, end)?;
+    Ok(format!(in alloc; "error: {text}\n")?)
+}
+
+fn text_of_end(alloc: Global, end: &End) -> Result<String, Mem>
+    ensures { IfOk result (λ s. string_bytes s ≡ end_text end.now) }
+{
+    match end {
+        End::ItemFault { place, fault } => {
+            let cause = text_of_cause(alloc, fault)?;
+            at_place(alloc, *place, cause.as_str())
+        }
+        End::Usage(fault) => Ok(format!(in alloc; "usage: {fault}")?),
+        End::NoScript => Ok(String::from_str(alloc, "NoScript")?),
+        End::Unbuilt { place } => at_place(alloc, *place, "Unbuilt"),
+        End::HostFault => Ok(String::from_str(alloc, "HostFault")?),
+        End::Ok | End::SinkFault | End::Mem => Ok(String::new(alloc)),
+    }
+}
+
+fn text_of_cause(alloc: Global, cause: &ItemCause) -> Result<String, Mem>
+    ensures { IfOk result (λ s. string_bytes s ≡ cause_text cause.now) }
+{
+    match cause {
+        ItemCause::Eval { item, fault } => {
+            let kind = fault.kind;
+            let item = text_of(alloc, item)?;
+            let item = item.as_str();
+            Ok(format!(in alloc; "{kind} on {item}")?)
+        }
+    }
+}
+
+fn at_place(alloc: Global, place: Place, text: &str) -> Result<String, Mem>
+    ensures { IfOk result (λ s. string_bytes s ≡ placed place text.now) }
+{
+    Ok(format!(in alloc; "{place}: {text}")?)
+}

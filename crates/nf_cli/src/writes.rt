@@ -1,0 +1,78 @@
+//! What a call writes to its sink.
+
+ghost use Rattle.std.specs.Prelude.{◌≡◌, ◌≤◌, ◌++◌, ◌↔◌, IsSome, IfSome, IfOk, IfErr, OnOk, OnErr};
+ghost use Rattle.nf_host.specs.Faults.{Rose};
+ghost use Rattle.nf_host.specs.Sink.{GrowsByFront};
+ghost use Rattle.nf_cli.specs.Due.{IsRefusal, OnSinkFault, WroteLine, WroteOutput, IsKept, EndsAs, IsWritten};
+
+use crate::ends::End;
+use crate::lines::error_line;
+use nf_host::{Sink, SinkFailed};
+use nf_value::Txt;
+use std::alloc::Global;
+
+/// Writes a report with the summary line, or the error line of an end, and answers the end of the call.
+pub fn write<O: Sink>(alloc: Global, out: &mut O, outcome: Result<Txt, End>) -> End
+    requires { IfErr outcome IsRefusal }
+    ensures later { O.faults out.old ≤ O.faults out.new }
+    ensures ends { EndsAs outcome result }
+    ensures cause { OnSinkFault result (Rose (O.faults out.old) (O.faults out.new)) }
+    ensures told { IsSome (O.written out.new) ↔ IsSome (O.written out.old) }
+    ensures output { IfOk outcome (λ report. IfSome (O.written out.old) (λ before. IfSome (O.written out.new) (λ after. WroteOutput result report before after))) }
+    ensures line { IfSome (O.written out.old) (λ before. IfSome (O.written out.new) (λ after. WroteLine result (Rose (O.faults out.old) (O.faults out.new)) before after)) }
+{
+    match outcome {
+        Ok(report) => write_report(out, report.as_str().as_bytes()),
+        Err(end) => write_line(alloc, out, end),
+    }
+}
+
+/// Writes a report and the summary line, each in one write; an empty report isn't written.
+fn write_report<O: Sink>(out: &mut O, report: &[u8]) -> End
+    ensures later { O.faults out.old ≤ O.faults out.new }
+    ensures cause { OnSinkFault result (Rose (O.faults out.old) (O.faults out.new)) }
+    ensures ends { IsWritten result }
+    ensures told { IsSome (O.written out.new) ↔ IsSome (O.written out.old) }
+    ensures output { IfSome (O.written out.old) (λ before. IfSome (O.written out.new) (λ after. WroteOutput result report.now before after)) }
+{
+    let Ok(()) = write_piece(out, report) else {
+        return End::SinkFault;
+    };
+    match out.write(b"executed 0 cached 0\n") {
+        Ok(()) => End::Ok,
+        Err(SinkFailed) => End::SinkFault,
+    }
+}
+
+/// Writes a piece, unless it is empty.
+fn write_piece<O: Sink>(out: &mut O, piece: &[u8]) -> Result<(), SinkFailed>
+    ensures later { O.faults out.old ≤ O.faults out.new }
+    ensures cause { OnErr result (Rose (O.faults out.old) (O.faults out.new)) }
+    ensures told { IsSome (O.written out.new) ↔ IsSome (O.written out.old) }
+    ensures front { IfSome (O.written out.old) (λ before. IfSome (O.written out.new) (λ after. GrowsByFront before piece.now after)) }
+    ensures all { IfSome (O.written out.old) (λ before. IfSome (O.written out.new) (λ after. OnOk result (after ≡ before ++ piece.now))) }
+{
+    if piece.is_empty() {
+        return Ok(());
+    }
+    out.write(piece)
+}
+
+/// Writes the error line of an end, and answers the end: `Mem` in place of it where there is no memory for the line.
+/// Where the sink fails in that line the end stays.
+fn write_line<O: Sink>(alloc: Global, out: &mut O, end: End) -> End
+    requires { IsRefusal end }
+    ensures later { O.faults out.old ≤ O.faults out.new }
+    ensures kept { IsKept end result }
+    ensures told { IsSome (O.written out.new) ↔ IsSome (O.written out.old) }
+    ensures line { IfSome (O.written out.old) (λ before. IfSome (O.written out.new) (λ after. WroteLine result (Rose (O.faults out.old) (O.faults out.new)) before after)) }
+{
+    if let End::Mem = end {
+        return End::Mem;
+    }
+    let Ok(line) = error_line(alloc, &end) else {
+        return End::Mem;
+    };
+    let _ = out.write(line.as_bytes());
+    end
+}
