@@ -1,0 +1,7 @@
+#!/usr/bin/env nextflow
+
+workflow {
+    channel.of(4, 1, 3, 2)
+        .map { it * it - 10 }
+        .view()
+}
