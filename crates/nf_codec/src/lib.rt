@@ -1,6 +1,7 @@
 //! Values as bytes, and back.
 #![tactic(auto)]
 
+mod number;
 mod write;
 
 pub use write::encode;

@@ -1,0 +1,93 @@
+-- What is spelled at the front of some bytes: a whole value, or the head of a list or map.
+use Rattle.std.specs.Prelude.{ℕ, suc, zero, ◌^◌, ◌==◌, ◌&&◌, nat_lt, nat_le, not, pos, negsuc, List, [], ◌∷◌, length, take, drop, Bool, true, false, Option, Some, None, if◌then◌else◌, Ok, Err}
+use Rattle.std.specs.declared.result.Result.{Result}
+use Rattle.std.specs.Char.{is_ascii_digit}
+use Rattle.std.specs.List.{take_while}
+use Rattle.std.specs.Option.{option_and_then}
+use Rattle.std.specs.Str.{is_utf8, bytes_eq}
+use Rattle.std.specs.Str.Parse.{digits_value}
+use Rattle.hex.specs.Hex.{encode_lower, decode_of}
+use Rattle.nf_value.specs.Plain.{Plain, null, truth, int, text, file}
+
+pub data Head : Type 0 where
+  -- a value that isn't a list or map
+  whole : Plain → Head
+  -- a list of so many items
+  list_of : ℕ → Head
+  -- a map of so many pairs
+  table_of : ℕ → Head
+
+-- some digits are a decimal: there is one, and the first isn't 0 where there are more
+abbrev pub is_decimal : List ℕ → Bool
+is_decimal [] = false
+is_decimal (d ∷ []) = true
+is_decimal (d ∷ e ∷ ds) = not (d == 48)
+
+-- where the next byte is the given one, the value with the bytes after it
+abbrev pub ended_by : {A : Type 0} → ℕ → A → List ℕ → Option (A × List ℕ)
+ended_by end x [] = None
+ended_by end x (b ∷ bs) = if b == end then Some (x, bs) else None
+
+-- the decimal at the front, which the given byte ends, and what follows that byte
+abbrev pub decimal_before : ℕ → List ℕ → Option (ℕ × List ℕ)
+decimal_before end bs = let ds = take_while is_ascii_digit bs in if is_decimal ds then ended_by end (digits_value 10 ds) (drop (length ds) bs) else None
+
+abbrev pub fits_positive : ℕ × List ℕ → Option (Head × List ℕ)
+fits_positive p = if nat_lt p.0 (2 ^ 63) then Some (whole (int (pos p.0)), p.1) else None
+
+-- there is no -0
+abbrev pub negative_of : ℕ → List ℕ → Option (Head × List ℕ)
+negative_of zero bs = None
+negative_of (suc n) bs = if nat_lt n (2 ^ 63) then Some (whole (int (negsuc n)), bs) else None
+
+abbrev pub fits_negative : ℕ × List ℕ → Option (Head × List ℕ)
+fits_negative p = negative_of p.0 p.1
+
+abbrev pub int_at : List ℕ → Option (Head × List ℕ)
+int_at [] = None
+int_at (b ∷ bs) = if b == 45 then option_and_then fits_negative (decimal_before 59 bs) else option_and_then fits_positive (decimal_before 59 (b ∷ bs))
+
+-- as many bytes as the number says, where they are there and are UTF-8
+abbrev pub cut_text : ℕ × List ℕ → Option (List ℕ × List ℕ)
+cut_text p = if nat_le p.0 (length p.1) && is_utf8 (take p.0 p.1) then Some (take p.0 p.1, drop p.0 p.1) else None
+
+-- a length, `:` and a text of that length
+abbrev pub counted_text : List ℕ → Option (List ℕ × List ℕ)
+counted_text bs = option_and_then cut_text (decimal_before 58 bs)
+
+abbrev pub text_at : List ℕ → Option (Head × List ℕ)
+text_at bs = option_and_then (λ p. Some (whole (text p.0), p.1)) (counted_text bs)
+
+-- the bytes that some lower hexadecimal digits spell
+abbrev pub lower_only : {E : Type 0} → List ℕ → Result (List ℕ) E → Option (List ℕ)
+lower_only ds (Ok d) = if bytes_eq (encode_lower d) ds then Some d else None
+lower_only ds (Err e) = None
+
+abbrev pub digest_of : List ℕ → Option (List ℕ)
+digest_of ds = lower_only ds (decode_of ds)
+
+abbrev pub fits_file : List ℕ → List ℕ → ℕ × List ℕ → Option (Head × List ℕ)
+fits_file name digest p = if nat_lt p.0 (2 ^ 64) then Some (whole (file name digest p.0), p.1) else None
+
+-- after a file's name: the digest and the length of the file
+abbrev pub file_after : List ℕ × List ℕ → Option (Head × List ℕ)
+file_after p =
+    if nat_le 64 (length p.1) then option_and_then (λ digest. option_and_then (fits_file p.0 digest) (decimal_before 59 (drop 64 p.1))) (digest_of (take 64 p.1)) else None
+
+abbrev pub file_at : List ℕ → Option (Head × List ℕ)
+file_at bs = option_and_then file_after (counted_text bs)
+
+abbrev pub counted : (ℕ → Head) → List ℕ → Option (Head × List ℕ)
+counted h bs = option_and_then (λ p. Some (h p.0, p.1)) (decimal_before 58 bs)
+
+-- what is spelled after a letter
+abbrev pub head_after : ℕ → List ℕ → Option (Head × List ℕ)
+head_after letter bs =
+    if letter == 110 then Some (whole null, bs) else (if letter == 116 then Some (whole (truth true), bs) else (if letter == 102 then Some (whole (truth false), bs)
+    else (if letter == 105 then int_at bs else (if letter == 115 then text_at bs else (if letter == 112 then file_at bs
+    else (if letter == 108 then counted list_of bs else (if letter == 109 then counted table_of bs else None)))))))
+
+-- the head at the front, and what follows it; none where no head is spelled there
+abbrev pub head_at : List ℕ → Option (Head × List ℕ)
+head_at [] = None
+head_at (b ∷ bs) = head_after b bs

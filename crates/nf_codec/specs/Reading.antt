@@ -1,0 +1,74 @@
+-- How values are met from the front, a list or map before its members. A fault tells how many bytes were left where its value begins.
+use Rattle.std.specs.Prelude.{ℕ, zero, suc, List, [], ◌∷◌, length, Bool, true, Option, Some, None, if◌then◌else◌, Ok, Err}
+use Rattle.std.specs.declared.result.Result.{Result}
+use Rattle.std.specs.Ordering.{nat_cmp, is_lt}
+use Rattle.std.specs.Cmp.Lexicographic.{slice_cmp}
+use Rattle.nf_value.specs.Plain.{Plain, null, truth, int, text, file, list, table, plains_of, plain_pairs_of}
+use Rattle.nf_codec.specs.Heads.{Head, whole, list_of, table_of, head_at}
+
+pub data ReadFault : Type 0 where
+  -- no head is spelled, or a key isn't a text above the key before
+  no_value : ℕ → ReadFault
+  -- a list or map opens too deep
+  too_deep : ℕ → ReadFault
+
+-- what was read, and the bytes after it
+abbrev pub Reading : Type 0 → Type 0
+Reading A = Result (A × List ℕ) ReadFault
+
+-- go on with what was read
+abbrev pub and_then : {A B : Type 0} → Reading A → (A → List ℕ → Reading B) → Reading B
+and_then (Ok p) g = g p.0 p.1
+and_then (Err e) g = Err e
+
+-- n values, each read by f
+abbrev pub many : (List ℕ → Reading Plain) → ℕ → List ℕ → Reading (List Plain)
+many f zero bs = Ok ([], bs)
+many f (suc n) bs = and_then (f bs) (λ v rest. and_then (many f n rest) (λ vs rest'. Ok (v ∷ vs, rest')))
+
+abbrev pub is_above : Option (List ℕ) → List ℕ → Bool
+is_above None k = true
+is_above (Some j) k = is_lt (slice_cmp nat_cmp j k)
+
+-- a key: a text above the key before
+abbrev pub key_from : Option (List ℕ) → ℕ → Option (Head × List ℕ) → Reading (List ℕ)
+key_from before left None = Err (no_value left)
+key_from before left (Some p) = as_key p.0 p.1
+  where
+    as_key : Head → List ℕ → Reading (List ℕ)
+    as_key (whole (text k)) rest = if is_above before k then Ok (k, rest) else Err (no_value left)
+    as_key h rest = Err (no_value left)
+
+-- a key and its value
+abbrev pub pair_from : (List ℕ → Reading Plain) → Option (List ℕ) → List ℕ → Reading (List ℕ × Plain)
+pair_from f before bs = and_then (key_from before (length bs) (head_at bs)) (λ k rest. and_then (f rest) (λ v rest'. Ok ((k, v), rest')))
+
+-- n pairs, whose keys rise
+abbrev pub many_pairs : (List ℕ → Reading Plain) → ℕ → Option (List ℕ) → List ℕ → Reading (List (List ℕ × Plain))
+many_pairs f zero before bs = Ok ([], bs)
+many_pairs f (suc n) before bs = and_then (pair_from f before bs) (λ p rest. and_then (many_pairs f n (Some p.0) rest) (λ ps rest'. Ok (p ∷ ps, rest')))
+
+-- what a head opens. The members are read by f; where there is none, no list or map may open here
+abbrev pub opened : Option (List ℕ → Reading Plain) → ℕ → Head → List ℕ → Reading Plain
+opened f left (whole v) rest = Ok (v, rest)
+opened None left (list_of n) rest = Err (too_deep left)
+opened None left (table_of n) rest = Err (too_deep left)
+opened (Some f) left (list_of n) rest = and_then (many f n rest) (λ vs rest'. Ok (list (plains_of vs), rest'))
+opened (Some f) left (table_of n) rest = and_then (many_pairs f n None rest) (λ ps rest'. Ok (table (plain_pairs_of ps), rest'))
+
+abbrev pub met : Option (List ℕ → Reading Plain) → ℕ → Option (Head × List ℕ) → Reading Plain
+met f left None = Err (no_value left)
+met f left (Some p) = opened f left p.0 p.1
+
+abbrev pub step : Option (List ℕ → Reading Plain) → List ℕ → Reading Plain
+step f bs = met f (length bs) (head_at bs)
+
+-- one value, in which lists and maps may open to this depth
+unfoldable pub read : ℕ → List ℕ → Reading Plain
+read zero bs = step None bs
+read (suc d) bs = step (Some (read d)) bs
+
+-- how the members are read of what opens where lists and maps may open to this depth
+abbrev pub inner : ℕ → Option (List ℕ → Reading Plain)
+inner zero = None
+inner (suc d) = Some (read d)
