@@ -66,16 +66,19 @@ lower_only ds (Err e) = None
 abbrev pub digest_of : List ℕ → Option (List ℕ)
 digest_of ds = lower_only ds (decode_of ds)
 
-abbrev pub fits_file : List ℕ → List ℕ → ℕ × List ℕ → Option (Head × List ℕ)
-fits_file name digest p = if nat_lt p.0 (2 ^ 64) then Some (whole (file name digest p.0), p.1) else None
+abbrev pub fits_length : ℕ × List ℕ → Option (ℕ × List ℕ)
+fits_length p = if nat_lt p.0 (2 ^ 64) then Some p else None
+
+-- the length of a file, and what follows it
+abbrev pub file_length : List ℕ → Option (ℕ × List ℕ)
+file_length bs = option_and_then fits_length (decimal_before 59 bs)
 
 -- after a file's name: the digest and the length of the file
-abbrev pub file_after : List ℕ × List ℕ → Option (Head × List ℕ)
-file_after p =
-    if nat_le 64 (length p.1) then option_and_then (λ digest. option_and_then (fits_file p.0 digest) (decimal_before 59 (drop 64 p.1))) (digest_of (take 64 p.1)) else None
+abbrev pub file_tail : List ℕ → Option ((List ℕ × ℕ) × List ℕ)
+file_tail bs = if nat_le 64 (length bs) then option_and_then (λ digest. option_and_then (λ p. Some ((digest, p.0), p.1)) (file_length (drop 64 bs))) (digest_of (take 64 bs)) else None
 
 abbrev pub file_at : List ℕ → Option (Head × List ℕ)
-file_at bs = option_and_then file_after (counted_text bs)
+file_at bs = option_and_then (λ p. option_and_then (λ q. Some (whole (file p.0 q.0.0 q.0.1), q.1)) (file_tail p.1)) (counted_text bs)
 
 abbrev pub counted : (ℕ → Head) → List ℕ → Option (Head × List ℕ)
 counted h bs = option_and_then (λ p. Some (h p.0, p.1)) (decimal_before 58 bs)

@@ -1,6 +1,7 @@
 //! Values as bytes, and back.
 #![tactic(auto)]
 
+mod head;
 mod number;
 mod write;
 
