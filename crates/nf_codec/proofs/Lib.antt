@@ -3,3 +3,7 @@ pub mod Falls
 pub mod Numbers
 pub mod Texts
 pub mod Heads
+pub mod Series
+pub mod LastKeys
+pub mod Eats
+pub mod Steps

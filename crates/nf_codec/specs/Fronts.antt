@@ -1,9 +1,10 @@
 -- What the readers of heads answer.
-use Rattle.std.specs.Prelude.{◌≡◌, ℕ, ◌+◌, ◌-◌, ◌^◌, ◌<◌, ◌≤◌, min, List, length, take, drop, true, Option, Some, None}
+use Rattle.std.specs.Prelude.{◌≡◌, ℕ, ◌+◌, ◌-◌, ◌^◌, ◌<◌, ◌≤◌, min, List, [], ◌∷◌, length, take, drop, true, Option, Some, None}
 use Rattle.std.specs.Str.{all_ascii_digits}
 use Rattle.std.specs.Str.Parse.{digits_value}
 use denote.Bor.{Bor}
 use Rattle.nf_value.specs.declared.file.Digest.{Digest}
+use Rattle.nf_value.specs.Plain.{Plain}
 use Rattle.nf_value.specs.View.{plain_of}
 use Rattle.nf_codec.specs.declared.head.Head.{Head as CodeHead}
 use Rattle.nf_codec.specs.declared.head.Head.TheVariants.{Whole, List as ListHead, Map}
@@ -48,3 +49,14 @@ pub record IsHeadAt (o : Option (Head × List ℕ)) (bs : List ℕ) (h : CodeHea
 abbrev pub IsHead : Option (Head × List ℕ) → List ℕ → Option (CodeHead × ℕ) → Type 0
 IsHead o bs None = o ≡ None
 IsHead o bs (Some q) = IsHeadAt o bs q.0 q.1
+
+-- a head of the code, as it stands
+abbrev pub head_of : CodeHead → Head
+head_of (Whole v) = whole (plain_of v)
+head_of (ListHead k) = list_of k
+head_of (Map k) = table_of k
+
+-- the key after which the next pair comes
+abbrev pub last_key : Option (List ℕ) → List (List ℕ × Plain) → Option (List ℕ)
+last_key before [] = before
+last_key before (p ∷ ps) = last_key (Some p.0) ps

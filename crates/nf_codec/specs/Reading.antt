@@ -1,9 +1,13 @@
 -- How values are met from the front, a list or map before its members. A fault tells how many bytes were left where its value begins.
-use Rattle.std.specs.Prelude.{ℕ, zero, suc, List, [], ◌∷◌, length, Bool, true, Option, Some, None, if◌then◌else◌, Ok, Err}
+use Rattle.std.specs.Prelude.{◌≡◌, ℕ, zero, suc, ◌+◌, ◌≤◌, drop, List, [], ◌∷◌, length, Bool, true, Option, Some, None, if◌then◌else◌, Ok, Err}
 use Rattle.std.specs.declared.result.Result.{Result}
 use Rattle.std.specs.Ordering.{nat_cmp, is_lt}
 use Rattle.std.specs.Cmp.Lexicographic.{slice_cmp}
 use Rattle.nf_value.specs.Plain.{Plain, null, truth, int, text, file, list, table, plains_of, plain_pairs_of}
+use Rattle.nf_value.specs.View.{plain_of}
+use Rattle.nf_value.specs.declared.value.Value.{Value}
+use Rattle.nf_codec.specs.declared.fault.CodeFault.{CodeFault}
+use Rattle.nf_codec.specs.declared.fault.CodeFault.TheVariants.{NotAValue, TooDeep, Mem}
 use Rattle.nf_codec.specs.Heads.{Head, whole, list_of, table_of, head_at}
 
 pub data ReadFault : Type 0 where
@@ -21,23 +25,31 @@ abbrev pub and_then : {A B : Type 0} → Reading A → (A → List ℕ → Readi
 and_then (Ok p) g = g p.0 p.1
 and_then (Err e) g = Err e
 
--- n values, each read by f
+-- n members, each read by f from what the one before left
+abbrev pub series : {A S : Type 0} → (S → List ℕ → Reading A) → (A → S) → ℕ → S → List ℕ → Reading (List A)
+series f next zero s bs = Ok ([], bs)
+series f next (suc n) s bs = and_then (f s bs) (λ a rest. and_then (series f next n (next a) rest) (λ ms rest'. Ok (a ∷ ms, rest')))
+
+-- n values
 abbrev pub many : (List ℕ → Reading Plain) → ℕ → List ℕ → Reading (List Plain)
-many f zero bs = Ok ([], bs)
-many f (suc n) bs = and_then (f bs) (λ v rest. and_then (many f n rest) (λ vs rest'. Ok (v ∷ vs, rest')))
+many f n bs = series (λ (s : Unit {0}). f) (λ v. tt {0}) n (tt {0}) bs
 
 abbrev pub is_above : Option (List ℕ) → List ℕ → Bool
 is_above None k = true
 is_above (Some j) k = is_lt (slice_cmp nat_cmp j k)
 
+abbrev pub text_of : Head → Option (List ℕ)
+text_of (whole (text t)) = Some t
+text_of _ = None
+
+abbrev pub key_as : Option (List ℕ) → ℕ → Option (List ℕ) → List ℕ → Reading (List ℕ)
+key_as before left None rest = Err (no_value left)
+key_as before left (Some k) rest = if is_above before k then Ok (k, rest) else Err (no_value left)
+
 -- a key: a text above the key before
 abbrev pub key_from : Option (List ℕ) → ℕ → Option (Head × List ℕ) → Reading (List ℕ)
 key_from before left None = Err (no_value left)
-key_from before left (Some p) = as_key p.0 p.1
-  where
-    as_key : Head → List ℕ → Reading (List ℕ)
-    as_key (whole (text k)) rest = if is_above before k then Ok (k, rest) else Err (no_value left)
-    as_key h rest = Err (no_value left)
+key_from before left (Some p) = key_as before left (text_of p.0) p.1
 
 -- a key and its value
 abbrev pub pair_from : (List ℕ → Reading Plain) → Option (List ℕ) → List ℕ → Reading (List ℕ × Plain)
@@ -45,8 +57,7 @@ pair_from f before bs = and_then (key_from before (length bs) (head_at bs)) (λ 
 
 -- n pairs, whose keys rise
 abbrev pub many_pairs : (List ℕ → Reading Plain) → ℕ → Option (List ℕ) → List ℕ → Reading (List (List ℕ × Plain))
-many_pairs f zero before bs = Ok ([], bs)
-many_pairs f (suc n) before bs = and_then (pair_from f before bs) (λ p rest. and_then (many_pairs f n (Some p.0) rest) (λ ps rest'. Ok (p ∷ ps, rest')))
+many_pairs f n before bs = series (pair_from f) (λ p. Some p.0) n before bs
 
 -- what a head opens. The members are read by f; where there is none, no list or map may open here
 abbrev pub opened : Option (List ℕ → Reading Plain) → ℕ → Head → List ℕ → Reading Plain
@@ -72,3 +83,21 @@ read (suc d) bs = step (Some (read d)) bs
 abbrev pub inner : ℕ → Option (List ℕ → Reading Plain)
 inner zero = None
 inner (suc d) = Some (read d)
+
+-- what was read of some bytes, as a call answers it
+abbrev pub ReadsBy : {A B : Type 0} → (B → A) → List ℕ → Reading A → Result (B × ℕ) CodeFault → Type 0
+ReadsBy view bytes (Ok p) (Ok q) = (p.0 ≡ view q.0) × (p.1 ≡ drop q.1 bytes) × (q.1 ≤ length bytes)
+ReadsBy view bytes (Ok p) (Err (NotAValue at)) = ⊥
+ReadsBy view bytes (Ok p) (Err (TooDeep at)) = ⊥
+ReadsBy view bytes (Ok p) (Err Mem) = Unit {0}
+ReadsBy view bytes (Err (no_value k)) (Ok q) = ⊥
+ReadsBy view bytes (Err (no_value k)) (Err (NotAValue at)) = k + at ≡ length bytes
+ReadsBy view bytes (Err (no_value k)) (Err (TooDeep at)) = ⊥
+ReadsBy view bytes (Err (no_value k)) (Err Mem) = Unit {0}
+ReadsBy view bytes (Err (too_deep k)) (Ok q) = ⊥
+ReadsBy view bytes (Err (too_deep k)) (Err (NotAValue at)) = ⊥
+ReadsBy view bytes (Err (too_deep k)) (Err (TooDeep at)) = k + at ≡ length bytes
+ReadsBy view bytes (Err (too_deep k)) (Err Mem) = Unit {0}
+
+abbrev pub Reads : List ℕ → Reading Plain → Result (Value × ℕ) CodeFault → Type 0
+Reads = ReadsBy plain_of

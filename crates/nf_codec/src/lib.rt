@@ -1,8 +1,12 @@
 //! Values as bytes, and back.
 #![tactic(auto)]
 
+mod fault;
 mod head;
 mod number;
+mod read;
 mod write;
 
+pub use fault::CodeFault;
+pub use read::decode;
 pub use write::encode;
