@@ -11,6 +11,6 @@ pub count_pairs-plain_pairs_of : (ps : List (List ℕ × Plain)) → count_pairs
 count_pairs-plain_pairs_of [] = refl
 count_pairs-plain_pairs_of (p ∷ ps) = omega (arith, count_pairs-plain_pairs_of ps)
 
-pub whole : (old mid out rest all : List ℕ) (l n k : ℕ) → out ++ rest ≡ mid ++ all → rest ≡ [] → mid ≡ old ++ head_code (l ∷ []) n → k ≡ n → out ≡ old ++ (head_code (l ∷ []) k ++ all)
+pub whole : (old mid out rest all l : List ℕ) (n k : ℕ) → out ++ rest ≡ mid ++ all → rest ≡ [] → mid ≡ old ++ head_code l n → k ≡ n → out ≡ old ++ (head_code l k ++ all)
 whole old mid out rest all l n k inv none head same =
-    sym (append-nil out) ∙ ap (λ w. out ++ w) (sym none) ∙ inv ∙ ap (λ w. w ++ all) head ∙ append_assoc old (head_code (l ∷ []) n) all ∙ ap (λ m. old ++ (head_code (l ∷ []) m ++ all)) (sym same)
+    sym (append-nil out) ∙ ap (λ w. out ++ w) (sym none) ∙ inv ∙ ap (λ w. w ++ all) head ∙ append_assoc old (head_code l n) all ∙ ap (λ m. old ++ (head_code l m ++ all)) (sym same)

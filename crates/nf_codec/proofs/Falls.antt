@@ -1,5 +1,5 @@
 -- A member has fewer nodes than the list or map that holds it.
-use Rattle.std.proofs.Common.{◌≡◌, ℕ, zero, suc, ◌+◌, ◌<◌, ◌≤◌, List, [], ◌∷◌, length, get_or, map, ap, sym, ◌∙◌, arith}
+use Rattle.std.proofs.Common.{◌≡◌, ℕ, zero, suc, ◌<◌, List, [], ◌∷◌, length, get_or, map, ap, arith}
 use Rattle.nf_value.specs.Plain.{Plain, null, truth, int, text, file, list, table, Plains, no_items, item, PlainPairs, no_pairs, pair, plains_of, plain_pairs_of, nodes, nodes_all, nodes_pairs}
 use Rattle.nf_value.specs.View.{plain_of, pair_of}
 use Rattle.nf_value.specs.declared.value.Value.{Value}

@@ -9,4 +9,4 @@ mod write;
 
 pub use fault::CodeFault;
 pub use read::decode;
-pub use write::encode;
+pub use write::{encode, encode_text};

@@ -1,6 +1,6 @@
 //! The code of a value.
 
-ghost use Rattle.std.specs.Prelude.{◌≡◌, ◌++◌, ◌∷◌, [], OnOk, IfOk};
+ghost use Rattle.std.specs.Prelude.{◌≡◌, ◌++◌, OnOk, IfOk, codes, string_bytes};
 ghost use Rattle.std.specs.Fmt.{signed_decimal};
 ghost use Rattle.nf_value.specs.Plain.{plains_of, plain_pairs_of};
 ghost use Rattle.nf_value.specs.View.{plain_of};
@@ -21,67 +21,80 @@ use std::alloc::Global;
 pub fn encode(alloc: Global, value: &Value) -> Result<Vec<u8>, Mem>
     ensures { IfOk result (λ b. b.items ≡ code (plain_of value.now)) }
 {
-    let mut out = Vec::new(alloc);
+    let mut out = String::new(alloc);
     put(&mut out, value)?;
-    Ok(out)
+    Ok(out.into_bytes())
 }
 
-fn put_number<I: Integer>(out: &mut Vec<u8>, n: I) -> Result<(), Mem>
-    ensures { OnOk result (out.new.items ≡ out.old.items ++ I.text n) }
+/// The code of a value, as [`encode`] gives it, as a text: all that it holds is UTF-8.
+///
+/// # Errors
+///
+/// `Mem` where there is no memory for it.
+pub fn encode_text(alloc: Global, value: &Value) -> Result<Txt, Mem>
+    ensures { IfOk result (λ t. t ≡ code (plain_of value.now)) }
+{
+    let mut out = String::new(alloc);
+    put(&mut out, value)?;
+    Ok(Txt::of(out))
+}
+
+fn put_number<I: Integer>(out: &mut String, n: I) -> Result<(), Mem>
+    ensures { OnOk result (string_bytes out.new ≡ string_bytes out.old ++ I.text n) }
 {
     let mut buffer = Buffer::new();
-    out.extend_from_slice(buffer.format(n).as_bytes())?;
+    out.push_str(buffer.format(n))?;
     Ok(())
 }
 
-fn put_head(out: &mut Vec<u8>, letter: u8, count: usize) -> Result<(), Mem>
-    ensures { OnOk result (out.new.items ≡ out.old.items ++ head_code (letter ∷ []) count) }
+fn put_head(out: &mut String, letter: &str, count: usize) -> Result<(), Mem>
+    ensures { OnOk result (string_bytes out.new ≡ string_bytes out.old ++ head_code letter.now count) }
 {
-    out.push(letter)?;
+    out.push_str(letter)?;
     put_number(out, count)?;
-    out.extend_from_slice(b":")?;
+    out.push_str(":")?;
     Ok(())
 }
 
-fn put_int(out: &mut Vec<u8>, number: i64) -> Result<(), Mem>
-    ensures { OnOk result (out.new.items ≡ out.old.items ++ int_code (signed_decimal number)) }
+fn put_int(out: &mut String, number: i64) -> Result<(), Mem>
+    ensures { OnOk result (string_bytes out.new ≡ string_bytes out.old ++ int_code (signed_decimal number)) }
 {
-    out.extend_from_slice(b"i")?;
+    out.push_str("i")?;
     put_number(out, number)?;
-    out.extend_from_slice(b";")?;
+    out.push_str(";")?;
     Ok(())
 }
 
-fn put_text(out: &mut Vec<u8>, text: &Txt) -> Result<(), Mem>
-    ensures { OnOk result (out.new.items ≡ out.old.items ++ text_code text.now) }
+fn put_text(out: &mut String, text: &Txt) -> Result<(), Mem>
+    ensures { OnOk result (string_bytes out.new ≡ string_bytes out.old ++ text_code text.now) }
 {
-    let bytes = text.as_str().as_bytes();
-    put_head(out, b's', bytes.len())?;
-    out.extend_from_slice(bytes)?;
+    let text = text.as_str();
+    put_head(out, "s", text.len())?;
+    out.push_str(text)?;
     Ok(())
 }
 
-fn put_file(out: &mut Vec<u8>, file: &FileRef) -> Result<(), Mem>
-    ensures { OnOk result (out.new.items ≡ out.old.items ++ file_code file.now.name file.now.digest.0 file.now.len) }
+fn put_file(out: &mut String, file: &FileRef) -> Result<(), Mem>
+    ensures { OnOk result (string_bytes out.new ≡ string_bytes out.old ++ file_code file.now.name file.now.digest.0 file.now.len) }
 {
-    let bytes = file.name.as_str().as_bytes();
-    put_head(out, b'p', bytes.len())?;
-    out.extend_from_slice(bytes)?;
+    let name = file.name.as_str();
+    put_head(out, "p", name.len())?;
+    out.push_str(name)?;
     let digits = hex::encode(*out.allocator(), file.digest.0.as_slice())?;
-    out.extend_from_slice(digits.as_bytes())?;
+    out.push_str(digits.as_str())?;
     put_number(out, file.len)?;
-    out.extend_from_slice(b";")?;
+    out.push_str(";")?;
     Ok(())
 }
 
 #[cycle(put)]
-fn put(out: &mut Vec<u8>, value: &Value) -> Result<(), Mem>
-    ensures { OnOk result (out.new.items ≡ out.old.items ++ code (plain_of value.now)) }
+fn put(out: &mut String, value: &Value) -> Result<(), Mem>
+    ensures { OnOk result (string_bytes out.new ≡ string_bytes out.old ++ code (plain_of value.now)) }
 {
     match value {
-        Value::Null => out.extend_from_slice(b"n")?,
-        Value::Truth(true) => out.extend_from_slice(b"t")?,
-        Value::Truth(false) => out.extend_from_slice(b"f")?,
+        Value::Null => out.push_str("n")?,
+        Value::Truth(true) => out.push_str("t")?,
+        Value::Truth(false) => out.push_str("f")?,
         Value::Int(number) => put_int(out, *number)?,
         Value::Text(text) => put_text(out, text)?,
         Value::File(file) => put_file(out, file)?,
@@ -92,10 +105,10 @@ fn put(out: &mut Vec<u8>, value: &Value) -> Result<(), Mem>
 }
 
 #[cycle(put)]
-fn put_all(out: &mut Vec<u8>, list: &Vals) -> Result<(), Mem>
-    ensures { OnOk result (out.new.items ≡ out.old.items ++ (head_code (108 ∷ []) (count (plains_of list.now)) ++ all_code (plains_of list.now))) }
+fn put_all(out: &mut String, list: &Vals) -> Result<(), Mem>
+    ensures { OnOk result (string_bytes out.new ≡ string_bytes out.old ++ (head_code (codes "l") (count (plains_of list.now)) ++ all_code (plains_of list.now))) }
 {
-    put_head(out, b'l', list.len())?;
+    put_head(out, "l", list.len())?;
     for item in list.items() {
         put(out, item)?;
     }
@@ -103,10 +116,10 @@ fn put_all(out: &mut Vec<u8>, list: &Vals) -> Result<(), Mem>
 }
 
 #[cycle(put)]
-fn put_pairs(out: &mut Vec<u8>, pairs: &Pairs) -> Result<(), Mem>
-    ensures { OnOk result (out.new.items ≡ out.old.items ++ (head_code (109 ∷ []) (count_pairs (plain_pairs_of pairs.now)) ++ pairs_code (plain_pairs_of pairs.now))) }
+fn put_pairs(out: &mut String, pairs: &Pairs) -> Result<(), Mem>
+    ensures { OnOk result (string_bytes out.new ≡ string_bytes out.old ++ (head_code (codes "m") (count_pairs (plain_pairs_of pairs.now)) ++ pairs_code (plain_pairs_of pairs.now))) }
 {
-    put_head(out, b'm', pairs.len())?;
+    put_head(out, "m", pairs.len())?;
     for (key, item) in pairs.items() {
         put_text(out, key)?;
         put(out, item)?;

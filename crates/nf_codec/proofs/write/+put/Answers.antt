@@ -1,4 +1,4 @@
-use Rattle.std.proofs.Common.{◌≡◌, ap, sym, ◌∙◌, length, map, arith}
+use Rattle.std.proofs.Common.{ap, sym, ◌∙◌, length, map, arith, codes}
 use Rattle.std.proofs.lemmas.List.{at_drop_all}
 use Rattle.nf_value.specs.Plain.{plains_of, plain_pairs_of, nodes}
 use Rattle.nf_value.specs.View.{plain_of, pair_of}
@@ -15,7 +15,7 @@ put_all-returns t c =
     let xs = c.items-item-items.result.now in
     let is = c.items-item-items.ensures in
     let none = at_drop_all (λ ys. all_code (plains_of (map plain_of ys))) xs c.loop-item.item-index c.loop-item-test.false in
-    rw (← is) (whole _ _ _ _ _ 108 c.len.result _ c.loop-item.invariant none c.in_ok-put_head.ensures (count-plains_of (map plain_of xs) ∙ ap length is ∙ sym c.len.ensures))
+    rw (← is) (whole _ _ _ _ _ (codes "l") c.len.result _ c.loop-item.invariant none c.in_ok-put_head.ensures (count-plains_of (map plain_of xs) ∙ ap length is ∙ sym c.len.ensures))
 
 pub put_pairs-put-requires : goal.put_pairs-put-requires
 put_pairs-put-requires t c = (omega (arith, c.decreases, pair_falls c.items-key-items.result.now c.args.pairs.now c.loop-key.key-index c.loop-key-item.result c.items-key-items.ensures.items c.loop-key-test.true c.loop-key-item.is), tt)
@@ -25,7 +25,7 @@ put_pairs-returns t c =
     let xs = c.items-key-items.result.now in
     let is = c.items-key-items.ensures.items in
     let none = at_drop_all (λ ys. pairs_code (plain_pairs_of (map pair_of ys))) xs c.loop-key.key-index c.loop-key-test.false in
-    rw (← is) (whole _ _ _ _ _ 109 c.len.result _ c.loop-key.invariant none c.in_ok-put_head.ensures (count_pairs-plain_pairs_of (map pair_of xs) ∙ ap length is ∙ sym c.len.ensures))
+    rw (← is) (whole _ _ _ _ _ (codes "m") c.len.result _ c.loop-key.invariant none c.in_ok-put_head.ensures (count_pairs-plain_pairs_of (map pair_of xs) ∙ ap length is ∙ sym c.len.ensures))
 
 pub put-put_all-requires : goal.put-put_all-requires
 put-put_all-requires t c = (let is = ap (λ v. nodes (plain_of v)) c.in-List.is in omega (arith, c.decreases, is), tt)
