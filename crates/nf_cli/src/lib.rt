@@ -13,3 +13,6 @@ mod writes;
 pub use ends::{End, ItemCause, NfEnd};
 pub use run::SCRIPT_LIMIT;
 pub use top::nf_main;
+
+#[cfg(test)]
+mod tests;

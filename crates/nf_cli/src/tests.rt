@@ -1,0 +1,514 @@
+//! Whole calls over files and a sink in memory.
+
+use crate::{End, ItemCause, NfEnd, nf_main};
+use nf_host::{MemHost, MemSink};
+use std::alloc::{AllocError, Global};
+use std::fmt::Write;
+use std::test::Fail;
+
+/// The words of most calls.
+const RUN: &[&str] = &["run", "a.nf"];
+
+const EXAMPLE: &str = "workflow { channel.of(3, 1, 2).map { it * 10 }.view() }";
+
+const OUTPUT: &str = "10\n20\n30\nexecuted 0 cached 0\n";
+
+const OVERFLOW: &str = "workflow { channel.of(9223372036854775807).map { it + 1 }.view() }";
+
+const NO_NUMBERS: &str = "workflow { channel.empty().view() }";
+
+const SCRIPT_FILE: &str =
+    "#!/usr/bin/env pasmovuk\r\n\r\nworkflow {\r\n\tchannel.of(3,\r\n\t\t1, 2)\r\n\t\t.map { it *\r\n10 }\r\n\t\t.view()\r\n}\r\n\r\n";
+
+const DEEP_FAULT: &str =
+    "\nworkflow {\r\n\tchannel.of(9223372036854775807)\r\n\t\t.map { it + 1 }\r\n\t\t.view()\r\n}\r\n";
+
+const DEEP_BREAK: &str =
+    "#!a\nworkflow {\n\tchannel.of(1)\n\t\t.map { it\n\t\t* 10 }\n\t\t.view()\n}\n";
+
+/// The most bytes of a script.
+const MOST_BYTES: usize = 1_048_576;
+
+/// The words, the text of `a.nf` where there is one, the number of the read that fails, the number of the write that
+/// fails with the count of bytes that it takes, the status and end, and all that is written.
+type Row = (
+    &'static [&'static str],
+    Option<&'static str>,
+    Option<u64>,
+    Option<(u64, u64)>,
+    &'static str,
+    &'static str,
+);
+
+const ROWS: [Row; 35] = [
+    // Runs that end well, and the order of values.
+    (RUN, Some(EXAMPLE), None, None, "0 Ok", OUTPUT),
+    (RUN, Some(SCRIPT_FILE), None, None, "0 Ok", OUTPUT),
+    (
+        RUN,
+        Some("workflow { channel.of(3, 1, 2).map { it - 2 }.view() }"),
+        None,
+        None,
+        "0 Ok",
+        "-1\n0\n1\nexecuted 0 cached 0\n",
+    ),
+    (
+        RUN,
+        Some("workflow { channel.of(10, 9, 10).map { it }.view() }"),
+        None,
+        None,
+        "0 Ok",
+        "9\n10\n10\nexecuted 0 cached 0\n",
+    ),
+    (
+        RUN,
+        Some("workflow { channel.of(1, 2, 3).map { 0 - it * it + 1 }.view() }"),
+        None,
+        None,
+        "0 Ok",
+        "-8\n-3\n0\nexecuted 0 cached 0\n",
+    ),
+    (
+        RUN,
+        Some("workflow { channel.of(9223372036854775807).map { 0 - it - 1 }.view() }"),
+        None,
+        None,
+        "0 Ok",
+        "-9223372036854775808\nexecuted 0 cached 0\n",
+    ),
+    // Items with a fault: the first item in the text, and its first fault from the left, operands before their mark.
+    (
+        RUN,
+        Some(OVERFLOW),
+        None,
+        None,
+        "1 ItemFault at 1:53",
+        "error: 1:53: Overflow on 9223372036854775807\n",
+    ),
+    (
+        RUN,
+        Some(DEEP_FAULT),
+        None,
+        None,
+        "1 ItemFault at 4:13",
+        "error: 4:13: Overflow on 9223372036854775807\n",
+    ),
+    (
+        RUN,
+        Some(
+            "workflow { channel.of(5, 9223372036854775806, 9223372036854775807).map { it + 2 }.view() }",
+        ),
+        None,
+        None,
+        "1 ItemFault at 1:77",
+        "error: 1:77: Overflow on 9223372036854775806\n",
+    ),
+    (
+        RUN,
+        Some(
+            "workflow { channel.of(7, 3).map { it * 9223372036854775807 + it * 9223372036854775806 }.view() }",
+        ),
+        None,
+        None,
+        "1 ItemFault at 1:38",
+        "error: 1:38: Overflow on 7\n",
+    ),
+    (
+        RUN,
+        Some("workflow { channel.of(1).map { 0 - 2 - it * 9223372036854775807 }.view() }"),
+        None,
+        None,
+        "1 ItemFault at 1:38",
+        "error: 1:38: Overflow on 1\n",
+    ),
+    (
+        RUN,
+        Some("workflow { channel.of(1).map { 0 - 2 - 2 * 9223372036854775807 }.view() }"),
+        None,
+        None,
+        "1 ItemFault at 1:42",
+        "error: 1:42: Overflow on 1\n",
+    ),
+    // Texts that aren't of the form.
+    (
+        RUN,
+        Some(NO_NUMBERS),
+        None,
+        None,
+        "3 Unbuilt at 1:20",
+        "error: 1:20: Unbuilt\n",
+    ),
+    (
+        RUN,
+        Some(""),
+        None,
+        None,
+        "3 Unbuilt at 1:1",
+        "error: 1:1: Unbuilt\n",
+    ),
+    (
+        RUN,
+        Some(DEEP_BREAK),
+        None,
+        None,
+        "3 Unbuilt at 5:3",
+        "error: 5:3: Unbuilt\n",
+    ),
+    (
+        RUN,
+        Some("workflow { channel.of(-1).map { it }.view() }"),
+        None,
+        None,
+        "3 Unbuilt at 1:23",
+        "error: 1:23: Unbuilt\n",
+    ),
+    (
+        RUN,
+        Some("workflow { channel.of(9223372036854775808).map { it }.view() }"),
+        None,
+        None,
+        "3 Unbuilt at 1:23",
+        "error: 1:23: Unbuilt\n",
+    ),
+    // Words.
+    (RUN, None, None, None, "3 NoScript", "error: NoScript\n"),
+    (
+        &["run", "b.nf"],
+        Some(EXAMPLE),
+        None,
+        None,
+        "3 NoScript",
+        "error: NoScript\n",
+    ),
+    (
+        &["run"],
+        Some(EXAMPLE),
+        None,
+        None,
+        "2 Usage NoValue at word 1",
+        "error: usage: NoValue at word 1\n",
+    ),
+    (
+        &[],
+        Some(EXAMPLE),
+        None,
+        None,
+        "2 Usage NoCommand",
+        "error: usage: NoCommand\n",
+    ),
+    (
+        &["go", "a.nf"],
+        Some(EXAMPLE),
+        None,
+        None,
+        "2 Usage UnknownWord at word 0",
+        "error: usage: UnknownWord at word 0\n",
+    ),
+    (
+        &["run", "-a.nf"],
+        Some(EXAMPLE),
+        None,
+        None,
+        "2 Usage UnknownWord at word 1",
+        "error: usage: UnknownWord at word 1\n",
+    ),
+    (
+        &["run", "a.nf", "-resume"],
+        Some(EXAMPLE),
+        None,
+        None,
+        "2 Usage UnknownWord at word 2",
+        "error: usage: UnknownWord at word 2\n",
+    ),
+    (
+        &["run", "a.nf", "a.nf"],
+        Some(EXAMPLE),
+        None,
+        None,
+        "2 Usage UnknownWord at word 2",
+        "error: usage: UnknownWord at word 2\n",
+    ),
+    // A host that fails; words that are wrong ask nothing of it.
+    (
+        RUN,
+        Some(EXAMPLE),
+        Some(0),
+        None,
+        "4 HostFault",
+        "error: HostFault\n",
+    ),
+    (
+        RUN,
+        None,
+        Some(0),
+        None,
+        "4 HostFault",
+        "error: HostFault\n",
+    ),
+    (RUN, Some(EXAMPLE), Some(1), None, "0 Ok", OUTPUT),
+    (
+        &["run"],
+        Some(EXAMPLE),
+        Some(0),
+        None,
+        "2 Usage NoValue at word 1",
+        "error: usage: NoValue at word 1\n",
+    ),
+    // A sink that fails in an error line: the end stays.
+    (
+        RUN,
+        Some(OVERFLOW),
+        None,
+        Some((0, 0)),
+        "1 ItemFault at 1:53",
+        "",
+    ),
+    (
+        RUN,
+        Some(NO_NUMBERS),
+        None,
+        Some((0, 9)),
+        "3 Unbuilt at 1:20",
+        "error: 1:",
+    ),
+    (
+        RUN,
+        None,
+        None,
+        Some((0, 100)),
+        "3 NoScript",
+        "error: NoScript\n",
+    ),
+    (&[], None, None, Some((0, 5)), "2 Usage NoCommand", "error"),
+    (
+        RUN,
+        Some(EXAMPLE),
+        Some(0),
+        Some((0, 1)),
+        "4 HostFault",
+        "e",
+    ),
+    (
+        RUN,
+        Some(OVERFLOW),
+        None,
+        Some((1, 0)),
+        "1 ItemFault at 1:53",
+        "error: 1:53: Overflow on 9223372036854775807\n",
+    ),
+];
+
+#[test]
+fn whole_calls(rt: HostRuntime) -> Result<(), Fail> {
+    for (words, script, failing_read, failing_write, end, written) in ROWS {
+        let mut host = host_with(rt.alloc(), script.map(|text| text.as_bytes()))?;
+        if let Some(read) = failing_read {
+            host.fail_at(read)?;
+        }
+        let mut sink = MemSink::new(rt.alloc());
+        if let Some((write, front)) = failing_write {
+            sink.fail_at(write, front)?;
+        }
+        let found = called(rt.alloc(), words, &mut host, &mut sink)?;
+        assert_eq!(rt; found.as_str(), end, "{words:?} over {script:?}");
+        assert_eq!(rt;
+            sink.written(),
+            written.as_bytes(),
+            "{words:?} over {script:?}"
+        );
+    }
+    Ok(())
+}
+
+/// A sink that fails in the report or in the summary line keeps a front of the output.
+#[test]
+fn fronts_of_the_output(rt: HostRuntime) -> Result<(), Fail> {
+    for (write, front, kept) in [
+        (0, 0, 0),
+        (0, 1, 1),
+        (0, 8, 8),
+        (0, 9, 9),
+        (0, 99, 9),
+        (1, 0, 9),
+        (1, 1, 10),
+        (1, 19, 28),
+        (1, 20, 29),
+        (1, 99, 29),
+    ] {
+        let mut host = host_with(rt.alloc(), Some(EXAMPLE.as_bytes()))?;
+        let mut sink = MemSink::new(rt.alloc());
+        sink.fail_at(write, front)?;
+        let found = called(rt.alloc(), RUN, &mut host, &mut sink)?;
+        assert_eq!(rt;
+            found.as_str(),
+            "4 SinkFault",
+            "write {write}, front {front}"
+        );
+        assert_eq!(rt;
+            Some(sink.written()),
+            OUTPUT.as_bytes().get(..kept),
+            "write {write}, front {front}"
+        );
+    }
+    Ok(())
+}
+
+/// Each proper front of the example breaks off at its end, or at the word that it cuts.
+#[test]
+fn fronts_of_a_script(rt: HostRuntime) -> Result<(), Fail> {
+    for end in 0..EXAMPLE.len() {
+        let front = EXAMPLE.as_bytes().get(..end).unwrap_or(&[]);
+        let col = match end {
+            1..8 => 1,
+            12..18 => 12,
+            20 => 20,
+            32..34 => 32,
+            38 => 38,
+            48..51 => 48,
+            _ => end + 1,
+        };
+        let mut host = host_with(rt.alloc(), Some(front))?;
+        let mut sink = MemSink::new(rt.alloc());
+        let found = called(rt.alloc(), RUN, &mut host, &mut sink)?;
+        let want = format!(in rt.alloc(); "3 Unbuilt at 1:{col}")?;
+        let line = format!(in rt.alloc(); "error: 1:{col}: Unbuilt\n")?;
+        assert_eq!(rt; found.as_str(), want.as_str());
+        assert_eq!(rt; sink.written(), line.as_bytes());
+    }
+    Ok(())
+}
+
+/// The text before the repeated part, the part, how often it stands, the text after it, and the status and end.
+type Limit = (
+    &'static str,
+    &'static str,
+    usize,
+    &'static str,
+    &'static str,
+);
+
+const LIMITS: [Limit; 9] = [
+    (
+        "workflow { channel.of(1",
+        ",1",
+        9_999,
+        ").map { it }.view() }",
+        "0 Ok",
+    ),
+    (
+        "workflow { channel.of(1",
+        ",1",
+        10_000,
+        ").map { it }.view() }",
+        "3 Unbuilt at 1:20023",
+    ),
+    (
+        "workflow { channel.of(1).map { it",
+        "+1",
+        255,
+        " }.view() }",
+        "0 Ok",
+    ),
+    (
+        "workflow { channel.of(1).map { it",
+        "+1",
+        256,
+        " }.view() }",
+        "3 Unbuilt at 1:544",
+    ),
+    (
+        "workflow { channel.of(1).map { it",
+        "*1",
+        255,
+        " }.view() }",
+        "0 Ok",
+    ),
+    (
+        "workflow { channel.of(1).map { it",
+        "*1",
+        256,
+        " }.view() }",
+        "3 Unbuilt at 1:544",
+    ),
+    (EXAMPLE, " ", MOST_BYTES - 55, "", "0 Ok"),
+    (EXAMPLE, " ", MOST_BYTES - 55, "\n", "3 Unbuilt at 1:1"),
+    ("", " ", MOST_BYTES, "", "3 Unbuilt at 1:1048577"),
+];
+
+#[test]
+fn limits(rt: HostRuntime) -> Result<(), Fail> {
+    for (before, part, count, after, end) in LIMITS {
+        let mut text = String::from_str(rt.alloc(), before)?;
+        for _ in 0..count {
+            text.push_str(part)?;
+        }
+        text.push_str(after)?;
+        let mut host = host_with(rt.alloc(), Some(text.as_bytes()))?;
+        let mut sink = MemSink::new(rt.alloc());
+        let found = called(rt.alloc(), RUN, &mut host, &mut sink)?;
+        assert_eq!(rt; found.as_str(), end, "{before}, {count} times {part:?}");
+    }
+    Ok(())
+}
+
+/// As many numbers as a script may have, greatest first, are written least first.
+#[test]
+fn most_numbers(rt: HostRuntime) -> Result<(), Fail> {
+    let mut text = String::from_str(rt.alloc(), "workflow { channel.of(10000")?;
+    let mut output = String::new(rt.alloc());
+    for number in 1..10_000u32 {
+        write!(text, ", {}", 10_000 - number)?;
+        writeln!(output, "{number}0")?;
+    }
+    text.push_str(").map { it * 10 }.view() }")?;
+    output.push_str("100000\nexecuted 0 cached 0\n")?;
+    let mut host = host_with(rt.alloc(), Some(text.as_bytes()))?;
+    let mut sink = MemSink::new(rt.alloc());
+    let found = called(rt.alloc(), RUN, &mut host, &mut sink)?;
+    assert_eq!(rt; found.as_str(), "0 Ok");
+    assert_eq!(rt; sink.written(), output.as_bytes());
+    Ok(())
+}
+
+/// A host with this text at `a.nf`, where there is one.
+fn host_with(alloc: Global, script: Option<&[u8]>) -> Result<MemHost, Fail> {
+    let mut host = MemHost::new(alloc);
+    if let Some(text) = script {
+        host.put("a.nf", text)?;
+    }
+    Ok(host)
+}
+
+/// Makes the call, and gives its status and end as text.
+fn called(
+    alloc: Global,
+    words: &[&str],
+    host: &mut MemHost,
+    sink: &mut MemSink,
+) -> Result<String, Fail> {
+    let mut list = Vec::new(alloc);
+    for word in words {
+        list.push(String::from_str(alloc, word)?)?;
+    }
+    let NfEnd { status, end } = nf_main(alloc, &list, host, sink);
+    let mut out = String::new(alloc);
+    write!(out, "{status} ")?;
+    show_end(&mut out, &end)?;
+    Ok(out)
+}
+
+fn show_end(out: &mut String, end: &End) -> Result<(), AllocError> {
+    match end {
+        End::Ok => write!(out, "Ok"),
+        End::ItemFault {
+            place,
+            fault: ItemCause::Eval { .. },
+        } => write!(out, "ItemFault at {place}"),
+        End::Usage(fault) => write!(out, "Usage {fault}"),
+        End::NoScript => write!(out, "NoScript"),
+        End::Unbuilt { place } => write!(out, "Unbuilt at {place}"),
+        End::HostFault => write!(out, "HostFault"),
+        End::SinkFault => write!(out, "SinkFault"),
+        End::Mem => write!(out, "Mem"),
+    }
+}
