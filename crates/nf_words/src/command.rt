@@ -7,17 +7,17 @@ use crate::fault::UsageFault;
 use nf_value::{Mem, Txt};
 use std::alloc::Global;
 
-/// What is to be done.
+/// What a command line asks for (own).
 #[derive(Drop)]
 pub enum Command {
     /// `run FILE`: run the script of that file.
     Run(RunWords),
 }
 
-/// The words of `run`.
+/// What the words of `run` say (own).
 #[derive(Drop)]
 pub struct RunWords {
-    /// The path of the script.
+    /// The path of the script, as it was given. It doesn't begin with `-`, and may be empty.
     pub file: Txt,
 }
 

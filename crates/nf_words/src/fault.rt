@@ -7,7 +7,8 @@ ghost use Rattle.nf_words.specs.declared.fault.UsageFault.TheVariants.{Mem as No
 use nf_value::Mem;
 use std::fmt;
 
-/// What is wrong with a command line (own). Words are numbered from 0, without the program's name.
+/// What is wrong with a command line (own). Words are numbered from 0, without the program's name. Printed by its name, and
+/// ` at word N` after it where a word is meant.
 #[derive(Debug, Clone, Copy, PartialEq, Eq)]
 pub enum UsageFault {
     /// There are no words.

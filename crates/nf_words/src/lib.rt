@@ -3,6 +3,8 @@
 
 mod command;
 mod fault;
+#[cfg(test)]
+mod tests;
 
 pub use command::{Command, RunWords, read_words};
 pub use fault::UsageFault;
