@@ -2,5 +2,7 @@
 #![tactic(auto)]
 
 mod sums;
+#[cfg(test)]
+mod tests;
 
 pub use sums::sum;

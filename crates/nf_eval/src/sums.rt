@@ -8,9 +8,15 @@ ghost use Rattle.nf_eval.specs.Sum.{sum_of, applied};
 use nf_ast::{BinaryMark, Expr};
 use nf_value::{EvalFault, EvalKind, Place};
 
-/// The value of a sum (numbers, `it`, `+`, `-`, `*`) where `it` is a number, or its first fault from left to
-/// right, operands before their mark. A result that leaves 64 signed bits is Overflow, at the mark's place
-/// (Nextflow reference documentation, "Operators", within 64 bits: own).
+/// The value of a sum (numbers, `it`, `+`, `-` and `*`) where `it` is a number of 64 signed bits (Nextflow reference
+/// documentation, "Syntax", "Binary expressions"; that a number has 64 bits and doesn't wrap is this project's own
+/// choice). Takes no memory.
+///
+/// # Errors
+///
+/// `Overflow` exactly where a result of `+`, `-` or `*` on the way leaves 64 signed bits, also where the whole would
+/// fit again. It has the place of that mark. Of several the first counts: the left operand is taken before the right
+/// one, and both before their mark (own).
 pub fn sum(expr: &Expr, it: i64) -> Result<i64, EvalFault>
     requires { is_sum (view expr.now) ≡ true }
     ensures { result ≡ sum_of (view expr.now) it }
