@@ -10,28 +10,28 @@ ghost use Rattle.nf_core.specs.Outcome.{Chained};
 use nf_value::{EvalFault, EvalRefusal, Mem, Vals, Value};
 use std::alloc::{AllocFailed, Global};
 
-/// What answers the items of an operator.
+/// What answers the items of an operator (own). The answer is determined by the rules and the item alone.
 pub trait Rules {
     /// The answer to an item: its image, or its fault.
     ghost gives: { Self → Plain → Answered Plain };
 
-    /// The items that are answered.
+    /// The items that are answered. No other item may be given.
     ghost takes: { Self → Plain → Type 0 };
 
-    /// Answers an item.
+    /// The image of an item that the rules take.
     ///
     /// # Errors
     ///
-    /// `Fault` exactly where the answer is that fault, but for `Mem`, where there is no memory for the image.
+    /// `Fault` with the item's fault exactly where it has one, but for `Mem`, where there was no memory.
     fn gives(&self, alloc: Global, item: &Value) -> Result<Value, EvalRefusal>
         requires { takes self.now (plain_of item.now) }
         ensures { Answers (gives self.now (plain_of item.now)) result };
 }
 
-/// Why a chain has no images.
+/// Why a chain has no images (own).
 #[derive(Drop)]
 pub enum ChainFault {
-    /// The first item that has a fault, with its first fault.
+    /// The first item of the list that has a fault, and the fault that its rules answer.
     Item { item: Value, fault: EvalFault },
     /// Want of memory.
     Mem,
@@ -57,12 +57,13 @@ impl<T: Drop> From<AllocFailed<T>> for ChainFault {
     }
 }
 
-/// The images of the items, in their order (Nextflow reference documentation, "Operators", `map`).
+/// The image of each item, in the order of the items (Nextflow reference documentation, "Operators", `map`). The rules
+/// have to take each item.
 ///
 /// # Errors
 ///
-/// `Item` exactly where an item's answer is a fault, with the first such item of the list; `Mem` where there is
-/// no memory for an image.
+/// `Item` exactly where some item has a fault, with the first such item of the list and its fault; `Mem` where there
+/// is no memory for an image or for a copy of that item. No image comes with an error.
 pub fn chain<R: Rules>(alloc: Global, items: &Vals, rules: &R) -> Result<Vals, ChainFault>
     requires { AreTaken (R.takes rules.now) items.now }
     ensures { Chained (images (R.gives rules.now) items.now) result }

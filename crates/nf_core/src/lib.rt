@@ -2,5 +2,7 @@
 #![tactic(auto)]
 
 mod chains;
+#[cfg(test)]
+mod tests;
 
 pub use chains::{ChainFault, Rules, chain};
