@@ -8,17 +8,20 @@ ghost use Rattle.nf_ast.specs.Chain.{chain_of, called as called_of, called_with 
 use crate::expr::{Closure, Expr, Stmt};
 use crate::script::{Script, Top, Workflow};
 
-/// The parts of `workflow { channel.of(NUMBER {, NUMBER}).map { SUM }.view() }` that differ from script to script.
+/// The parts of `workflow { channel.of(NUMBER {, NUMBER}).map { SUM }.view() }` that differ from script to script (own; Nextflow
+/// reference documentation, "Channel factories", `of`, and "Operators", `map` and `view`).
 #[derive(Clone, Copy)]
 pub struct Chain<'a> {
-    /// The numbers of `of`, each an `Expr::Number`.
+    /// The numbers of `of`, each an `Expr::Number`, in their order. There may be none.
     pub numbers: &'a [Expr],
-    /// The sum of `map`: numbers, `it`, `+`, `-` and `*`.
+    /// The sum of `map`: an expression of numbers, `it`, `+`, `-` and `*`.
     pub sum: &'a Expr,
 }
 
 impl Script {
-    /// The parts of the chain that the script is, if it is one.
+    /// The parts of the chain that the script is. `None` exactly where it isn't one: another count of workflows or of
+    /// statements than one, another name, an argument of `view`, another expression than a number in `of`, or another one
+    /// than a sum in `map`. The places don't matter. Takes no memory.
     #[tactic(auto, unfolding(crate::specs::Chain::chain_of))]
     pub fn chain(&self) -> Option<Chain<'_>>
         ensures parts { option_map (λ c. (views c.numbers.now, view c.sum.now)) result ≡ chain_of (view_script self.now) }

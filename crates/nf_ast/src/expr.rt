@@ -7,57 +7,62 @@ ghost use Rattle.nf_ast.specs.View.{view, views, view_stmt, view_stmts, view_clo
 use nf_value::{Mem, Place, Txt};
 use std::alloc::Global;
 
-/// The mark between two operands.
+/// The mark between two operands (Nextflow reference documentation, "Syntax", "Binary expressions"; these three are built).
 #[derive(Debug, Clone, Copy, PartialEq, Eq)]
 pub enum BinaryMark {
-    /// `+`
+    /// `+`: addition.
     Plus,
-    /// `-`
+    /// `-`: subtraction.
     Minus,
-    /// `*`
+    /// `*`: multiplication.
     Times,
 }
 
-/// An expression.
+/// An expression (Nextflow reference documentation, "Syntax", "Expressions"; these kinds are built, and the places are this
+/// project's own). Contracts see its `Tree`, by `view`.
 #[cycle(tree)]
 #[derive(Drop)]
 pub enum Expr {
-    /// A number, with the place of its first digit.
+    /// A number of 64 signed bits, with the place of its first digit.
     Number(Place, i64),
-    /// A name.
+    /// A name, with the place of its first letter.
     Name(Place, Txt),
-    /// Two operands, with their mark and its place.
+    /// Two operands, left and right, with their mark and its place.
     Binary(Place, BinaryMark, Box<Expr>, Box<Expr>),
     /// `e.name`, with the place of the name.
     Property(Place, Box<Expr>, Txt),
     /// `e(..)`, with the place of the `(`.
     Call(Place, Box<Expr>, Vec<Expr>),
-    /// `e { .. }`: a call with a closure after it.
+    /// `e { .. }`: a call with no arguments but the closure after it.
     CallWith(Box<Expr>, Closure),
 }
 
-/// A closure, with the place of its `{`.
+/// A closure without names for its parameters (Nextflow reference documentation, "Syntax", "Closure"). Contracts see its
+/// `Tree`, by `view_closure`.
 #[cycle(tree)]
 #[derive(Drop)]
 pub struct Closure {
+    /// The place of its `{`.
     pub place: Place,
+    /// Its statements, in their order.
     pub body: Vec<Stmt>,
 }
 
-/// A statement.
+/// A statement (Nextflow reference documentation, "Syntax", "Statements"; this kind is built). Contracts see its `Tree`, by
+/// `view_stmt`.
 #[cycle(tree)]
 #[derive(Drop)]
 pub enum Stmt {
-    /// An expression.
+    /// An expression that stands alone.
     Expr(Expr),
 }
 
 impl Expr {
-    /// Two operands and the mark between them.
+    /// Two operands and the mark between them, which stands at `place`. Takes memory for two nodes.
     ///
     /// # Errors
     ///
-    /// `Mem` where there is no memory for the node.
+    /// `Mem` where there is no memory for them.
     pub fn binary(
         alloc: Global,
         place: Place,
@@ -72,7 +77,7 @@ impl Expr {
         Ok(Expr::Binary(place, mark, left, right))
     }
 
-    /// A property of an expression.
+    /// The property `name` of an expression; the name stands at `place`. Takes memory for one node.
     ///
     /// # Errors
     ///
@@ -84,7 +89,7 @@ impl Expr {
         Ok(Expr::Property(place, of, name))
     }
 
-    /// A call with its arguments.
+    /// A call of an expression with its arguments, in their order; its `(` stands at `place`. Takes memory for one node.
     ///
     /// # Errors
     ///
@@ -96,7 +101,7 @@ impl Expr {
         Ok(Expr::Call(place, of, args))
     }
 
-    /// A call with a closure after it.
+    /// A call of an expression with the closure that stands after it. Takes memory for one node.
     ///
     /// # Errors
     ///
@@ -108,14 +113,14 @@ impl Expr {
         Ok(Expr::CallWith(of, closure))
     }
 
-    /// A number.
+    /// A number, whose first digit stands at `place`. Takes no memory.
     pub fn number(place: Place, value: i64) -> Expr
         ensures { view result ≡ number_of place value }
     {
         Expr::Number(place, value)
     }
 
-    /// A name.
+    /// A name, whose first letter stands at `place`. Takes no memory.
     pub fn name(place: Place, name: Txt) -> Expr
         ensures { view result ≡ name_of place name }
     {
@@ -124,7 +129,7 @@ impl Expr {
 }
 
 impl Closure {
-    /// A closure without names for its parameters.
+    /// A closure of these statements, whose `{` stands at `place`. Takes no memory.
     pub fn new(place: Place, body: Vec<Stmt>) -> Closure
         ensures { view_closure result ≡ closure_of place (view_stmts body.items) }
     {
@@ -133,7 +138,7 @@ impl Closure {
 }
 
 impl Stmt {
-    /// A statement that is an expression.
+    /// A statement that is an expression. Takes no memory.
     pub fn expr(expr: Expr) -> Stmt
         ensures { view_stmt result ≡ view expr }
     {

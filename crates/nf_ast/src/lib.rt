@@ -4,6 +4,8 @@
 mod chain;
 mod expr;
 mod script;
+#[cfg(test)]
+mod tests;
 
 pub use chain::Chain;
 pub use expr::{BinaryMark, Closure, Expr, Stmt};
