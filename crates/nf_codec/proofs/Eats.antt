@@ -1,6 +1,5 @@
 -- What reading leaves is no longer than what it was given.
-use Rattle.std.proofs.Common.{◌≡◌, ℕ, zero, suc, ◌+◌, ◌-◌, ◌^◌, ◌<◌, ◌≤◌, min, List, [], ◌∷◌, length, take, drop, Bool, true, false, cond, Option, Some, None, Ok, Err, refl, ap, sym, ◌∙◌, subst, ⊎_elim, arith}
-use Rattle.std.specs.declared.result.Result.{Result}
+use Rattle.std.proofs.Common.{◌≡◌, ℕ, zero, suc, ◌<◌, ◌≤◌, min, List, [], ◌∷◌, length, take, drop, Bool, true, false, cond, Option, Some, None, Ok, Err, refl, ap, sym, ◌∙◌, subst, ⊎_elim, arith}
 use Rattle.std.specs.Prelude.{nat_lt, nat_le, ◌&&◌, ◌==◌}
 use Rattle.std.specs.Char.{is_ascii_digit}
 use Rattle.std.specs.List.{take_while}
@@ -9,13 +8,12 @@ use Rattle.std.specs.Str.{is_utf8}
 use Rattle.std.specs.Str.Parse.{digits_value}
 use Rattle.std.proofs.lemmas.Bool.{cases_lt, true≢false}
 use Rattle.std.proofs.lemmas.List.{length-drop}
-use Rattle.nf_value.specs.Plain.{Plain, null, truth, int, text, file, list, table, plains_of, plain_pairs_of}
-use Rattle.nf_value.specs.View.{plain_of}
+use Rattle.nf_value.specs.Plain.{Plain, text, file, list, table, plains_of, plain_pairs_of}
 use Rattle.nf_codec.specs.declared.head.Head.{Head as CodeHead}
 use Rattle.nf_codec.specs.declared.head.Head.TheVariants.{Whole, List as ListHead, Map}
 use Rattle.nf_codec.specs.Heads.{Head, whole, list_of, table_of, is_decimal, ended_by, decimal_before, fits_positive, negative_of, fits_negative, int_at, cut_text, counted_text, text_at, digest_of, fits_length, file_length, file_tail, file_at, counted, head_after, head_at}
 use Rattle.nf_codec.specs.Fronts.{IsAlike, head_of}
-use Rattle.nf_codec.specs.Reading.{Reading, ReadFault, no_value, too_deep, and_then, series, many, many_pairs, is_above, text_of, key_as, key_from, pair_from, opened, met, step, read, inner}
+use Rattle.nf_codec.specs.Reading.{Reading, ReadFault, no_value, and_then, series, many, many_pairs, is_above, text_of, key_as, key_from, pair_from, opened, met, step, read, inner}
 use Rattle.nf_codec.proofs.Series.{prepend}
 
 abbrev Within : {A : Type 0} → ℕ → Option (A × List ℕ) → Type 0

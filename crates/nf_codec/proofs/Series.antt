@@ -1,6 +1,5 @@
 -- Members that a loop reads one after another.
-use Rattle.std.proofs.Common.{◌≡◌, ℕ, zero, suc, ◌+◌, ◌-◌, ◌<◌, ◌≤◌, ◌++◌, List, [], ◌∷◌, length, drop, refl, ap, sym, ◌∙◌, arith, Ok, Err}
-use Rattle.std.specs.declared.result.Result.{Result}
+use Rattle.std.proofs.Common.{◌≡◌, ℕ, zero, suc, ◌-◌, ◌<◌, ◌≤◌, ◌++◌, List, [], ◌∷◌, length, drop, refl, ap, sym, ◌∙◌, arith, Ok, Err}
 use Rattle.nf_codec.specs.Reading.{Reading, ReadFault, no_value, too_deep, and_then, series, ReadsBy}
 use Rattle.nf_codec.specs.declared.fault.CodeFault.{CodeFault}
 use Rattle.nf_codec.specs.declared.fault.CodeFault.TheVariants.{NotAValue, TooDeep, Mem}

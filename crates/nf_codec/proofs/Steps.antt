@@ -1,7 +1,7 @@
 -- What the code's steps read, by positions.
 use Rattle.std.proofs.Common.{◌≡◌, ℕ, ◌+◌, ◌-◌, ◌<◌, ◌≤◌, List, length, take, drop, Bool, true, false, cond, Option, Some, None, Ok, Err, refl, ap, sym, ◌∙◌, subst, ⊎_elim, arith}
 use Rattle.std.proofs.lemmas.Bool.{cases_Bool, true≢false}
-use Rattle.std.proofs.lemmas.List.{length-drop, drop-drop}
+use Rattle.std.proofs.lemmas.List.{length-drop}
 use Rattle.std.specs.declared.result.Result.{Result}
 use Rattle.nf_value.specs.Plain.{Plain}
 use Rattle.nf_value.specs.View.{pair_of}
@@ -10,8 +10,8 @@ use Rattle.nf_codec.specs.declared.head.Head.{Head as CodeHead}
 use Rattle.nf_codec.specs.declared.fault.CodeFault.{CodeFault}
 use Rattle.nf_codec.specs.declared.fault.CodeFault.TheVariants.{NotAValue}
 use Rattle.nf_codec.specs.Heads.{Head, head_at}
-use Rattle.nf_codec.specs.Fronts.{IsHead, IsHeadAt, head_of}
-use Rattle.nf_codec.specs.Reading.{Reading, ReadFault, no_value, and_then, is_above, text_of, key_as, key_from, pair_from, opened, met, step, read, inner, Reads, ReadsBy}
+use Rattle.nf_codec.specs.Fronts.{IsHeadAt, head_of}
+use Rattle.nf_codec.specs.Reading.{Reading, no_value, and_then, is_above, text_of, key_as, key_from, pair_from, opened, met, read, inner, Reads, ReadsBy}
 use Rattle.nf_codec.proofs.Numbers.{tail_is}
 use Rattle.nf_codec.proofs.Heads.{rest_of}
 use Rattle.nf_codec.proofs.Series.{same_fault}

@@ -3,7 +3,7 @@ use Rattle.std.specs.Prelude.{◌≡◌, ℕ, zero, suc, ◌+◌, ◌≤◌, dro
 use Rattle.std.specs.declared.result.Result.{Result}
 use Rattle.std.specs.Ordering.{nat_cmp, is_lt}
 use Rattle.std.specs.Cmp.Lexicographic.{slice_cmp}
-use Rattle.nf_value.specs.Plain.{Plain, null, truth, int, text, file, list, table, plains_of, plain_pairs_of}
+use Rattle.nf_value.specs.Plain.{Plain, text, list, table, plains_of, plain_pairs_of}
 use Rattle.nf_value.specs.View.{plain_of}
 use Rattle.nf_value.specs.declared.value.Value.{Value}
 use Rattle.nf_codec.specs.declared.fault.CodeFault.{CodeFault}

@@ -10,3 +10,6 @@ mod write;
 pub use fault::CodeFault;
 pub use read::decode;
 pub use write::{encode, encode_text};
+
+#[cfg(test)]
+mod tests;
