@@ -1,0 +1,5 @@
+pub mod JobText
+pub mod Sizes
+pub mod Kept
+pub mod Fault
+pub mod Emission

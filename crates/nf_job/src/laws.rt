@@ -1,0 +1,1 @@
+//! Laws of jobs, each as a contract over the definitions alone.
