@@ -74,7 +74,7 @@ within_tail : (bs : List ℕ) (n : ℕ) → length bs ≤ n → Within n (file_t
 within_tail bs n h =
     within_cond n (nat_le 64 (length bs)) (option_and_then (λ digest. option_and_then (λ p. Some ((digest, p.0), p.1)) (file_length (drop 64 bs))) (digest_of (take 64 bs))) None
     (within_any n (λ digest. option_and_then (λ p. Some ((digest, p.0), p.1)) (file_length (drop 64 bs))) (digest_of (take 64 bs))
-        (λ digest. within_then n (λ p. Some ((digest, p.0), p.1)) (file_length (drop 64 bs)) (within_length (drop 64 bs) n (drop_within 64 bs n h)) (λ p k. k)))
+    (λ digest. within_then n (λ p. Some ((digest, p.0), p.1)) (file_length (drop 64 bs)) (within_length (drop 64 bs) n (drop_within 64 bs n h)) (λ p k. k)))
     tt
 
 within_file : (bs : List ℕ) (n : ℕ) → length bs ≤ n → Within n (file_at bs)
@@ -115,6 +115,7 @@ inside_key before left (Some p) n h = by (text_of p.0)
     chosen : (b : Bool) (k : List ℕ) → Inside n (cond b (Ok (k, p.1)) (Err (no_value left)))
     chosen true k = h
     chosen false k = tt
+
     by : (t : Option (List ℕ)) → Inside n (key_as before left t p.1)
     by None = tt
     by (Some k) = chosen (is_above before k) k

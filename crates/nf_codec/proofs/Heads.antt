@@ -29,7 +29,7 @@ shifted F bs part g h used some at is fits like =
       head = g;
       is = ap F (sym (at ∙ tail_is bs 1)) ∙ is ∙ (λ i. Some (g, rest_of bs part 1 used at i)) ∙ ap (λ n. Some (g, drop n bs)) same;
       alike = like;
-      fits = omega (arith, fits, ap length (at ∙ tail_is bs 1), length-drop 1 bs)
+      fits = omega (arith, fits, ap length (at ∙ tail_is bs 1), length-drop 1 bs);
     }
 
 pub counted_is : (h : ℕ → Head) (bs rest : List ℕ) (n : ℕ) → decimal_before 58 bs ≡ Some (n, rest) → counted h bs ≡ Some (h n, rest)

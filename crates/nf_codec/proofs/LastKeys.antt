@@ -37,6 +37,7 @@ rises-snoc k (q ∷ ps) p h a =
     first : (a b : Bool) → (a && b) ≡ true → a ≡ true
     first true b h = refl
     first false b h = absurd (true≢false (sym h))
+
     second : (a b : Bool) → (a && b) ≡ true → b ≡ true
     second true b h = h
     second false b h = absurd (true≢false (sym h))

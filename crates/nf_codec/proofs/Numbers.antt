@@ -73,6 +73,7 @@ value_is v most x h =
     is_there : Option ℕ → Bool
     is_there None = false
     is_there (Some y) = true
+
     apart : (x : ℕ) → Some x ≡ None → ⊥
     apart x h = true≢false (ap is_there h)
 

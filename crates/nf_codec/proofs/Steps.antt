@@ -62,6 +62,7 @@ key_above before left (Some p) k rest e = by (text_of p.0) e
         (λ t. subst (λ m. is_above before m ≡ true) (ap (key_in k) (sym (ap (choice left j p.1) t) ∙ h)) t)
         (λ f. absurd (true≢false (sym (ap is_read (sym (ap (choice left j p.1) f) ∙ h)))))
         (cases_Bool (is_above before j))
+
     by : (t : Option (List ℕ)) → key_as before left t p.1 ≡ Ok (k, rest) → is_above before k ≡ true
     by None h = absurd (true≢false (sym (ap is_read h)))
     by (Some j) h = chosen j h
@@ -72,6 +73,7 @@ pair_above f before bs p rest h = by (key_from before (length bs) (head_at bs)) 
     valued : (k : List ℕ) (o : Reading Plain) → and_then o (λ v rest'. Ok ((k, v), rest')) ≡ Ok (p, rest) → k ≡ p.0
     valued k (Ok q) e = ap (λ r. (key_in p r).0) e
     valued k (Err x) e = absurd (true≢false (sym (ap is_read e)))
+
     by : (o : Reading (List ℕ)) → key_from before (length bs) (head_at bs) ≡ o → and_then o (λ k rest. and_then (f rest) (λ v rest'. Ok ((k, v), rest'))) ≡ Ok (p, rest) → is_above before p.0 ≡ true
     by (Ok q) is e = subst (λ k. is_above before k ≡ true) (valued q.0 (f q.1) e) (key_above before (length bs) (head_at bs) q.0 q.1 is)
     by (Err x) is e = absurd (true≢false (sym (ap is_read e)))

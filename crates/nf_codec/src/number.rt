@@ -14,7 +14,10 @@ ghost use Rattle.nf_codec.specs.Fronts.{IsDecimalBefore, IsFront};
 fn digit_count(bytes: &[u8]) -> usize
     ensures { result ≡ length (take_while is_ascii_digit bytes.now) }
 {
-    bytes.iter().take_while(|byte| byte.is_ascii_digit()).count()
+    bytes
+        .iter()
+        .take_while(|byte| byte.is_ascii_digit())
+        .count()
 }
 
 fn is_decimal(digits: &[u8]) -> bool

@@ -30,7 +30,12 @@ pub fn decode(alloc: Global, bytes: &[u8]) -> Result<(Value, usize), CodeFault>
 }
 
 #[cycle(read)]
-fn read_value(alloc: Global, bytes: &[u8], at: usize, left: u32) -> Result<(Value, usize), CodeFault>
+fn read_value(
+    alloc: Global,
+    bytes: &[u8],
+    at: usize,
+    left: u32,
+) -> Result<(Value, usize), CodeFault>
     requires { at ≤ length bytes.now }
     ensures { Reads bytes.now (read left (drop at bytes.now)) result }
 {

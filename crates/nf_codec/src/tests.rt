@@ -17,7 +17,11 @@ fn text(alloc: Global, text: &str) -> Result<Value, Mem> {
 fn file(alloc: Global) -> Result<Value, Mem> {
     let name = txt(alloc, "a.fq")?;
     let digest = Digest([0xa7; 32]);
-    Ok(Value::File(FileRef { name, digest, len: 10 }))
+    Ok(Value::File(FileRef {
+        name,
+        digest,
+        len: 10,
+    }))
 }
 
 fn map(rt: &impl Abort, alloc: Global) -> Result<Value, Mem> {
@@ -100,7 +104,9 @@ fn other_bytes_are_refused(rt: HostRuntime) -> Result<(), Fail> {
         let fault = decode(alloc, code.as_bytes()).err().ok_or("no fault")?;
         assert_eq!(rt; fault, CodeFault::NotAValue { at: place }, "at {code}");
     }
-    let broken = decode(alloc, &[b's', b'1', b':', 0xff]).err().ok_or("no fault")?;
+    let broken = decode(alloc, &[b's', b'1', b':', 0xff])
+        .err()
+        .ok_or("no fault")?;
     assert_eq!(rt; broken, CodeFault::NotAValue { at: 0 });
     Ok(())
 }
@@ -118,7 +124,9 @@ fn sixty_four_lists_may_stand_in_one_another(rt: HostRuntime) -> Result<(), Fail
     assert_eq!(rt; text_of(alloc, &value)?.as_str().len(), 132);
     let mut deeper = String::from_str(alloc, "l1:")?;
     deeper.push_str(code.as_str())?;
-    let fault = decode(alloc, deeper.as_str().as_bytes()).err().ok_or("no fault")?;
+    let fault = decode(alloc, deeper.as_str().as_bytes())
+        .err()
+        .ok_or("no fault")?;
     assert_eq!(rt; fault, CodeFault::TooDeep { at: 192 });
     Ok(())
 }

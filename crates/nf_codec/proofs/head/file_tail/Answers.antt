@@ -17,6 +17,6 @@ returns-in-Some-file_length c =
     let part = take (length bs - 64) (drop 64 bs) in
     let found = c.in-Some-file_length.ensures in (
       tail_is_then bs digest part c.if-bytes-lt64.false c.in-Some.ensures refl ∙ ap (option_and_then (λ p. Some ((digest, p.0), p.1))) found.0
-      ∙ ap (λ rest. Some ((digest, c.in-Some-file_length.len), rest)) (rest_of bs part 64 c.in-Some-file_length.used refl),
+          ∙ ap (λ rest. Some ((digest, c.in-Some-file_length.len), rest)) (rest_of bs part 64 c.in-Some-file_length.used refl),
       omega (arith, found.1, ap length (tail_is bs 64), length-drop 64 bs),
     )

@@ -34,6 +34,6 @@ invariant-read_many-loop l =
 abbrev pub invariant-read_pairs-loop : goal.invariant-read_pairs-loop
 invariant-read_pairs-loop l =
     (many_pairs (read l.left) l.count None (drop l.at l.bytes)
-        ≡ ahead (map pair_of l.items.items) (many_pairs (read l.left) (l.count - l.counter) (last_key None (map pair_of l.items.items)) (drop l.next l.bytes)))
+    ≡ ahead (map pair_of l.items.items) (many_pairs (read l.left) (l.count - l.counter) (last_key None (map pair_of l.items.items)) (drop l.next l.bytes)))
     × (l.next ≤ length l.bytes)
     × (rising (map pair_of l.items.items) ≡ true)

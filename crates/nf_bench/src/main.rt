@@ -1,0 +1,99 @@
+//! Times calls of layers that the program doesn't reach yet: `nf_bench OPERATION COUNT` does one operation on a list of COUNT
+//! numbers, prints what came of it, and on standard error how many microseconds the operation took.
+#![tactic(auto)]
+
+use anyhow::{Context, Result, bail};
+use nf_value::{Vals, Value};
+use std::alloc::{AllocError, Global};
+use std::env;
+use std::rt::{Clock, Env};
+use std::time::Instant;
+
+fn main(rt: HostRuntime) -> Result<()> {
+    run(&rt)
+}
+
+fn run<R: Env + Clock + AllocGlobal + Print + Eprint>(rt: &R) -> Result<()> {
+    let mut words = env::args(rt)?.skip(1);
+    let operation = words.next().context("which operation?")?;
+    let count = words.next().context("how many numbers?")?;
+    let count = count.parse::<u32>().context("how many numbers?")?;
+    let list = numbers(rt.alloc(), count)?;
+    match operation.as_str() {
+        "copy" => copy(rt, &list),
+        "compare" => compare(rt, list),
+        "sort" => sort(rt, list),
+        "encode" => encode(rt, list),
+        "decode" => decode(rt, list),
+        _ => bail!("no such operation"),
+    }
+}
+
+/// Numbers in no order.
+fn numbers(alloc: Global, count: u32) -> Result<Vals, AllocError> {
+    let mut items = Vec::with_capacity(alloc, count as usize)?;
+    let mut number = 1u64;
+    for _ in 0..count {
+        number = number
+            .wrapping_mul(6364136223846793005)
+            .wrapping_add(1442695040888963407);
+        items.push(Value::Int(i64::from((number >> 33) as u32)))?;
+    }
+    Ok(Vals::of(items))
+}
+
+fn copy<R: Clock + AllocGlobal + Print + Eprint>(rt: &R, list: &Vals) -> Result<()> {
+    let start = Instant::now(rt)?;
+    let copied = list.copy()?;
+    took(rt, start)?;
+    let len = copied.len();
+    println!(rt; "copied {len}")?;
+    Ok(())
+}
+
+fn compare<R: Clock + AllocGlobal + Print + Eprint>(rt: &R, list: Vals) -> Result<()> {
+    let other = Value::List(list.copy()?);
+    let list = Value::List(list);
+    let start = Instant::now(rt)?;
+    let same = list == other;
+    took(rt, start)?;
+    println!(rt; "same {same}")?;
+    Ok(())
+}
+
+fn sort<R: Clock + AllocGlobal + Print + Eprint>(rt: &R, list: Vals) -> Result<()> {
+    let start = Instant::now(rt)?;
+    let sorted = nf_bag::sorted(list)?;
+    took(rt, start)?;
+    let len = sorted.len();
+    println!(rt; "sorted {len}")?;
+    Ok(())
+}
+
+fn encode<R: Clock + AllocGlobal + Print + Eprint>(rt: &R, list: Vals) -> Result<()> {
+    let list = Value::List(list);
+    let start = Instant::now(rt)?;
+    let code = nf_codec::encode(rt.alloc(), &list)?;
+    took(rt, start)?;
+    let len = code.len();
+    println!(rt; "encoded {len}")?;
+    Ok(())
+}
+
+fn decode<R: Clock + AllocGlobal + Print + Eprint>(rt: &R, list: Vals) -> Result<()> {
+    let code = nf_codec::encode(rt.alloc(), &Value::List(list))?;
+    let start = Instant::now(rt)?;
+    let decoded = nf_codec::decode(rt.alloc(), &code);
+    took(rt, start)?;
+    let Ok((_, len)) = decoded else {
+        bail!("the code can't be read");
+    };
+    println!(rt; "decoded {len}")?;
+    Ok(())
+}
+
+fn took<R: Clock + Eprint>(rt: &R, start: Instant) -> Result<()> {
+    let micros = start.elapsed(rt)?.as_micros();
+    eprintln!(rt; "{micros}")?;
+    Ok(())
+}
