@@ -7,3 +7,5 @@ pub mod Series
 pub mod LastKeys
 pub mod Eats
 pub mod Steps
+pub mod Written
+pub mod RoundTrip

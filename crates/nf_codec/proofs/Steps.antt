@@ -49,7 +49,7 @@ abbrev is_read : {A : Type 0} → Reading A → Bool
 is_read (Ok q) = true
 is_read (Err e) = false
 
-abbrev choice : ℕ → List ℕ → List ℕ → Bool → Reading (List ℕ)
+abbrev pub choice : ℕ → List ℕ → List ℕ → Bool → Reading (List ℕ)
 choice left j rest b = cond b (Ok (j, rest)) (Err (no_value left))
 
 key_above : (before : Option (List ℕ)) (left : ℕ) (o : Option (Head × List ℕ)) (k rest : List ℕ) → key_from before left o ≡ Ok (k, rest) → is_above before k ≡ true

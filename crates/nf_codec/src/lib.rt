@@ -3,6 +3,7 @@
 
 mod fault;
 mod head;
+pub mod laws;
 mod number;
 mod read;
 mod write;

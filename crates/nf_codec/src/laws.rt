@@ -1,0 +1,21 @@
+//! Laws of the code of values, each as a contract over the definitions alone.
+
+ghost use Rattle.std.specs.Prelude.{◌≡◌, ◌≤◌, ◌++◌, ℕ, List, Ok};
+ghost use Rattle.nf_value.specs.Plain.{Plain};
+ghost use Rattle.nf_value.specs.Code.{code};
+ghost use Rattle.nf_value.specs.Depth.{depth_of};
+ghost use Rattle.nf_codec.specs.Reading.{read};
+ghost use Rattle.nf_codec.specs.Whole.{IsWhole};
+
+/// What is written reads back: bytes that begin with a value's code are read as that value, and what follows is left,
+/// where lists and maps may open as deep as the value is.
+#[tactic(auto, using(crate::proofs::RoundTrip::back))]
+pub fn codes_read_back()
+    ensures { (v : Plain) → (d : ℕ) → (rest : List ℕ) → IsWhole v → depth_of v ≤ d → read d (code v ++ rest) ≡ Ok (v, rest) }
+{}
+
+/// No two values have codes of which one begins with the other, so each code is of one value.
+#[tactic(auto, using(crate::proofs::RoundTrip::one_code))]
+pub fn codes_differ()
+    ensures { (v : Plain) → (w : Plain) → (r : List ℕ) → (s : List ℕ) → IsWhole v → IsWhole w → code v ++ r ≡ code w ++ s → (v ≡ w) × (r ≡ s) }
+{}
