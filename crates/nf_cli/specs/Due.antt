@@ -10,7 +10,7 @@ use Rattle.nf_cli.specs.declared.ends.End.TheVariants as end
 use Rattle.nf_cli.specs.declared.ends.ItemCause.TheVariants.{Eval}
 use Rattle.nf_cli.specs.Ends.{error_line}
 use Rattle.nf_cli.specs.Outcome.{Outcome, reports, misused, absent, unbuilt, faulty}
-use Rattle.nf_cli.specs.Means.{IsOutcome, IsTextOutcome}
+use Rattle.nf_cli.specs.Means.{Means, IsOutcome, IsTextOutcome}
 use Rattle.nf_cli.specs.Report.{summary}
 
 -- ---- before anything is written
@@ -161,3 +161,11 @@ OnOutput _ P = Unit {0}
 
 abbrev pub OutputStands : List (List ℕ) → Option Files → Option (List ℕ) → Option (List ℕ) → End → Type 0
 OutputStands words files old new e = IfSome files (λ f. IfSome old (λ before. IfSome new (λ after. OnOutput e (WroteReport words f e before after))))
+
+-- ---- whatever the host tells
+
+-- how a call ends over these files, and what it writes where the sink tells it
+pub record EndsOver (words : List (List ℕ)) (files : Files) (old new : Option (List ℕ)) (e : End) : Type 0 where
+  pub ended : Ended words files e
+  pub complete : (outcome : Outcome) → Means words files outcome → MayEnd outcome e
+  pub output : OutputStands words (Some files) old new e

@@ -1,7 +1,9 @@
 //! From the words to the report of a run.
 
-ghost use Rattle.std.specs.Prelude.{◌≡◌, ◌≤◌, IfSome, IfErr, map, string_bytes};
+ghost use Rattle.std.specs.Prelude.{◌≡◌, ℕ, ◌≤◌, List, IfSome, IfErr, map, string_bytes};
+ghost use Rattle.std.specs.declared.option.Option.{Option};
 ghost use Rattle.nf_host.specs.Faults.{Rose};
+ghost use Rattle.nf_host.specs.Files.{Files};
 ghost use Rattle.nf_words.specs.Words.{command_of};
 ghost use Rattle.nf_cli.specs.Ends.{end_of_usage};
 ghost use Rattle.nf_cli.specs.Means.{file_of};
@@ -29,6 +31,7 @@ pub fn report_of_words<H: Host>(alloc: Global, words: &[String], host: &mut H) -
     ensures cause { IfErr result (λ e. OnHostFault e (Rose (H.faults host.old) (H.faults host.new))) }
     ensures usage { IsUsage (command_of (map string_bytes words.now)) result }
     ensures gives { IfSome (H.files host.old) (λ f. Gives (map string_bytes words.now) f result) }
+    ensures some_files { (f : Files) × Gives (map string_bytes words.now) f result }
 {
     match read_words(alloc, words) {
         Ok(command) => report_of_command(alloc, &command, host),
@@ -43,6 +46,7 @@ fn report_of_command<H: Host>(alloc: Global, command: &Command, host: &mut H) ->
     ensures cause { IfErr result (λ e. OnHostFault e (Rose (H.faults host.old) (H.faults host.new))) }
     ensures right { IfErr result IsOfFile }
     ensures gives { IfSome (H.files host.old) (λ f. FileGives (f (file_of command.now)) result) }
+    ensures some_file { (held : Option (List ℕ)) × FileGives held result }
 {
     match command {
         Command::Run(run) => report_of_file(alloc, run.file.as_str(), host),
@@ -65,6 +69,7 @@ fn report_of_file<H: Host>(alloc: Global, file: &str, host: &mut H) -> Result<Tx
     ensures cause { IfErr result (λ e. OnHostFault e (Rose (H.faults host.old) (H.faults host.new))) }
     ensures right { IfErr result IsOfFile }
     ensures gives { IfSome (H.files host.old) (λ f. FileGives (f file.now) result) }
+    ensures some_file { (held : Option (List ℕ)) × FileGives held result }
 {
     match read_whole(alloc, host, file, SCRIPT_LIMIT) {
         Ok(Whole::Absent) => Err(End::NoScript),

@@ -2,11 +2,12 @@
 
 ghost use Rattle.std.specs.Prelude.{◌≡◌, ◌≤◌, ◌↔◌, IsSome, IfSome, map, string_bytes};
 ghost use Rattle.nf_host.specs.Faults.{Rose};
+ghost use Rattle.nf_host.specs.Files.{Files};
 ghost use Rattle.nf_words.specs.Words.{command_of};
 ghost use Rattle.nf_cli.specs.Ends.{status_of};
 ghost use Rattle.nf_cli.specs.Outcome.{Outcome};
 ghost use Rattle.nf_cli.specs.Means.{Means};
-ghost use Rattle.nf_cli.specs.Due.{Ended, IsUsageEnd, MayEnd, OnHostFault, OnSinkFault, OutputStands, WroteLine};
+ghost use Rattle.nf_cli.specs.Due.{Ended, EndsOver, IsUsageEnd, MayEnd, OnHostFault, OnSinkFault, OutputStands, WroteLine};
 
 use crate::ends::{End, NfEnd};
 use crate::run::report_of_words;
@@ -17,8 +18,9 @@ use std::alloc::Global;
 /// Does what a command line asks for: reads the script by the host, runs it, and writes to the sink the report and
 /// the summary line, or one error line. Words are those after the program's name.
 ///
-/// What is said of a script stands where the host tells its files, and what is said of written bytes where the sink
-/// tells them. Want of memory may end any call (`End::Mem`); then nothing was written.
+/// What is said of a script stands where the host tells its files, and of some files where it tells none; what is said
+/// of written bytes stands where the sink tells them. Want of memory may end any call (`End::Mem`); then nothing was
+/// written.
 pub fn nf_main<H: Host, O: Sink>(
     alloc: Global,
     words: &[String],
@@ -39,6 +41,9 @@ pub fn nf_main<H: Host, O: Sink>(
     ensures output { OutputStands (map string_bytes words.now) (H.files host.old) (O.written out.old) (O.written out.new) result.end }
     // After each other end its error line was written, or a front of it where the sink failed; after Mem nothing.
     ensures line { IfSome (O.written out.old) (λ before. IfSome (O.written out.new) (λ after. WroteLine result.end (Rose (O.faults out.old) (O.faults out.new)) before after)) }
+
+    // Whatever the host tells, there are files over which the call ends and writes as is due.
+    ensures some_files { (f : Files) × EndsOver (map string_bytes words.now) f (O.written out.old) (O.written out.new) result.end }
 
     // Outside faults are counted.
     ensures host_fault { OnHostFault result.end (Rose (H.faults host.old) (H.faults host.new)) }
