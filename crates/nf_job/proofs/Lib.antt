@@ -1,2 +1,4 @@
 pub mod Pushes
 pub mod Names
+pub mod Codes
+pub mod Apart

@@ -1,5 +1,9 @@
--- Sizes that the texts and numbers of a program have.
-use Rattle.std.specs.Prelude.{ℕ, ◌<◌, ◌^◌, length}
+-- Sizes that the values of a program have, and what the text of a job tells apart.
+use Rattle.std.specs.Prelude.{◌≡◌, ℕ, ◌<◌, ◌^◌, List, length}
+use Rattle.std.specs.Int.Signed.{mag}
+use Rattle.hex.specs.Hex.{IsBytes}
+use Rattle.nf_value.specs.Plain.{Plain, null, truth, int, text, file, list, table, Plains, no_items, item, PlainPairs, no_pairs, pair}
+use Rattle.nf_value.specs.Code.{count, count_pairs}
 use Rattle.nf_job.specs.declared.parts.JobParts.{JobParts}
 
 -- the parts that tell instances and attempts apart have sizes that 64 bits hold
@@ -9,3 +13,44 @@ pub record IsSized (p : JobParts) : Type 0 where
   pub inputs : length p.inputs < 2 ^ 64
   pub n : p.n < 2 ^ 64
   pub attempt : p.attempt < 2 ^ 64
+
+-- a name and a length that 64 bits hold, and a digest of 32 bytes
+pub record IsFitFile (n d : List ℕ) (l : ℕ) : Type 0 where
+  pub name : length n < 2 ^ 64
+  pub bytes : IsBytes d
+  pub digest : length d ≡ 32
+  pub len : l < 2 ^ 64
+
+abbrev mutual
+  -- each number, length and count of the value is one that a program's value has
+  pub IsFit : Plain → Type 0
+  IsFit null = Unit {0}
+  IsFit (truth b) = Unit {0}
+  IsFit (int i) = mag i < 2 ^ 63
+  IsFit (text t) = length t < 2 ^ 64
+  IsFit (file n d l) = IsFitFile n d l
+  IsFit (list vs) = (count vs < 2 ^ 64) × AllFit vs
+  IsFit (table ps) = (count_pairs ps < 2 ^ 64) × PairsFit ps
+
+  pub AllFit : Plains → Type 0
+  AllFit no_items = Unit {0}
+  AllFit (item v vs) = IsFit v × AllFit vs
+
+  pub PairsFit : PlainPairs → Type 0
+  PairsFit no_pairs = Unit {0}
+  PairsFit (pair k v ps) = (length k < 2 ^ 64) × IsFit v × PairsFit ps
+
+-- two jobs of one instance and attempt
+pub record SameAttempt (p q : JobParts) : Type 0 where
+  pub process : p.process ≡ q.process
+  pub script : p.script ≡ q.script
+  pub inputs : p.inputs ≡ q.inputs
+  pub n : p.n ≡ q.n
+  pub attempt : p.attempt ≡ q.attempt
+
+-- the same, with the inputs as lists
+pub record SameInstance (p q : JobParts) (vs ws : List Plain) : Type 0 where
+  pub process : p.process ≡ q.process
+  pub inputs : vs ≡ ws
+  pub n : p.n ≡ q.n
+  pub attempt : p.attempt ≡ q.attempt
