@@ -59,7 +59,7 @@ jobs_apart p q f g h =
     record { process = b.0; script = c.0; inputs = d.0; n = j.1; attempt = k.1 }
 
 pub instances_apart : (p q : JobParts) (vs ws : List Plain) → IsSized p → IsSized q → IsFit (list (plains_of vs)) → IsFit (list (plains_of ws)) → p.inputs ≡ inputs_text vs → q.inputs ≡ inputs_text ws → job_text p ≡ job_text q
-  → SameInstance p q vs ws
+    → SameInstance p q vs ws
 instances_apart p q vs ws f g v w i j h =
     let s = jobs_apart p q f g h in
     record { process = s.process; inputs = inputs_apart vs ws v w (sym i ∙ s.inputs ∙ j); n = s.n; attempt = s.attempt }

@@ -21,8 +21,6 @@ pub fn jobs_are_told_apart()
 /// Distinct pairs of an instance (a process, a list of inputs and a number) and an attempt have distinct job texts.
 #[tactic(auto, using(crate::proofs::Apart::instances_apart))]
 pub fn instances_are_told_apart()
-    ensures {
-        (p q : JobParts) → (vs ws : List Plain) → IsSized p → IsSized q → IsFit (list (plains_of vs)) → IsFit (list (plains_of ws))
-            → p.inputs ≡ inputs_text vs → q.inputs ≡ inputs_text ws → job_text p ≡ job_text q → SameInstance p q vs ws
-    }
+    ensures { (p q : JobParts) → (vs ws : List Plain) → IsSized p → IsSized q → IsFit (list (plains_of vs)) → IsFit (list (plains_of ws))
+        → p.inputs ≡ inputs_text vs → q.inputs ≡ inputs_text ws → job_text p ≡ job_text q → SameInstance p q vs ws }
 {}
