@@ -9,3 +9,4 @@ pub mod Eats
 pub mod Steps
 pub mod Written
 pub mod RoundTrip
+pub mod Wholes

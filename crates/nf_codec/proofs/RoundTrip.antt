@@ -1,10 +1,10 @@
 -- What is written reads back: whole values.
-use Rattle.std.proofs.Common.{◌≡◌, ℕ, zero, suc, ℤ, ◌<◌, ◌≤◌, List, [], ◌∷◌, ◌++◌, length, take, drop, true, false, cond, max, nat_le, Option, Some, None, Ok, Err, refl, ap, sym, ◌∙◌, arith, append_assoc, codes, decimal}
+use Rattle.std.proofs.Common.{◌≡◌, ℕ, zero, suc, ◌+◌, Result, ℤ, ◌<◌, ◌≤◌, List, [], ◌∷◌, ◌++◌, length, take, drop, true, false, cond, max, nat_le, Option, Some, None, Ok, Err, refl, ap, sym, ◌∙◌, subst, arith, append_assoc, codes, decimal}
 use Rattle.std.specs.Fmt.{signed_decimal}
 use Rattle.std.specs.Option.{option_and_then}
 use Rattle.std.specs.Str.{bytes_eq}
 use Rattle.std.proofs.lemmas.Bool.Decides.{nat_tests}
-use Rattle.std.proofs.lemmas.List.{length-append}
+use Rattle.std.proofs.lemmas.List.{length-append, length-drop}
 use Rattle.std.proofs.lemmas.Slice.Eq.{bytes_eq-Decides}
 use Rattle.std.proofs.Math.Seq.{take-append_seam, drop-append_seam}
 use Rattle.hex.specs.Hex.{encode_lower, lower_digits, IsBytes}
@@ -13,7 +13,10 @@ use Rattle.nf_value.specs.Plain.{Plain, null, truth, int, text, file, list, tabl
 use Rattle.nf_value.specs.Code.{code, all_code, pairs_code, text_code, file_code, int_code, head_code, count, count_pairs}
 use Rattle.nf_value.specs.Depth.{depth_of, deepest, deepest_pair}
 use Rattle.nf_codec.specs.Heads.{whole, list_of, table_of, head_at, digest_of, lower_only, fits_length, file_length, file_tail, file_at}
-use Rattle.nf_codec.specs.Reading.{Reading, read, inner, met, many, many_pairs, pair_from, key_from, is_above, and_then}
+use Rattle.nf_codec.specs.Reading.{Reading, Reads, IsGivenBack, read, inner, met, many, many_pairs, pair_from, key_from, is_above, and_then}
+use Rattle.nf_value.specs.declared.value.Value.{Value}
+use Rattle.nf_codec.specs.declared.fault.CodeFault.{CodeFault}
+use Rattle.nf_codec.specs.declared.fault.CodeFault.TheVariants.{NotAValue, TooDeep, Mem}
 use Rattle.nf_codec.specs.Whole.{IsWhole, AreWhole, ArePairs, IsWholeText}
 use Rattle.nf_codec.proofs.Series.{prepend}
 use Rattle.nf_codec.proofs.Eats.{read_is}
@@ -149,3 +152,15 @@ met_twice v w r s h k is =
 
 pub one_code : (v w : Plain) (r s : List ℕ) → IsWhole v → IsWhole w → code v ++ r ≡ code w ++ s → (v ≡ w) × (r ≡ s)
 one_code v w r s h k is = (ap (value_in v) (met_twice v w r s h k is), ap (rest_in r) (met_twice v w r s h k is))
+
+left_is : (bs rest : List ℕ) (c n : ℕ) → length bs ≡ c + length rest → n ≤ length bs → rest ≡ drop n bs → n ≡ c
+left_is bs rest c n all small is = omega (arith, all, small, ap length is, length-drop n bs)
+
+pub given_back : (v : Plain) (rest : List ℕ) (result : Result (Value × ℕ) CodeFault) → IsWhole v → depth_of v ≤ 64 → Reads (code v ++ rest) (read 64 (code v ++ rest)) result → IsGivenBack v result
+given_back v rest result h k reads = by result (subst (λ o. Reads (code v ++ rest) o result) (back v 64 rest h k) reads)
+  where
+    by : (r : Result (Value × ℕ) CodeFault) → Reads (code v ++ rest) (Ok (v, rest)) r → IsGivenBack v r
+    by (Ok q) g = (g.0, left_is (code v ++ rest) rest (length (code v)) q.1 (length-append (code v) rest) g.2 g.1)
+    by (Err Mem) g = tt
+    by (Err (NotAValue at)) g = absurd g
+    by (Err (TooDeep at)) g = absurd g

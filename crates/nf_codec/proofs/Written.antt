@@ -19,7 +19,7 @@ use Rattle.nf_codec.specs.Heads.{Head, whole, is_decimal, ended_by, decimal_befo
 use Rattle.nf_codec.specs.Whole.{IsWholeText, IsWholeInt}
 use Rattle.nf_codec.proofs.Numbers.{own}
 
-both : (a b : Bool) → (a && b) ≡ true → (a ≡ true) × (b ≡ true)
+pub both : (a b : Bool) → (a && b) ≡ true → (a ≡ true) × (b ≡ true)
 both true b h = (refl, h)
 both false b h = absurd (true≢false (sym h))
 

@@ -4,6 +4,7 @@ use Rattle.std.specs.declared.result.Result.{Result}
 use Rattle.std.specs.Ordering.{nat_cmp, is_lt}
 use Rattle.std.specs.Cmp.Lexicographic.{slice_cmp}
 use Rattle.nf_value.specs.Plain.{Plain, text, list, table, plains_of, plain_pairs_of}
+use Rattle.nf_value.specs.Code.{code}
 use Rattle.nf_value.specs.View.{plain_of}
 use Rattle.nf_value.specs.declared.value.Value.{Value}
 use Rattle.nf_codec.specs.declared.fault.CodeFault.{CodeFault}
@@ -101,3 +102,10 @@ ReadsBy view bytes (Err (too_deep k)) (Err Mem) = Unit {0}
 
 abbrev pub Reads : List ℕ → Reading Plain → Result (Value × ℕ) CodeFault → Type 0
 Reads = ReadsBy plain_of
+
+-- the answer is v, with as many bytes as its code has, where there was memory for it
+abbrev pub IsGivenBack : Plain → Result (Value × ℕ) CodeFault → Type 0
+IsGivenBack v (Ok q) = (v ≡ plain_of q.0) × (q.1 ≡ length (code v))
+IsGivenBack v (Err Mem) = Unit {0}
+IsGivenBack v (Err (NotAValue at)) = ⊥
+IsGivenBack v (Err (TooDeep at)) = ⊥

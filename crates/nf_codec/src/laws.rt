@@ -4,7 +4,10 @@ ghost use Rattle.std.specs.Prelude.{◌≡◌, ◌≤◌, ◌++◌, ℕ, List, O
 ghost use Rattle.nf_value.specs.Plain.{Plain};
 ghost use Rattle.nf_value.specs.Code.{code};
 ghost use Rattle.nf_value.specs.Depth.{depth_of};
-ghost use Rattle.nf_codec.specs.Reading.{read};
+ghost use Rattle.std.specs.declared.result.Result.{Result};
+ghost use Rattle.nf_value.specs.declared.value.Value.{Value};
+ghost use Rattle.nf_codec.specs.declared.fault.CodeFault.{CodeFault};
+ghost use Rattle.nf_codec.specs.Reading.{read, Reads, IsGivenBack};
 ghost use Rattle.nf_codec.specs.Whole.{IsWhole};
 
 /// What is written reads back: bytes that begin with a value's code are read as that value, and what follows is left,
@@ -18,4 +21,11 @@ pub fn codes_read_back()
 #[tactic(auto, using(crate::proofs::RoundTrip::one_code))]
 pub fn codes_differ()
     ensures { (v : Plain) → (w : Plain) → (r : List ℕ) → (s : List ℕ) → IsWhole v → IsWhole w → code v ++ r ≡ code w ++ s → (v ≡ w) × (r ≡ s) }
+{}
+
+/// What `decode` answers on bytes that begin with the code of a value of depth 64 or less is that value and the length of its code,
+/// or `Mem`. `encode` answers such a code, and tells that its value is whole.
+#[tactic(auto, using(crate::proofs::RoundTrip::given_back))]
+pub fn decode_gives_back()
+    ensures { (v : Plain) → (rest : List ℕ) → (answer : Result (Value × ℕ) CodeFault) → IsWhole v → depth_of v ≤ 64 → Reads (code v ++ rest) (read 64 (code v ++ rest)) answer → IsGivenBack v answer }
 {}

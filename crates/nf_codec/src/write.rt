@@ -1,13 +1,16 @@
 //! The code of a value.
 
-ghost use Rattle.std.specs.Prelude.{◌≡◌, ◌++◌, OnOk, IfOk, codes, string_bytes};
+ghost use Rattle.std.specs.Prelude.{◌≡◌, ◌++◌, length, OnOk, IfOk, codes, string_bytes};
+ghost use Rattle.hex.specs.Hex.{encode_lower, IsBytes};
 ghost use Rattle.std.specs.Fmt.{signed_decimal};
 ghost use Rattle.nf_value.specs.Plain.{plains_of, plain_pairs_of};
+ghost use Rattle.nf_value.specs.Plain as plain;
 ghost use Rattle.nf_value.specs.View.{plain_of};
+ghost use Rattle.nf_codec.specs.Whole.{IsWhole, IsWholeText, IsWholeInt};
 ghost use Rattle.nf_value.specs.Code.{code, all_code, pairs_code, text_code, file_code, int_code, head_code, count, count_pairs};
 
 use itoa::{Buffer, Integer};
-use nf_value::{FileRef, Mem, Pairs, Txt, Vals, Value};
+use nf_value::{Digest, FileRef, Mem, Pairs, Txt, Vals, Value};
 use std::alloc::Global;
 
 /// The code of a value (own): bytes from which it can be read back, alike for equal values. Null is `n`, true `t`, false `f`; a number is
@@ -19,7 +22,8 @@ use std::alloc::Global;
 ///
 /// `Mem` where there is no memory for it.
 pub fn encode(alloc: Global, value: &Value) -> Result<Vec<u8>, Mem>
-    ensures { IfOk result (λ b. b.items ≡ code (plain_of value.now)) }
+    ensures code { IfOk result (λ b. b.items ≡ code (plain_of value.now)) }
+    ensures whole { OnOk result (IsWhole (plain_of value.now)) }
 {
     let mut out = String::new(alloc);
     put(&mut out, value)?;
@@ -57,7 +61,8 @@ fn put_head(out: &mut String, letter: &str, count: usize) -> Result<(), Mem>
 }
 
 fn put_int(out: &mut String, number: i64) -> Result<(), Mem>
-    ensures { OnOk result (string_bytes out.new ≡ string_bytes out.old ++ int_code (signed_decimal number)) }
+    ensures code { OnOk result (string_bytes out.new ≡ string_bytes out.old ++ int_code (signed_decimal number)) }
+    ensures whole { IsWholeInt number }
 {
     out.push_str("i")?;
     put_number(out, number)?;
@@ -66,7 +71,8 @@ fn put_int(out: &mut String, number: i64) -> Result<(), Mem>
 }
 
 fn put_text(out: &mut String, text: &Txt) -> Result<(), Mem>
-    ensures { OnOk result (string_bytes out.new ≡ string_bytes out.old ++ text_code text.now) }
+    ensures code { OnOk result (string_bytes out.new ≡ string_bytes out.old ++ text_code text.now) }
+    ensures whole { OnOk result (IsWholeText text.now) }
 {
     let text = text.as_str();
     put_head(out, "s", text.len())?;
@@ -74,14 +80,31 @@ fn put_text(out: &mut String, text: &Txt) -> Result<(), Mem>
     Ok(())
 }
 
+fn put_hex(out: &mut String, bytes: &[u8]) -> Result<(), Mem>
+    ensures code { OnOk result (string_bytes out.new ≡ string_bytes out.old ++ encode_lower bytes.now) }
+    ensures whole { IsBytes bytes.now }
+{
+    let digits = hex::encode(*out.allocator(), bytes)?;
+    out.push_str(digits.as_str())?;
+    Ok(())
+}
+
+fn put_digest(out: &mut String, digest: &Digest) -> Result<(), Mem>
+    ensures code { OnOk result (string_bytes out.new ≡ string_bytes out.old ++ encode_lower digest.now.0) }
+    ensures bytes { IsBytes digest.now.0 }
+    ensures len { length digest.now.0 ≡ 32 }
+{
+    put_hex(out, digest.0.as_slice())
+}
+
 fn put_file(out: &mut String, file: &FileRef) -> Result<(), Mem>
-    ensures { OnOk result (string_bytes out.new ≡ string_bytes out.old ++ file_code file.now.name file.now.digest.0 file.now.len) }
+    ensures code { OnOk result (string_bytes out.new ≡ string_bytes out.old ++ file_code file.now.name file.now.digest.0 file.now.len) }
+    ensures whole { OnOk result (IsWhole (plain.file file.now.name file.now.digest.0 file.now.len)) }
 {
     let name = file.name.as_str();
     put_head(out, "p", name.len())?;
     out.push_str(name)?;
-    let digits = hex::encode(*out.allocator(), file.digest.0.as_slice())?;
-    out.push_str(digits.as_str())?;
+    put_digest(out, &file.digest)?;
     put_number(out, file.len)?;
     out.push_str(";")?;
     Ok(())
@@ -89,7 +112,8 @@ fn put_file(out: &mut String, file: &FileRef) -> Result<(), Mem>
 
 #[cycle(put)]
 fn put(out: &mut String, value: &Value) -> Result<(), Mem>
-    ensures { OnOk result (string_bytes out.new ≡ string_bytes out.old ++ code (plain_of value.now)) }
+    ensures code { OnOk result (string_bytes out.new ≡ string_bytes out.old ++ code (plain_of value.now)) }
+    ensures whole { OnOk result (IsWhole (plain_of value.now)) }
 {
     match value {
         Value::Null => out.push_str("n")?,
@@ -106,7 +130,8 @@ fn put(out: &mut String, value: &Value) -> Result<(), Mem>
 
 #[cycle(put)]
 fn put_all(out: &mut String, list: &Vals) -> Result<(), Mem>
-    ensures { OnOk result (string_bytes out.new ≡ string_bytes out.old ++ (head_code (codes "l") (count (plains_of list.now)) ++ all_code (plains_of list.now))) }
+    ensures code { OnOk result (string_bytes out.new ≡ string_bytes out.old ++ (head_code (codes "l") (count (plains_of list.now)) ++ all_code (plains_of list.now))) }
+    ensures whole { OnOk result (IsWhole (plain.list (plains_of list.now))) }
 {
     put_head(out, "l", list.len())?;
     for item in list.items() {
@@ -117,7 +142,8 @@ fn put_all(out: &mut String, list: &Vals) -> Result<(), Mem>
 
 #[cycle(put)]
 fn put_pairs(out: &mut String, pairs: &Pairs) -> Result<(), Mem>
-    ensures { OnOk result (string_bytes out.new ≡ string_bytes out.old ++ (head_code (codes "m") (count_pairs (plain_pairs_of pairs.now)) ++ pairs_code (plain_pairs_of pairs.now))) }
+    ensures code { OnOk result (string_bytes out.new ≡ string_bytes out.old ++ (head_code (codes "m") (count_pairs (plain_pairs_of pairs.now)) ++ pairs_code (plain_pairs_of pairs.now))) }
+    ensures whole { OnOk result (IsWhole (plain.table (plain_pairs_of pairs.now))) }
 {
     put_head(out, "m", pairs.len())?;
     for (key, item) in pairs.items() {
