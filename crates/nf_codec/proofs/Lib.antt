@@ -10,3 +10,5 @@ pub mod Steps
 pub mod Written
 pub mod RoundTrip
 pub mod Wholes
+pub mod Spelled
+pub mod Exact

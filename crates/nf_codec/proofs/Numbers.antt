@@ -84,7 +84,7 @@ negative_is v (suc n) rest z is some small at =
     let same : n ≡ suc n - 1 = omega arith in
     ap (λ m. negative_of m rest) is ∙ ap (λ t. cond t (Some (whole (int (negsuc n)), rest)) None) fits ∙ ap (λ y. Some (whole (int y), rest)) (ap negsuc same ∙ sym at)
 
-some_digits : (ds : List ℕ) → is_decimal ds ≡ true → 0 < length ds
+pub some_digits : (ds : List ℕ) → is_decimal ds ≡ true → 0 < length ds
 some_digits [] h = absurd (true≢false (sym h))
 some_digits (d ∷ ds) h = omega arith
 

@@ -24,16 +24,16 @@ use Rattle.nf_codec.proofs.Steps.{choice}
 use Rattle.nf_codec.proofs.Written.{decimal_back, int_back, counted_text_back, counted_back, fits}
 
 -- a letter, a number, `:` and then the rest
-head_then : (n : ℕ) (rest : List ℕ) (letter : ℕ) → head_code (letter ∷ []) n ++ rest ≡ letter ∷ (decimal n ++ 58 ∷ rest)
+pub head_then : (n : ℕ) (rest : List ℕ) (letter : ℕ) → head_code (letter ∷ []) n ++ rest ≡ letter ∷ (decimal n ++ 58 ∷ rest)
 head_then n rest letter = ap (λ bs. letter ∷ bs) (append_assoc (decimal n) (58 ∷ []) rest)
 
-text_then : (t rest : List ℕ) → text_code t ++ rest ≡ 115 ∷ (decimal (length t) ++ 58 ∷ (t ++ rest))
+pub text_then : (t rest : List ℕ) → text_code t ++ rest ≡ 115 ∷ (decimal (length t) ++ 58 ∷ (t ++ rest))
 text_then t rest = append_assoc (head_code (codes "s") (length t)) t rest ∙ head_then (length t) (t ++ rest) 115
 
-int_then : (i : ℤ) (rest : List ℕ) → int_code (signed_decimal i) ++ rest ≡ 105 ∷ (signed_decimal i ++ 59 ∷ rest)
+pub int_then : (i : ℤ) (rest : List ℕ) → int_code (signed_decimal i) ++ rest ≡ 105 ∷ (signed_decimal i ++ 59 ∷ rest)
 int_then i rest = ap (λ bs. 105 ∷ bs) (append_assoc (signed_decimal i) (59 ∷ []) rest)
 
-file_then : (n d : List ℕ) (l : ℕ) (rest : List ℕ) → file_code n d l ++ rest ≡ 112 ∷ (decimal (length n) ++ 58 ∷ (n ++ (encode_lower d ++ (decimal l ++ 59 ∷ rest))))
+pub file_then : (n d : List ℕ) (l : ℕ) (rest : List ℕ) → file_code n d l ++ rest ≡ 112 ∷ (decimal (length n) ++ 58 ∷ (n ++ (encode_lower d ++ (decimal l ++ 59 ∷ rest))))
 file_then n d l rest =
     let h = head_code (codes "p") (length n) in
     append_assoc (h ++ n ++ encode_lower d ++ decimal l) (59 ∷ []) rest ∙ append_assoc (h ++ n ++ encode_lower d) (decimal l) (59 ∷ rest) ∙ append_assoc (h ++ n) (encode_lower d) (decimal l ++ 59 ∷ rest)
@@ -153,7 +153,7 @@ met_twice v w r s h k is =
 pub one_code : (v w : Plain) (r s : List ℕ) → IsWhole v → IsWhole w → code v ++ r ≡ code w ++ s → (v ≡ w) × (r ≡ s)
 one_code v w r s h k is = (ap (value_in v) (met_twice v w r s h k is), ap (rest_in r) (met_twice v w r s h k is))
 
-left_is : (bs rest : List ℕ) (c n : ℕ) → length bs ≡ c + length rest → n ≤ length bs → rest ≡ drop n bs → n ≡ c
+pub left_is : (bs rest : List ℕ) (c n : ℕ) → length bs ≡ c + length rest → n ≤ length bs → rest ≡ drop n bs → n ≡ c
 left_is bs rest c n all small is = omega (arith, all, small, ap length is, length-drop n bs)
 
 pub given_back : (v : Plain) (rest : List ℕ) (result : Result (Value × ℕ) CodeFault) → IsWhole v → depth_of v ≤ 64 → Reads (code v ++ rest) (read 64 (code v ++ rest)) result → IsGivenBack v result

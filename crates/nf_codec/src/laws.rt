@@ -1,6 +1,6 @@
 //! Laws of the code of values, each as a contract over the definitions alone.
 
-ghost use Rattle.std.specs.Prelude.{◌≡◌, ◌≤◌, ◌++◌, ℕ, List, Ok};
+ghost use Rattle.std.specs.Prelude.{◌≡◌, ◌<◌, ◌≤◌, ◌^◌, ◌++◌, ℕ, List, length, Ok};
 ghost use Rattle.nf_value.specs.Plain.{Plain};
 ghost use Rattle.nf_value.specs.Code.{code};
 ghost use Rattle.nf_value.specs.Depth.{depth_of};
@@ -28,4 +28,10 @@ pub fn codes_differ()
 #[tactic(auto, using(crate::proofs::RoundTrip::given_back))]
 pub fn decode_gives_back()
     ensures { (v : Plain) → (rest : List ℕ) → (answer : Result (Value × ℕ) CodeFault) → IsWhole v → depth_of v ≤ 64 → Reads (code v ++ rest) (read 64 (code v ++ rest)) answer → IsGivenBack v answer }
+{}
+
+/// Only codes are read: what is read is a value whose code stands at the front, the bytes after that code are left, and no list or map
+/// of the value opens deeper than it may. Memory holds fewer than 2^64 bytes.
+pub fn only_codes_are_read()
+    ensures { (d : ℕ) → (bs : List ℕ) → (v : Plain) → (rest : List ℕ) → length bs < 2 ^ 64 → read d bs ≡ Ok (v, rest) → (bs ≡ code v ++ rest) × IsWhole v × (depth_of v ≤ d) }
 {}

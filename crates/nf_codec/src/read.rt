@@ -1,11 +1,15 @@
 //! Values read from bytes.
 
-ghost use Rattle.std.specs.Prelude.{◌≡◌, ◌≤◌, ◌<◌, ◌-◌, length, drop, map, None};
-ghost use Rattle.nf_value.specs.View.{pair_of};
+ghost use Rattle.std.specs.Prelude.{◌≡◌, ◌≤◌, ◌<◌, ◌-◌, ◌++◌, ℕ, List, length, take, drop, map, None, IfOk};
+ghost use Rattle.nf_value.specs.Plain.{Plain};
+ghost use Rattle.nf_value.specs.Code.{code};
+ghost use Rattle.nf_value.specs.Depth.{depth_of};
+ghost use Rattle.nf_value.specs.View.{plain_of, pair_of};
 ghost use Rattle.nf_codec.specs.Heads.{head_at, list_of, table_of};
 ghost use Rattle.nf_codec.specs.Fronts.{head_of, last_key};
 ghost use Rattle.nf_codec.specs.Reading as reading;
-ghost use Rattle.nf_codec.specs.Reading.{read, inner, opened, many, many_pairs, pair_from, key_from, text_of, is_above, Reads, ReadsBy};
+ghost use Rattle.nf_codec.specs.Reading.{read, inner, opened, many, many_pairs, pair_from, key_from, text_of, is_above, Reads, ReadsBy, IsGivenBack};
+ghost use Rattle.nf_codec.specs.Whole.{IsWhole};
 
 use crate::fault::CodeFault;
 use crate::head::{Head, read_head};
@@ -17,6 +21,9 @@ const DEPTH: u32 = 64;
 
 /// The value at the front of some bytes and how many bytes its code takes (own). What follows it is not looked at.
 ///
+/// It is answered exactly where the bytes begin with the code of a value in which no list or map opens at depth 65, but for want of
+/// memory: `code`, `within`, `whole` and `depth` say that an answer is such a value with its code, `every` that each such value is answered.
+///
 /// # Errors
 ///
 /// Values are met from the front, a list or map before its members. The head of a list or map is its letter, its count and `:`, and the head
@@ -24,7 +31,12 @@ const DEPTH: u32 = 64;
 /// first byte on, or it is a map's key and isn't a text above the key before. `TooDeep`: it is a list or map that opens at depth 65. `Mem`:
 /// there was no memory for it.
 pub fn decode(alloc: Global, bytes: &[u8]) -> Result<(Value, usize), CodeFault>
-    ensures { Reads bytes.now (read 64 bytes.now) result }
+    ensures reads { Reads bytes.now (read 64 bytes.now) result }
+    ensures code { IfOk result (λ p. take p.1 bytes.now ≡ code (plain_of p.0)) }
+    ensures within { IfOk result (λ p. p.1 ≤ length bytes.now) }
+    ensures whole { IfOk result (λ p. IsWhole (plain_of p.0)) }
+    ensures depth { IfOk result (λ p. depth_of (plain_of p.0) ≤ 64) }
+    ensures every { (v : Plain) → (rest : List ℕ) → bytes.now ≡ code v ++ rest → IsWhole v → depth_of v ≤ 64 → IsGivenBack v result }
 {
     read_value(alloc, bytes, 0, DEPTH)
 }
