@@ -1,8 +1,6 @@
 pub mod Places
-pub mod OneList
-pub mod Takes
-pub mod Braces
+pub mod Runs
 pub mod Steps
+pub mod Loop
+pub mod OneAnswer
 pub mod Longest
-pub mod BrokenLine
-pub mod SomeList

@@ -1,12 +1,21 @@
 -- Of the marks that stand in front the longest is taken.
 use Rattle.std.proofs.Common.{◌≡◌, ℕ, zero, suc, ◌≤◌, Bool, true, false, List, [], ◌∷◌, ◌++◌, length, Option, Some, None, ◌⊎◌, inl, inr, refl, sym, ap, ◌∙◌, arith, eq-eqb}
-use Rattle.std.specs.Prelude.{◌&&◌, not, is_some}
+use Rattle.std.specs.Prelude.{◌&&◌, ◌==◌, cond, not, is_some}
+use Rattle.std.proofs.lemmas.Bool.Decides.{Decides-eqb}
 use Rattle.std.specs.List.{Contains}
 use Rattle.nf_lexer.specs.declared.token.Mark.{Mark}
-use Rattle.nf_lexer.specs.First.{mark, mark_in, mark_or, past}
+use Rattle.nf_lexer.specs.Mark.{mark, mark_in, mark_or, past}
 use Rattle.nf_lexer.specs.Spellings.{marks}
 use Rattle.nf_lexer.specs.Longest.{IsLongest}
-use Rattle.nf_lexer.proofs.Takes.{past_is}
+
+past_if : (c : Bool) (b x : ℕ) (w bs rest : List ℕ) → (c ≡ true → b ≡ x) → (past w bs ≡ Some rest → bs ≡ w ++ rest) → cond c (past w bs) None ≡ Some rest → b ∷ bs ≡ x ∷ (w ++ rest)
+past_if true b x w bs rest h k e = ap (λ z. z ∷ bs) (h refl) ∙ ap (λ z. x ∷ z) (k e)
+past_if false b x w bs rest h k e = absurd cc
+
+past_is : (w bs rest : List ℕ) → past w bs ≡ Some rest → bs ≡ w ++ rest
+past_is [] bs rest e = cc
+past_is (x ∷ w) [] rest e = absurd cc
+past_is (x ∷ w) (b ∷ bs) rest e = past_if (b == x) b x w bs rest (Decides-eqb b x).0 (past_is w bs rest) e
 
 past_of : (w more : List ℕ) → past w (w ++ more) ≡ Some more
 past_of [] more = refl
@@ -67,7 +76,7 @@ first_longest m x ms bs rest more h e c f =
           omega (arith, no)
     ]
 
-step : (o : Option (List ℕ)) (m x : List ℕ × Mark) (ms : List (List ℕ × Mark)) (bs more : List ℕ) → past m.0 bs ≡ o → begins_none m.0 ms ≡ true → Contains (m ∷ ms) x → bs ≡ x.0 ++ more → (Contains ms x → IsLongest ms (mark_in ms bs) bs x) → IsLongest (m ∷ ms) (mark_or o m.1 (mark_in ms bs)) bs x
+step : (o : Option (List ℕ)) (m x : List ℕ × Mark) (ms : List (List ℕ × Mark)) (bs more : List ℕ) → past m.0 bs ≡ o → begins_none m.0 ms ≡ true → Contains (m ∷ ms) x → bs ≡ x.0 ++ more → (Contains ms x → IsLongest ms (mark_in ms bs) bs x) → IsLongest (m ∷ ms) (mark_or o m.1 (length m.0) (mark_in ms bs)) bs x
 step (Some rest) m x ms bs more p h c f k =
     record {
       row = m;

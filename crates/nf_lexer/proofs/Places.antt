@@ -6,7 +6,7 @@ use Rattle.std.proofs.lemmas.List.{append-nil, take_at, reverse-append}
 use Rattle.std.proofs.lemmas.List.Sums.{sum_by-append, count_by-le-length, suffix_len-le-length}
 use Rattle.nf_value.specs.declared.place.Place.{Place}
 use Rattle.nf_lexer.specs.Bytes.{is_line_feed, is_not_line_feed}
-use Rattle.nf_lexer.specs.Place.{place_after, place_of}
+use Rattle.nf_lexer.specs.Place.{place_after, place_of, beyond}
 
 pub same_place : (p q : Place) → p.line ≡ q.line → p.col ≡ q.col → p ≡ q
 same_place p q e f = ap (λ x. record { line = x; col = p.col }) e ∙ ap (λ x. record { line = q.line; col = x }) f
@@ -26,6 +26,10 @@ at_start = refl
 pub at_start_col : (place_after []).col ≡ 1
 unfolding place_after
 at_start_col = refl
+
+pub at_start_place : record { line = 1; col = 1 } ≡ place_after []
+unfolding place_after
+at_start_place = refl
 
 line-push : (front : List ℕ) (b : ℕ) → (place_after (front ++ b ∷ [])).line ≡ (place_after front).line + cond (b == 10) 1 0
 unfolding place_after
@@ -54,25 +58,26 @@ other-col front b h =
     let e : suffix_len is_not_line_feed (front ++ b ∷ []) ≡ 1 + suffix_len is_not_line_feed front = suffix_push front b ∙ rw h refl in
     omega (arith, e)
 
-not_both : (a b : Bool) → (not a && b) ≡ true → (a ≡ false) × (b ≡ true)
-not_both true b h = absurd cc
-not_both false b h = (refl, h)
+-- the place after one byte more
+pub next_line_after : (front : List ℕ) (b : ℕ) (here there : Place) → (b == 10) ≡ true → here ≡ place_after front → there.line ≡ here.line + 1 → there.col ≡ 1 → there ≡ place_after (front ++ b ∷ [])
+next_line_after front b here there h e line col =
+    let was = ap (λ (x : Place). x.line) e in
+    let line_is : there.line ≡ (place_after (front ++ b ∷ [])).line = omega (arith, line, was, line_feed-line front b h) in
+    let col_is : there.col ≡ (place_after (front ++ b ∷ [])).col = col ∙ sym (line_feed-col front b h) in
+    same_place there _ line_is col_is
 
--- bytes that are no line feeds lead further on the line
-pub further-line : (front more : List ℕ) → list_all is_not_line_feed more ≡ true → (place_after (front ++ more)).line ≡ (place_after front).line
-further-line front [] h = ap (λ x. (place_after x).line) (append-nil front)
-further-line front (b ∷ more) h =
-    let k = not_both (b == 10) (list_all is_not_line_feed more) h in
-    let e : front ++ b ∷ more ≡ (front ++ b ∷ []) ++ more = sym (append_assoc front (b ∷ []) more) in
-    ap (λ x. (place_after x).line) e ∙ further-line (front ++ b ∷ []) more k.1 ∙ other-line front b k.0
+pub further_after : (front : List ℕ) (b : ℕ) (here there : Place) → (b == 10) ≡ false → here ≡ place_after front → there ≡ beyond 1 here → there ≡ place_after (front ++ b ∷ [])
+further_after front b here there h e next =
+    let line = ap (λ (x : Place). x.line) e in
+    let col = ap (λ (x : Place). x.col) e in
+    let next_line = ap (λ (x : Place). x.line) next in
+    let next_col = ap (λ (x : Place). x.col) next in
+    let line_is : there.line ≡ (place_after (front ++ b ∷ [])).line = omega (arith, line, next_line, other-line front b h) in
+    let col_is : there.col ≡ (place_after (front ++ b ∷ [])).col = omega (arith, col, next_col, other-col front b h) in
+    same_place there _ line_is col_is
 
-pub further-col : (front more : List ℕ) → list_all is_not_line_feed more ≡ true → (place_after (front ++ more)).col ≡ (place_after front).col + length more
-further-col front [] h = ap (λ x. (place_after x).col) (append-nil front) ∙ omega arith
-further-col front (b ∷ more) h =
-    let k = not_both (b == 10) (list_all is_not_line_feed more) h in
-    let e : front ++ b ∷ more ≡ (front ++ b ∷ []) ++ more = sym (append_assoc front (b ∷ []) more) in
-    let e1 : (place_after (front ++ b ∷ more)).col ≡ (place_after ((front ++ b ∷ []) ++ more)).col = ap (λ x. (place_after x).col) e in
-    omega (arith, e1, further-col (front ++ b ∷ []) more k.1, other-col front b k.0)
+pub along : (front bs next : List ℕ) (b : ℕ) (there : Place) → next ≡ bs ++ b ∷ [] → there ≡ place_after ((front ++ bs) ++ b ∷ []) → there ≡ place_after (front ++ next)
+along front bs next b there e h = h ∙ ap place_after (append_assoc front bs (b ∷ []) ∙ ap (λ (z : List ℕ). front ++ z) (sym e))
 
 -- the place at which what stands after the front is left
 pub place_at : (text front rest : List ℕ) → text ≡ front ++ rest → place_of text (length rest) ≡ place_after front

@@ -1,130 +1,284 @@
--- The steps of the loop over a text.
-use Rattle.std.proofs.Common.{◌≡◌, ℕ, zero, suc, ◌+◌, ◌-◌, ◌≤◌, ◌<◌, Bool, true, false, cond, List, [], ◌∷◌, ◌++◌, length, take, drop, Result, Ok, Err, IfOk, refl, sym, ap, ◌∙◌, arith, append_assoc, length-append}
-use Rattle.std.specs.Prelude.{codes, nat_eq, take_while}
-use Rattle.std.specs.List.{prefix_len, list_all, starts_with}
-use Rattle.std.specs.Str.Lossy.{utf8_valid_len}
-use Rattle.std.proofs.lemmas.Str.{utf8_valid_len_le}
-use Rattle.std.proofs.lemmas.List.{take-append-drop, length-take-le}
-use Rattle.std.proofs.lemmas.List.Folds.{length-prefix_len}
+-- What stands first takes a byte or closes something, and no more bytes than are left.
+use Rattle.std.proofs.Common.{◌≡◌, ℕ, suc, ◌+◌, ◌*◌, ◌-◌, ◌≤◌, ◌<◌, ◌⊎◌, inl, inr, Bool, true, false, cond, List, [], ◌∷◌, length, take, drop, Option, Some, None, refl, sym, ap, ◌∙◌, subst, arith}
+use Rattle.std.specs.Prelude.{nat_lt, nat_eq, ◌==◌, ◌&&◌, take_while}
+use Rattle.std.specs.List.{starts_with}
+use Rattle.std.specs.Char.{is_ascii_digit}
+use Rattle.std.specs.Str.{is_utf8}
+use Rattle.std.specs.Str.Parse.{digits_value}
+use lib.Pointwise.{pointwise_long}
+use Rattle.std.proofs.lemmas.Bool.Decides.{nat_tests}
+use Rattle.std.proofs.lemmas.List.{length-take, length-drop}
 use Rattle.nf_value.specs.declared.place.Place.{Place}
-use Rattle.nf_lexer.specs.declared.token.Token.{Token}
-use Rattle.nf_lexer.specs.declared.token.Token.TheVariants as t
-use Rattle.nf_lexer.specs.declared.token.Lexeme.{Lexeme}
-use Rattle.nf_lexer.specs.declared.settler.Settler.{Settler}
-use Rattle.nf_lexer.specs.Bytes.{is_not_line_feed}
-use Rattle.nf_lexer.specs.First.{token, line_end, skip, finished, foreign, first}
-use Rattle.nf_lexer.specs.Place.{place_after, place_of}
-use Rattle.nf_lexer.specs.Separators.{Piece, lexed, line_end_at, settled}
-use Rattle.nf_lexer.specs.Tokens.{Pieces, ends, stops, passes, breaks, goes, skipped}
-use Rattle.nf_lexer.specs.View.{outcome}
-use Rattle.nf_lexer.proofs.Takes.{Takes}
-use Rattle.nf_lexer.proofs.Places.{at_start, at_start_col, line-le, col-le, line_feed-line, line_feed-col, further-line, further-col, same_place, place_at}
+use Rattle.nf_lexer.specs.declared.fault.LexFault.{LexFault}
+use Rattle.nf_lexer.specs.declared.token.Mark.{Mark}
+use Rattle.nf_lexer.specs.declared.token.PlainKind.TheVariants.{Single, TripleSingle, Slashes}
+use Rattle.nf_lexer.specs.declared.token.TemplateKind.TheVariants.{Double, TripleDouble}
+use Rattle.nf_lexer.specs.declared.open.TextKind.{TextKind}
+use Rattle.nf_lexer.specs.declared.open.TextKind.TheVariants.{Plain, Pattern, Template}
+use Rattle.nf_lexer.specs.declared.open.Open.{Open}
+use Rattle.nf_lexer.specs.declared.open.Open.TheVariants.{Round, Square, Brace, Hole, NamedHole, Text, Comment, LineComment}
+use Rattle.nf_lexer.specs.declared.open.Change.{Change}
+use Rattle.nf_lexer.specs.declared.open.Change.TheVariants.{Keep, Enter, Leave, LeaveBrace}
+use Rattle.nf_lexer.specs.Bytes.{is_blank, begins_name, is_in_name, is_not_line_feed, is_special, is_ordinary, is_in_comment}
+use Rattle.nf_lexer.specs.Front.{Item, silent, First, passes, finished, broken, checked}
+use Rattle.nf_lexer.specs.Open.{around, around_nearest, after_brace, nearest, changed, is_brace_or_hole, innermost, outermost, line_fault, end_fault}
+use Rattle.nf_lexer.specs.Spellings.{marks, closing}
+use Rattle.nf_lexer.specs.Word.{word, number, limit, begins_property}
+use Rattle.nf_lexer.specs.Mark.{past, mark_or, mark_in, mark, marked}
+use Rattle.nf_lexer.specs.Escape.{escaped, hex_number, character, written_or_bad, escape, kept}
+use Rattle.nf_lexer.specs.First.{begun, opens, quote, slash, tilde, line_item, in_code, has_escapes, has_holes, ended, hole, in_text, in_named_hole, in_line_comment, star, in_comment, in_open, broken_or, fault_at, first}
+use Rattle.nf_lexer.proofs.Runs.{run_le, run_some}
 
--- ---- places
+abbrev pub Steps : List Open → List ℕ → First → Type 0
+Steps o bs (passes item change n) = (n ≤ length bs) × ((0 < n) ⊎ ((change ≡ Leave) × (0 < length o)))
+Steps o bs finished = bs ≡ []
+Steps o bs (broken fault) = Unit {0}
 
-abbrev pub Placed : List ℕ → Place → List ℕ → Type 0
-Placed text place rest = (front : List ℕ) × (text ≡ front ++ rest) × (place ≡ place_after front)
+if_steps : (o : List Open) (bs : List ℕ) (c : Bool) (x y : First) → (c ≡ true → Steps o bs x) → (c ≡ false → Steps o bs y) → Steps o bs (cond c x y)
+if_steps o bs true x y h k = h refl
+if_steps o bs false x y h k = k refl
 
-pub at_place : (text : List ℕ) (place : Place) (rest : List ℕ) → Placed text place rest → place ≡ place_of text (length rest)
-at_place text place rest p = p.2 ∙ sym (place_at text p.0 rest p.1)
+some : (o : List Open) (bs : List ℕ) (change : Change) (n : ℕ) → n ≤ length bs → 0 < n → Steps o bs (passes silent change n)
+some o bs change n h k = (h, inl k)
 
-pub front_small : (text : List ℕ) (place : Place) (rest : List ℕ) → Placed text place rest → (place.line ≤ 1 + length text) × (place.col ≤ 1 + length text) × (length rest ≤ length text)
-front_small text place rest p =
-    let n = ap length p.1 in
-    let line = ap (λ (x : Place). x.line) p.2 in
-    let col = ap (λ (x : Place). x.col) p.2 in
-    (omega (arith, n, length-append p.0 rest, line, line-le p.0), omega (arith, n, length-append p.0 rest, col, col-le p.0), omega (arith, n, length-append p.0 rest))
+one : (o : List Open) (b : ℕ) (bs : List ℕ) (change : Change) → Steps o (b ∷ bs) (passes silent change 1)
+one o b bs change = some o (b ∷ bs) change 1 (omega arith) (omega arith)
 
-pub takes_len : (bs rest : List ℕ) → Takes bs rest → length rest < length bs
-takes_len bs rest k = omega (arith, ap length k.is, length-append k.front rest, k.some)
+two : (o : List Open) (b c : ℕ) (bs : List ℕ) (change : Change) → Steps o (b ∷ c ∷ bs) (passes silent change 2)
+two o b c bs change = some o (b ∷ c ∷ bs) change 2 (omega arith) (omega arith)
 
-pub moved : (text : List ℕ) (place next : Place) (rest after : List ℕ) → Placed text place rest → Takes rest after → next.line ≡ place.line → next.col ≡ place.col + (length rest - length after) → Placed text next after
-moved text place next rest after p k line col =
-    let e : text ≡ (p.0 ++ k.front) ++ after = p.1 ∙ ap (λ z. p.0 ++ z) k.is ∙ sym (append_assoc p.0 k.front after) in
-    let n : length rest - length after ≡ length k.front = omega (arith, ap length k.is, length-append k.front after) in
-    let line_is : next.line ≡ (place_after (p.0 ++ k.front)).line = line ∙ ap (λ (x : Place). x.line) p.2 ∙ sym (further-line p.0 k.front k.plain) in
-    let col_was = ap (λ (x : Place). x.col) p.2 in
-    let col_is : next.col ≡ (place_after (p.0 ++ k.front)).col = omega (arith, col, n, col_was, further-col p.0 k.front k.plain) in
-    (p.0 ++ k.front, e, same_place next _ line_is col_is)
+checked_steps : (o : List Open) (bs : List ℕ) (place : Place) (w : List ℕ) (item : Item) (change : Change) → length w ≤ length bs → (0 < length w) ⊎ ((change ≡ Leave) × (0 < length o)) → Steps o bs (checked place w item change)
+checked_steps o bs place w item change h k = if_steps o bs (is_utf8 w) _ _ (λ _. (h, k)) (λ _. tt)
 
-pub skipped_one : (text : List ℕ) (place next : Place) (rest after : List ℕ) → Placed text place rest → (b : ℕ) × (rest ≡ b ∷ after) × (is_not_line_feed b ≡ true) → next.line ≡ place.line → next.col ≡ place.col + 1 → Placed text next after
-skipped_one text place next rest after p k line col =
-    let n : length rest - length after ≡ 1 = omega (arith, ap length k.1) in
-    let t : Takes rest after = record { front = k.0 ∷ []; is = k.1; some = omega arith; plain = rw k.2 refl } in
-    moved text place next rest after p t line (omega (arith, n, col))
+-- ---- words, numbers and marks
 
-pub next_lined : (text : List ℕ) (place next : Place) (rest after : List ℕ) → Placed text place rest → rest ≡ 10 ∷ after → next.line ≡ place.line + 1 → next.col ≡ 1 → Placed text next after
-next_lined text place next rest after p k line col =
-    let e : text ≡ (p.0 ++ 10 ∷ []) ++ after = p.1 ∙ ap (λ z. p.0 ++ z) k ∙ sym (append_assoc p.0 (10 ∷ []) after) in
-    let was = ap (λ (x : Place). x.line) p.2 in
-    let line_is : next.line ≡ (place_after (p.0 ++ 10 ∷ [])).line = omega (arith, line, was, line_feed-line p.0 10 refl) in
-    let col_is : next.col ≡ (place_after (p.0 ++ 10 ∷ [])).col = col ∙ sym (line_feed-col p.0 10 refl) in
-    (p.0 ++ 10 ∷ [], e, same_place next _ line_is col_is)
+begins_in_name : (b : ℕ) → begins_name b ≡ true → is_in_name b ≡ true
+begins_in_name b h = grind (arith, nat_tests)
 
--- ---- the start
+word_steps : (o : List Open) (b : ℕ) (bs : List ℕ) → begins_name b ≡ true → Steps o (b ∷ bs) (word (b ∷ bs))
+word_steps o b bs h = (run_le is_in_name (b ∷ bs), inl (run_some is_in_name b bs (begins_in_name b h)))
 
-one_more : (c : Bool) (n k : ℕ) → suc n ≤ cond c (1 + k) 0 → (c ≡ true) × (n ≤ k)
-one_more true n k h = (refl, omega arith)
-one_more false n k h = absurd (omega arith)
+number_steps : (o : List Open) (place : Place) (b : ℕ) (bs : List ℕ) → is_ascii_digit b ≡ true → Steps o (b ∷ bs) (number place (b ∷ bs))
+unfolding number
+number_steps o place b bs h = if_steps o (b ∷ bs) (nat_lt limit (digits_value 10 (take_while is_ascii_digit (b ∷ bs)))) _ _ (λ _. tt) (λ _. (run_le is_ascii_digit (b ∷ bs), inl (run_some is_ascii_digit b bs h)))
 
-plain_front : (n : ℕ) (xs : List ℕ) → n ≤ prefix_len is_not_line_feed xs → list_all is_not_line_feed (take n xs) ≡ true
-plain_front zero [] h = refl
-plain_front zero (x ∷ xs) h = refl
-plain_front (suc n) [] h = refl
-plain_front (suc n) (x ∷ xs) h =
-    let k = one_more (is_not_line_feed x) n (prefix_len is_not_line_feed xs) h in
-    rw k.0 (plain_front n xs k.1)
+past_if : (c : Bool) (w bs rest : List ℕ) → (past w bs ≡ Some rest → length w ≤ length bs) → cond c (past w bs) None ≡ Some rest → suc (length w) ≤ suc (length bs)
+past_if true w bs rest h e = omega (arith, h e)
+past_if false w bs rest h e = absurd cc
 
-skipped_le : (c : Bool) (text : List ℕ) → cond c (utf8_valid_len (take_while is_not_line_feed text)) 0 ≤ prefix_len is_not_line_feed text
-skipped_le true text = omega (arith, utf8_valid_len_le (take_while is_not_line_feed text), length-prefix_len is_not_line_feed text)
-skipped_le false text = omega arith
+past_le : (w bs rest : List ℕ) → past w bs ≡ Some rest → length w ≤ length bs
+past_le [] bs rest e = omega arith
+past_le (x ∷ w) [] rest e = absurd cc
+past_le (x ∷ w) (b ∷ bs) rest e = past_if (b == x) w bs rest (past_le w bs rest) e
 
-skipped_within : (text : List ℕ) → skipped text ≤ prefix_len is_not_line_feed text
-unfolding skipped
-skipped_within text = skipped_le (starts_with nat_eq text (codes "#!")) text
+abbrev Fits : List ℕ → Option (Mark × ℕ) → Type 0
+Fits bs None = Unit {0}
+Fits bs (Some x) = (x.1 ≤ length bs) × (0 < x.1)
 
-pub start_placed : (text : List ℕ) (place : Place) → skipped text ≤ length text → place.line ≡ 1 → place.col ≡ 1 + skipped text → Placed text place (drop (skipped text) text)
-start_placed text place h line col =
-    let front = take (skipped text) text in
-    let plain = plain_front (skipped text) text (skipped_within text) in
-    let n = length-take-le (skipped text) text h in
-    let line_is : place.line ≡ (place_after front).line = line ∙ sym at_start ∙ sym (further-line [] front plain) in
-    let col_is : place.col ≡ (place_after front).col = omega (arith, col, at_start_col, n, further-col [] front plain) in
-    (front, sym (take-append-drop (skipped text) text), same_place place _ line_is col_is)
+abbrev has_byte : List ℕ → Bool
+has_byte [] = false
+has_byte (b ∷ w) = true
 
--- ---- pieces
+abbrev have_bytes : List (List ℕ × Mark) → Bool
+have_bytes [] = true
+have_bytes (x ∷ xs) = has_byte x.0 && have_bytes xs
 
--- whatever the rest is cut into, the whole is cut into something of the same outcome
-abbrev pub Joined : List ℕ → Settler → List ℕ → Type 0
-Joined text s rest = (v : List Piece) → Pieces text rest v → (w : List Piece) × Pieces text (drop (skipped text) text) w × (outcome s v ≡ settled [] w)
+both : (a b : Bool) → (a && b) ≡ true → (a ≡ true) × (b ≡ true)
+both true b h = (refl, h)
+both false b h = absurd cc
 
-pub joined_start : (text : List ℕ) (s : Settler) → ((v : List Piece) → outcome s v ≡ settled [] v) → Joined text s (drop (skipped text) text)
-joined_start text s h = λ v p. (v, p, h v)
+byte_some : (w : List ℕ) → has_byte w ≡ true → 0 < length w
+byte_some [] h = absurd cc
+byte_some (b ∷ w) h = omega arith
 
-pub joined_skip : (text : List ℕ) (s : Settler) (rest after : List ℕ) → Joined text s rest → first rest ≡ skip after → Joined text s after
-joined_skip text s rest after j e = λ v p. j v (passes e p)
+or_fits : (o : Option (List ℕ)) (m : Mark) (w bs : List ℕ) (other : Option (Mark × ℕ)) → has_byte w ≡ true → past w bs ≡ o → Fits bs other → Fits bs (mark_or o m (length w) other)
+or_fits (Some rest) m w bs other h e k = (past_le w bs rest e, byte_some w h)
+or_fits None m w bs other h e k = k
 
-pub joined_line_end : (text : List ℕ) (s next : Settler) (place : Place) (rest after : List ℕ) → Joined text s rest → Placed text place rest → first rest ≡ line_end after → ((v : List Piece) → outcome next v ≡ outcome s (line_end_at place ∷ v)) → Joined text next after
-joined_line_end text s next place rest after j at e h = λ v p.
-    let q = j _ (breaks e p) in
-    (q.0, q.1, h v ∙ ap (λ z. outcome s (line_end_at z ∷ v)) (at_place text place rest at) ∙ q.2)
+marks_fit : (ms : List (List ℕ × Mark)) (bs : List ℕ) → have_bytes ms ≡ true → Fits bs (mark_in ms bs)
+marks_fit [] bs h = tt
+marks_fit (x ∷ ms) bs h =
+    let k = both (has_byte x.0) (have_bytes ms) h in
+    or_fits (past x.0 bs) x.1 x.0 bs (mark_in ms bs) k.0 refl (marks_fit ms bs k.1)
 
-pub joined_token : (text : List ℕ) (s next : Settler) (x : Token) (place : Place) (rest after : List ℕ) → Joined text s rest → Placed text place rest → first rest ≡ token x after → ((v : List Piece) → outcome next v ≡ outcome s (lexed (record { token = x; place = place }) ∷ v)) → Joined text next after
-joined_token text s next x place rest after j at e h = λ v p.
-    let q = j _ (goes e p) in
-    (q.0, q.1, h v ∙ ap (λ z. outcome s (lexed (record { token = x; place = z }) ∷ v)) (at_place text place rest at) ∙ q.2)
+mark_fits : (bs : List ℕ) → Fits bs (mark bs)
+unfolding mark
+mark_fits bs = marks_fit marks bs refl
 
-abbrev pub Whole : List ℕ → List Lexeme → Type 0
-Whole text items = (w : List Piece) × Pieces text (drop (skipped text) text) w × (items ≡ settled [] w)
+marked_steps : (o : List Open) (place : Place) (bs : List ℕ) (x : Option (Mark × ℕ)) → Fits bs x → Steps o bs (marked o place x)
+marked_steps o place bs (Some x) k = (k.0, inl k.1)
+marked_steps o place bs None k = tt
 
-pub joined_end : (text : List ℕ) (s : Settler) (rest : List ℕ) (items : List Lexeme) → Joined text s rest → first rest ≡ finished → items ≡ outcome s [] → Whole text items
-joined_end text s rest items j e h = let q = j [] (ends e) in (q.0, q.1, h ∙ q.2)
+-- ---- between tokens
 
-pub joined_stop : (text : List ℕ) (s next : Settler) (place : Place) (rest : List ℕ) (items : List Lexeme) → Joined text s rest → Placed text place rest → first rest ≡ foreign → ((v : List Piece) → outcome next v ≡ outcome s (lexed (record { token = t.Unbuilt; place = place }) ∷ v)) → items ≡ outcome next [] → Whole text items
-joined_stop text s next place rest items j at e h i =
-    let q = j _ (stops e) in
-    (q.0, q.1, i ∙ h [] ∙ ap (λ z. outcome s (lexed (record { token = t.Unbuilt; place = z }) ∷ [])) (at_place text place rest at) ∙ q.2)
+starts_le : (bs w : List ℕ) → starts_with nat_eq bs w ≡ true → length w ≤ length bs
+starts_le bs w h = omega (arith, pointwise_long nat_eq w (take (length w) bs) h, length-take (length w) bs)
 
-pub if_ok : {A E : Type 0} (r : Result A E) (P Q : A → Type 0) → ((a : A) → P a → Q a) → IfOk r P → IfOk r Q
-if_ok (Ok a) P Q f h = f a h
-if_ok (Err e) P Q f h = tt
+quote_steps : (o : List Open) (triple single : TextKind) (place : Place) (b : ℕ) (bs : List ℕ) → length (closing triple) ≡ 3 → Steps o (b ∷ bs) (quote triple single place (b ∷ bs))
+quote_steps o triple single place b bs h =
+    if_steps o (b ∷ bs) (starts_with nat_eq (b ∷ bs) (closing triple)) _ _
+    (λ k. some o (b ∷ bs) _ 3 (omega (arith, h, starts_le (b ∷ bs) (closing triple) k)) (omega arith))
+    (λ _. one o b bs _)
+
+slash_steps : (o : List Open) (place : Place) (b : ℕ) (bs : List ℕ) → Steps o (b ∷ bs) (slash place bs)
+slash_steps o place b [] = one o b [] _
+slash_steps o place b (c ∷ bs) =
+    if_steps o (b ∷ c ∷ bs) (c == 47) _ _ (λ _. two o b c bs _) (λ _.
+    if_steps o (b ∷ c ∷ bs) (c == 42) _ _ (λ _. two o b c bs _) (λ _. one o b (c ∷ bs) _))
+
+tilde_steps : (o : List Open) (place : Place) (b : ℕ) (bs : List ℕ) → Steps o (b ∷ bs) (tilde place bs)
+tilde_steps o place b [] = tt
+tilde_steps o place b (c ∷ bs) = if_steps o (b ∷ c ∷ bs) (c == 47) _ _ (λ _. two o b c bs _) (λ _. tt)
+
+code_steps : (o : List Open) (place : Place) (b : ℕ) (bs : List ℕ) → Steps o (b ∷ bs) (in_code o place b bs)
+unfolding in_code
+code_steps o place b bs =
+    if_steps o (b ∷ bs) (is_blank b) _ _ (λ _. one o b bs _) (λ _.
+    if_steps o (b ∷ bs) (b == 10) _ _ (λ _. one o b bs _) (λ _.
+    if_steps o (b ∷ bs) (b == 59) _ _ (λ _. one o b bs _) (λ _.
+    if_steps o (b ∷ bs) (begins_name b) _ _ (λ h. word_steps o b bs h) (λ _.
+    if_steps o (b ∷ bs) (is_ascii_digit b) _ _ (λ h. number_steps o place b bs h) (λ _.
+    if_steps o (b ∷ bs) (b == 39) _ _ (λ _. quote_steps o (Plain TripleSingle) (Plain Single) place b bs refl) (λ _.
+    if_steps o (b ∷ bs) (b == 34) _ _ (λ _. quote_steps o (Template TripleDouble) (Template Double) place b bs refl) (λ _.
+    if_steps o (b ∷ bs) (b == 47) _ _ (λ _. slash_steps o place b bs) (λ _.
+    if_steps o (b ∷ bs) (b == 126) _ _ (λ _. tilde_steps o place b bs) (λ _.
+    marked_steps o place (b ∷ bs) (mark (b ∷ bs)) (mark_fits (b ∷ bs)))))))))))
+
+-- ---- in strings
+
+written_steps : (o : List Open) (place : Place) (bs : List ℕ) (w : Option (List ℕ)) (n : ℕ) → n ≤ length bs → 0 < n → Steps o bs (written_or_bad place w n)
+written_steps o place bs (Some w) n h k = (h, inl k)
+written_steps o place bs None n h k = tt
+
+unicode_steps : (o : List Open) (place : Place) (b u : ℕ) (bs : List ℕ) → Steps o (b ∷ u ∷ bs) (written_or_bad place (character (hex_number bs)) 6)
+unicode_steps o place b u [] = tt
+unicode_steps o place b u (x ∷ []) = tt
+unicode_steps o place b u (x ∷ y ∷ []) = tt
+unicode_steps o place b u (x ∷ y ∷ z ∷ []) = tt
+unicode_steps o place b u (x ∷ y ∷ z ∷ w ∷ bs) = written_steps o place (b ∷ u ∷ x ∷ y ∷ z ∷ w ∷ bs) (character (hex_number (x ∷ y ∷ z ∷ w ∷ bs))) 6 (omega arith) (omega arith)
+
+escape_steps : (o : List Open) (place : Place) (b : ℕ) (bs : List ℕ) → Steps o (b ∷ bs) (escape place bs)
+escape_steps o place b [] = tt
+escape_steps o place b (c ∷ bs) = if_steps o (b ∷ c ∷ bs) (c == 117) _ _ (λ _. unicode_steps o place b c bs) (λ _. written_steps o place (b ∷ c ∷ bs) (escaped c) 2 (omega arith) (omega arith))
+
+kept_steps : (o : List Open) (b : ℕ) (bs : List ℕ) → Steps o (b ∷ bs) (kept bs)
+kept_steps o b [] = one o b [] _
+kept_steps o b (c ∷ bs) = if_steps o (b ∷ c ∷ bs) (c == 47) _ _ (λ _. two o b c bs _) (λ _. one o b (c ∷ bs) _)
+
+hole_steps : (o : List Open) (b : ℕ) (bs : List ℕ) → Steps o (b ∷ bs) (hole bs)
+hole_steps o b [] = one o b [] _
+hole_steps o b (c ∷ bs) =
+    if_steps o (b ∷ c ∷ bs) (c == 123) _ _ (λ _. two o b c bs _) (λ _.
+    if_steps o (b ∷ c ∷ bs) (begins_name c) _ _ (λ _. one o b (c ∷ bs) _) (λ _. one o b (c ∷ bs) _))
+
+closing_some : (k : TextKind) → 0 < length (closing k)
+closing_some (Plain Single) = omega arith
+closing_some (Plain TripleSingle) = omega arith
+closing_some (Plain Slashes) = omega arith
+closing_some Pattern = omega arith
+closing_some (Template Double) = omega arith
+closing_some (Template TripleDouble) = omega arith
+
+ordinary : (b : ℕ) → is_special b ≡ false → is_ordinary b ≡ true
+ordinary b h = rw h refl
+
+text_steps : (o : List Open) (k : TextKind) (place : Place) (b : ℕ) (bs : List ℕ) → Steps o (b ∷ bs) (in_text k place b bs)
+unfolding in_text
+text_steps o k place b bs =
+    if_steps o (b ∷ bs) (starts_with nat_eq (b ∷ bs) (closing k)) _ _ (λ h. some o (b ∷ bs) _ (length (closing k)) (starts_le (b ∷ bs) (closing k) h) (closing_some k)) (λ _.
+    if_steps o (b ∷ bs) (b == 92) _ _ (λ _. if_steps o (b ∷ bs) (has_escapes k) _ _ (λ _. escape_steps o place b bs) (λ _. kept_steps o b bs)) (λ _.
+    if_steps o (b ∷ bs) (b == 36 && has_holes k) _ _ (λ _. hole_steps o b bs) (λ _.
+    if_steps o (b ∷ bs) (is_special b) _ _ (λ _. one o b bs _) (λ h.
+    checked_steps o (b ∷ bs) place _ _ _ (run_le is_ordinary (b ∷ bs)) (inl (run_some is_ordinary b bs (ordinary b h)))))))
+
+-- ---- in comments and holes
+
+named_steps : (o : List Open) (b : ℕ) (bs : List ℕ) → 0 < length o → Steps o (b ∷ bs) (in_named_hole b bs)
+named_steps o b bs k =
+    if_steps o (b ∷ bs) (begins_name b) _ _ (λ h. word_steps o b bs h) (λ _.
+    if_steps o (b ∷ bs) (b == 46 && begins_property bs) _ _ (λ _. one o b bs _) (λ _. (omega arith, inr (refl, k))))
+
+line_comment_steps : (o : List Open) (place : Place) (bs : List ℕ) → 0 < length o → Steps o bs (in_line_comment place bs)
+line_comment_steps o place bs k = checked_steps o bs place _ _ _ (run_le is_not_line_feed bs) (inr (refl, k))
+
+star_steps : (o : List Open) (b : ℕ) (bs : List ℕ) → Steps o (b ∷ bs) (star bs)
+star_steps o b [] = one o b [] _
+star_steps o b (c ∷ bs) = if_steps o (b ∷ c ∷ bs) (c == 47) _ _ (λ _. two o b c bs _) (λ _. one o b (c ∷ bs) _)
+
+neither : (b : ℕ) → (b == 42) ≡ false → (b == 10) ≡ false → is_in_comment b ≡ true
+neither b h k = rw (k, h) refl
+
+comment_steps : (o : List Open) (place : Place) (b : ℕ) (bs : List ℕ) → Steps o (b ∷ bs) (in_comment place b bs)
+comment_steps o place b bs =
+    if_steps o (b ∷ bs) (b == 42) _ _ (λ _. star_steps o b bs) (λ h.
+    if_steps o (b ∷ bs) (b == 10) _ _ (λ _. one o b bs _) (λ k.
+    checked_steps o (b ∷ bs) place _ _ _ (run_le is_in_comment (b ∷ bs)) (inl (run_some is_in_comment b bs (neither b h k)))))
+
+-- ---- the whole
+
+open_steps : (o : List Open) (place : Place) (b : ℕ) (bs : List ℕ) → Steps o (b ∷ bs) (in_open (innermost o) o place b bs)
+open_steps [] place b bs = code_steps [] place b bs
+open_steps (Round ∷ o) place b bs = code_steps (Round ∷ o) place b bs
+open_steps (Square ∷ o) place b bs = code_steps (Square ∷ o) place b bs
+open_steps (Brace ∷ o) place b bs = code_steps (Brace ∷ o) place b bs
+open_steps (Hole ∷ o) place b bs = code_steps (Hole ∷ o) place b bs
+open_steps (NamedHole ∷ o) place b bs = named_steps (NamedHole ∷ o) b bs (omega arith)
+open_steps (Text k p ∷ o) place b bs = text_steps (Text k p ∷ o) k place b bs
+open_steps (Comment p ∷ o) place b bs = comment_steps (Comment p ∷ o) place b bs
+open_steps (LineComment ∷ o) place b bs = line_comment_steps (LineComment ∷ o) place (b ∷ bs) (omega arith)
+
+broken_or_steps : (o : List Open) (bs : List ℕ) (f : Option LexFault) (x : First) → Steps o bs x → Steps o bs (broken_or f x)
+broken_or_steps o bs (Some f) x h = tt
+broken_or_steps o bs None x h = h
+
+pub first_steps : (o : List Open) (place : Place) (bs : List ℕ) → Steps o bs (first o place bs)
+unfolding first
+first_steps o place [] = broken_or_steps o [] (outermost end_fault o) finished refl
+first_steps o place (b ∷ bs) = broken_or_steps o (b ∷ bs) (fault_at b o) (in_open (innermost o) o place b bs) (open_steps o place b bs)
+
+pub steps_of : (o : List Open) (place : Place) (bs : List ℕ) (x : First) → x ≡ first o place bs → Steps o bs x
+steps_of o place bs x e = subst (Steps o bs) (sym e) (first_steps o place bs)
+
+-- ---- so a text is read to its end
+
+if_le : (c : Bool) (x y : List Open) (n : ℕ) → length x ≤ n → length y ≤ n → length (cond c x y) ≤ n
+if_le true x y n h k = h
+if_le false x y n h k = k
+
+around_le : (o : List Open) → length (around o) ≤ length o
+around_le [] = omega arith
+around_le (x ∷ o) = omega arith
+
+around_nearest_le : (o : List Open) → length (around_nearest o) ≤ length o
+around_nearest_le [] = omega arith
+around_nearest_le (x ∷ o) = if_le (is_brace_or_hole x) o (around_nearest o) (length (x ∷ o)) (omega arith) (omega (arith, around_nearest_le o))
+
+after_brace_le : (x : Option Open) (o : List Open) → length (after_brace x o) ≤ length o
+after_brace_le None o = omega arith
+after_brace_le (Some x) o = around_nearest_le o
+
+changed_le : (c : Change) (o : List Open) → length (changed c o) ≤ length o + 1
+changed_le Keep o = omega arith
+changed_le (Enter x) o = omega arith
+changed_le Leave o = omega (arith, around_le o)
+changed_le LeaveBrace o = omega (arith, after_brace_le (nearest o) o)
+
+around_less : (o : List Open) → 0 < length o → length (around o) < length o
+around_less [] h = absurd (omega arith)
+around_less (x ∷ o) h = omega arith
+
+pub less_left : (o : List Open) (bs : List ℕ) (item : Item) (c : Change) (n : ℕ) → Steps o bs (passes item c n) → 2 * length (drop n bs) + length (changed c o) < 2 * length bs + length o
+less_left o bs item c n s =
+    elim s.1 [
+      | inl k ↦ omega (arith, length-drop n bs, changed_le c o, s.0)
+      | inr k ↦
+          let e : length (changed c o) ≡ length (around o) = ap (λ (x : Change). length (changed x o)) k.0 in
+          omega (arith, length-drop n bs, e, around_less o k.1)
+    ]
+
+pub less_after : (o now : List Open) (bs after : List ℕ) (item : Item) (c : Change) (n : ℕ) → Steps o bs (passes item c n) → now ≡ changed c o → after ≡ drop n bs → 2 * length after + length now < 2 * length bs + length o
+less_after o now bs after item c n s k a =
+    let less = less_left o bs item c n s in
+    let k1 : length now ≡ length (changed c o) = ap (λ (x : List Open). length x) k in
+    let a1 : length after ≡ length (drop n bs) = ap (λ (x : List ℕ). length x) a in
+    omega (arith, less, k1, a1)

@@ -1,9 +1,15 @@
 pub mod Bytes
 pub mod Spellings
-pub mod First
 pub mod Place
-pub mod Brackets
+pub mod Fault
+pub mod Open
+pub mod Front
+pub mod Word
+pub mod Mark
+pub mod Escape
+pub mod First
 pub mod Separators
+pub mod Joined
 pub mod Tokens
 pub mod View
 pub mod Longest

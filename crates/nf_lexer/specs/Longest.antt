@@ -1,15 +1,13 @@
 -- What it is to take the longest mark.
-use Rattle.std.specs.Prelude.{◌≡◌, ℕ, ◌≤◌, List, ◌++◌, length}
+use Rattle.std.specs.Prelude.{◌≡◌, ℕ, ◌≤◌, List, ◌++◌, length, Option, Some}
 use Rattle.std.specs.List.{Contains}
 use Rattle.nf_lexer.specs.declared.token.Mark.{Mark}
-use Rattle.nf_lexer.specs.declared.token.Token.TheVariants as t
-use Rattle.nf_lexer.specs.First.{First, token}
 
 -- what was found is a mark of the list that stands in front, and no shorter than this one
-pub record IsLongest (ms : List (List ℕ × Mark)) (found : First) (bs : List ℕ) (x : List ℕ × Mark) : Type 0 where
+pub record IsLongest (ms : List (List ℕ × Mark)) (found : Option (Mark × ℕ)) (bs : List ℕ) (x : List ℕ × Mark) : Type 0 where
   pub row : List ℕ × Mark
   pub rest : List ℕ
   pub listed : Contains ms row
   pub stands : bs ≡ row.0 ++ rest
-  pub taken : found ≡ token (t.Mark row.1) rest
+  pub taken : found ≡ Some (row.1, length row.0)
   pub longest : length x.0 ≤ length row.0

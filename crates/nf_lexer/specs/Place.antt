@@ -11,3 +11,7 @@ place_after front = record { line = 1 + count_by is_line_feed front; col = 1 + s
 -- the place in a text at which so many bytes are left
 abbrev pub place_of : List ℕ → ℕ → Place
 place_of text left = place_after (take (length text - left) text)
+
+-- so many bytes further on the same line
+abbrev pub beyond : ℕ → Place → Place
+beyond n place = record { line = place.line; col = place.col + n }

@@ -1,26 +1,17 @@
 -- Which line ends separate.
 use Rattle.std.specs.Prelude.{Bool, true, false, not, ◌&&◌, List, [], ◌∷◌, if◌then◌else◌}
 use Rattle.nf_value.specs.declared.place.Place.{Place}
-use Rattle.nf_lexer.specs.declared.brackets.Bracket.{Bracket}
-use Rattle.nf_lexer.specs.declared.brackets.Bracket.TheVariants.{Brace}
 use Rattle.nf_lexer.specs.declared.token.Keyword.TheVariants as k
 use Rattle.nf_lexer.specs.declared.token.Mark.{Mark}
 use Rattle.nf_lexer.specs.declared.token.Mark.TheVariants as m
 use Rattle.nf_lexer.specs.declared.token.Token.{Token}
 use Rattle.nf_lexer.specs.declared.token.Token.TheVariants as t
 use Rattle.nf_lexer.specs.declared.token.Lexeme.{Lexeme}
-use Rattle.nf_lexer.specs.Brackets.{opened}
 
--- what a text is cut into: tokens and line ends
+-- what a text is cut into: tokens, and the line ends that brackets let separate
 pub data Piece : Type 0 where
   lexed : Lexeme → Piece
   line_end_at : Place → Piece
-
--- lines may end in these brackets: where the innermost is a brace, or none is open
-abbrev pub lets_lines_end : List Bracket → Bool
-lets_lines_end [] = true
-lets_lines_end (Brace ∷ o) = true
-lets_lines_end _ = false
 
 -- a line that ends after this mark goes on
 abbrev pub mark_awaits_more : Mark → Bool
@@ -96,7 +87,7 @@ is_after_separator (x ∷ before) = is_separator x.token
 
 -- a line end separates, between the tokens before, latest first, and the pieces that follow
 abbrev pub line_end_separates : List Lexeme → List Piece → Bool
-line_end_separates before rest = lets_lines_end (opened before) && (not (last_awaits_more before) && not (next_goes_on rest))
+line_end_separates before rest = not (last_awaits_more before) && not (next_goes_on rest)
 
 -- a separator at this place
 abbrev pub separator : Place → Lexeme

@@ -1,9 +1,13 @@
--- How keywords and marks are spelled.
+-- How keywords, marks and quote marks are spelled.
 use Rattle.std.specs.Prelude.{ℕ, List, [], ◌∷◌, codes}
 use Rattle.nf_lexer.specs.declared.token.Keyword.{Keyword}
 use Rattle.nf_lexer.specs.declared.token.Keyword.TheVariants as k
 use Rattle.nf_lexer.specs.declared.token.Mark.{Mark}
 use Rattle.nf_lexer.specs.declared.token.Mark.TheVariants as m
+use Rattle.nf_lexer.specs.declared.token.PlainKind.TheVariants.{Single, TripleSingle, Slashes}
+use Rattle.nf_lexer.specs.declared.token.TemplateKind.TheVariants.{Double, TripleDouble}
+use Rattle.nf_lexer.specs.declared.open.TextKind.{TextKind}
+use Rattle.nf_lexer.specs.declared.open.TextKind.TheVariants.{Plain, Pattern, Template}
 
 abbrev pub keywords : List (List ℕ × Keyword)
 keywords =
@@ -25,3 +29,12 @@ marks =
     ∷ (codes "&&", m.And)
     ∷ (codes "||", m.Or) ∷ (codes "|", m.Pipe)
     ∷ (codes "?.", m.QuestionDot) ∷ (codes "?:", m.Elvis) ∷ (codes "?", m.Question) ∷ []
+
+-- what closes a string, pattern or template: `'` is 39, `"` is 34, `/` is 47
+abbrev pub closing : TextKind → List ℕ
+closing (Plain Single) = 39 ∷ []
+closing (Plain TripleSingle) = 39 ∷ 39 ∷ 39 ∷ []
+closing (Plain Slashes) = 47 ∷ []
+closing Pattern = 47 ∷ []
+closing (Template Double) = 34 ∷ []
+closing (Template TripleDouble) = 34 ∷ 34 ∷ 34 ∷ []

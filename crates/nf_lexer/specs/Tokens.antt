@@ -1,35 +1,48 @@
--- The tokens of a text.
-use Rattle.std.specs.Prelude.{◌≡◌, ℕ, List, [], ◌∷◌, length, drop, nat_eq, codes, if◌then◌else◌, take_while}
+-- The tokens of a text, or the rule that it breaks first.
+use Rattle.std.specs.Prelude.{◌≡◌, ℕ, ◌≤◌, ◌<◌, List, [], ◌∷◌, length, drop, nat_eq, codes, Option, Some, None, if◌then◌else◌}
 use Rattle.std.specs.List.{starts_with}
-use Rattle.std.specs.Str.Lossy.{utf8_valid_len}
 use Rattle.nf_value.specs.declared.place.Place.{Place}
-use Rattle.nf_lexer.specs.declared.token.Token.{Token}
-use Rattle.nf_lexer.specs.declared.token.Token.TheVariants as t
+use Rattle.nf_lexer.specs.declared.fault.LexFault.{LexFault}
+use Rattle.nf_lexer.specs.declared.fault.LexFault.TheVariants.{ScriptTooLong, Mem}
 use Rattle.nf_lexer.specs.declared.token.Lexeme.{Lexeme}
-use Rattle.nf_lexer.specs.Bytes.{is_not_line_feed}
-use Rattle.nf_lexer.specs.First.{token, line_end, skip, finished, foreign, first}
+use Rattle.nf_lexer.specs.declared.open.Open.{Open}
+use Rattle.nf_lexer.specs.declared.open.Open.TheVariants.{LineComment}
+use Rattle.nf_lexer.specs.declared.open.Change.{Change}
+use Rattle.nf_lexer.specs.Front.{Item, passes, finished, broken}
+use Rattle.nf_lexer.specs.First.{first}
+use Rattle.nf_lexer.specs.Joined.{Placed, at, nothing, joined}
+use Rattle.nf_lexer.specs.Open.{changed}
 use Rattle.nf_lexer.specs.Place.{place_after, place_of}
-use Rattle.nf_lexer.specs.Separators.{Piece, lexed, line_end_at, settled}
+use Rattle.nf_lexer.specs.Separators.{settled}
 
--- this token where so many bytes of the text are left
-abbrev pub lexeme : List ℕ → Token → ℕ → Lexeme
-lexeme text x left = record { token = x; place = place_of text left }
+-- what the bytes that are left of a text are read as, with what is open there: items, and then the rule that is broken, if any
+pub data Reads (text : List ℕ) : List Open → List ℕ → List Placed → Option LexFault → Type 0 where
+  ends : {o : List Open} {bs : List ℕ} → first o (place_of text (length bs)) bs ≡ finished → Reads text o bs [] None
+  breaks : {o : List Open} {bs : List ℕ} {fault : LexFault} → first o (place_of text (length bs)) bs ≡ broken fault → Reads text o bs [] (Some fault)
+  goes : {o : List Open} {bs : List ℕ} {v : List Placed} {e : Option LexFault} {item : Item} {change : Change} {n : ℕ} → first o (place_of text (length bs)) bs ≡ passes item change n → Reads text (changed change o) (drop n bs) v e → Reads text o bs (at item (place_of text (length bs)) ∷ v) e
 
--- the pieces of the bytes that are left of a text
-pub data Pieces (text : List ℕ) : List ℕ → List Piece → Type 0 where
-  ends : {bs : List ℕ} → first bs ≡ finished → Pieces text bs []
-  stops : {bs : List ℕ} → first bs ≡ foreign → Pieces text bs (lexed (lexeme text t.Unbuilt (length bs)) ∷ [])
-  passes : {bs rest : List ℕ} {v : List Piece} → first bs ≡ skip rest → Pieces text rest v → Pieces text bs v
-  breaks : {bs rest : List ℕ} {v : List Piece} → first bs ≡ line_end rest → Pieces text rest v → Pieces text bs (line_end_at (place_of text (length bs)) ∷ v)
-  goes : {bs rest : List ℕ} {v : List Piece} {x : Token} → first bs ≡ token x rest → Pieces text rest v → Pieces text bs (lexed (lexeme text x (length bs)) ∷ v)
+-- a first line that begins with `#!` is a comment
+unfoldable pub at_start : List ℕ → List Open
+at_start text = if starts_with nat_eq text (codes "#!") then LineComment ∷ [] else []
 
--- how many bytes of a first line that begins with `#!` are skipped: the line, or up to the first byte in it that isn't UTF-8
-unfoldable pub skipped : List ℕ → ℕ
-skipped text = if starts_with nat_eq text (codes "#!") then utf8_valid_len (take_while is_not_line_feed text) else 0
+-- the most bytes of a script
+abbrev pub most_bytes : ℕ
+most_bytes = 1048576
 
 -- the tokens of a text, and the place of its end
 pub record IsTokensOf (text : List ℕ) (t : List Lexeme × Place) : Type 0 where
-  pub pieces : List Piece
-  pub pieces_of : Pieces text (drop (skipped text) text) pieces
-  pub items : t.0 ≡ settled [] pieces
+  pub within : length text ≤ most_bytes
+  pub items : List Placed
+  pub reads : Reads text (at_start text) text items None
+  pub tokens : t.0 ≡ settled [] (joined nothing items)
   pub end : t.1 ≡ place_after text
+
+-- the rule that a text breaks first, where it is broken
+pub data Breaks (text : List ℕ) : LexFault → Type 0 where
+  too_long : most_bytes < length text → Breaks text ScriptTooLong
+  breaks_at : {fault : LexFault} {items : List Placed} → length text ≤ most_bytes → Reads text (at_start text) text items (Some fault) → Breaks text fault
+
+-- a refusal is of the rule that is broken first, or for want of memory
+abbrev pub Refuses : List ℕ → LexFault → Type 0
+Refuses text Mem = Unit {0}
+Refuses text fault = Breaks text fault

@@ -1,54 +1,73 @@
 //! What stands first in a text.
 
-ghost use Rattle.std.specs.Prelude.{◌≡◌, [], ◌∷◌, MatchOption};
-ghost use Rattle.nf_lexer.specs.Bytes.{begins_name as begins_name_of, is_blank as is_blank_of};
-ghost use Rattle.nf_lexer.specs.First.{first as first_of};
-ghost use Rattle.nf_lexer.specs.View.{front_view, IsSpelled};
+ghost use Rattle.std.specs.Prelude.{◌≡◌, ◌<◌, ◌+◌, ◌^◌, [], ◌∷◌, length, MatchOption};
+ghost use Rattle.nf_lexer.specs.declared.fault.LexFault.TheVariants.{BadByte};
+ghost use Rattle.nf_lexer.specs.First.{first as first_of, in_open as in_open_of, broken_or, fault_at as fault_at_of};
+ghost use Rattle.nf_lexer.specs.Front.{finished, broken, checked as checked_of};
+ghost use Rattle.nf_lexer.specs.Open.{innermost};
+ghost use Rattle.nf_lexer.specs.View.{front_view, part_view};
 
-use crate::marks::mark;
-use crate::token::Mark;
-use crate::word::{number, word};
+use crate::code::in_code;
+use crate::comment::{in_comment, in_line_comment, in_named_hole};
+use crate::fault::LexFault;
+use crate::open::{Change, Open, Opened};
+use crate::place::further;
+use crate::quoted::in_text;
+use crate::token::{Mark, PlainKind, TemplateKind};
+use nf_value::Place;
 
 /// A token whose text isn't made yet.
 #[derive(Clone, Copy)]
 pub enum Raw<'a> {
-    Word(&'a [u8]),
+    Word(&'a str),
     Number(i64),
     Mark(Mark),
     Separator,
+    OpenTemplate(TemplateKind),
+    CloseTemplate(TemplateKind),
+    OpenHole,
+    CloseHole,
 }
 
-/// What stands first, with the bytes after it.
+/// Bytes of a string or template.
+#[derive(Clone, Copy)]
+pub enum Bit<'a> {
+    Nothing,
+    Run(&'a str),
+    Char(char),
+}
+
+/// A part of a text.
+#[derive(Clone, Copy)]
+pub enum Part<'a> {
+    Silent,
+    LineEnd,
+    Written(Bit<'a>),
+    Lexed(Raw<'a>),
+    StringEnd(PlainKind),
+    PatternEnd,
+}
+
+/// What stands first: a part, what it opens or closes, and how many bytes it takes.
 #[derive(Clone, Copy)]
 pub enum Front<'a> {
-    Token(Raw<'a>, &'a [u8]),
-    LineEnd(&'a [u8]),
-    Skip(&'a [u8]),
+    Passes(Part<'a>, Change, usize),
     Finished,
-    Foreign,
+    Broken(LexFault),
 }
 
-/// What stands first in these bytes.
+/// What stands first in these bytes, which stand at this place.
 #[tactic(auto, unfolding(crate::specs::First::first))]
-pub fn first(bytes: &[u8]) -> Front
-    ensures view { front_view result ≡ first_of bytes.now }
-    ensures spelled { IsSpelled result }
+pub fn first<'a>(opened: &Opened, place: Place, bytes: &'a [u8]) -> Front<'a>
+    requires { place.col + length bytes.now < 2 ^ 32 }
+    ensures { front_view result ≡ first_of opened.now place bytes.now }
 {
     let Some((b, rest)) = next(bytes) else {
-        return Front::Finished;
+        return at_end(opened.end_fault());
     };
-    if is_blank(b) {
-        Front::Skip(rest)
-    } else if b == b'\n' {
-        Front::LineEnd(rest)
-    } else if b == b';' {
-        Front::Token(Raw::Separator, rest)
-    } else if begins_name(b) {
-        word(bytes)
-    } else if b.is_ascii_digit() {
-        number(bytes)
-    } else {
-        mark(bytes)
+    match fault_at(opened, b) {
+        Some(fault) => Front::Broken(fault),
+        None => in_open(opened, place, b, rest, bytes),
     }
 }
 
@@ -62,14 +81,54 @@ pub fn next(bytes: &[u8]) -> Option<(u8, &[u8])>
     }
 }
 
-fn is_blank(b: u8) -> bool
-    ensures { result ≡ is_blank_of b }
+/// These bytes are this part, unless they aren't UTF-8. They stand at this place, on one line.
+pub fn checked<'a>(place: Place, bytes: &'a [u8], part: Part<'a>, change: Change) -> Front<'a>
+    requires { place.col + length bytes.now < 2 ^ 32 }
+    ensures { front_view result ≡ checked_of place bytes.now (part_view part.entry) change }
 {
-    b == b' ' || b == b'\t' || b == b'\r'
+    match str::from_utf8(bytes) {
+        Ok(_) => Front::Passes(part, change, bytes.len()),
+        Err(error) => bad_byte(further(place, error.valid_up_to())),
+    }
 }
 
-fn begins_name(b: u8) -> bool
-    ensures { result ≡ begins_name_of b }
+pub fn bad_byte<'a>(place: Place) -> Front<'a>
+    ensures { front_view result ≡ broken (BadByte place) }
 {
-    b.is_ascii_alphabetic() || b == b'_'
+    Front::Broken(LexFault::BadByte { place })
+}
+
+fn at_end<'a>(fault: Option<LexFault>) -> Front<'a>
+    ensures { front_view result ≡ broken_or fault finished }
+{
+    match fault {
+        Some(fault) => Front::Broken(fault),
+        None => Front::Finished,
+    }
+}
+
+/// The rule that this byte breaks, where it is a line end.
+fn fault_at(opened: &Opened, b: u8) -> Option<LexFault>
+    ensures { result ≡ fault_at_of b opened.now }
+{
+    if b == b'\n' {
+        opened.line_fault()
+    } else {
+        None
+    }
+}
+
+/// What stands first, by the innermost that is open.
+fn in_open<'a>(opened: &Opened, place: Place, b: u8, rest: &'a [u8], bytes: &'a [u8]) -> Front<'a>
+    requires whole { bytes.now ≡ b ∷ rest.now }
+    requires col { place.col + length bytes.now < 2 ^ 32 }
+    ensures { front_view result ≡ in_open_of (innermost opened.now) opened.now place b rest.now }
+{
+    match opened.innermost() {
+        Some(Open::NamedHole) => in_named_hole(b, rest, bytes),
+        Some(Open::LineComment) => in_line_comment(place, bytes),
+        Some(Open::Comment(_)) => in_comment(place, b, rest, bytes),
+        Some(Open::Text(kind, _)) => in_text(kind, place, b, rest, bytes),
+        _ => in_code(opened, place, b, rest, bytes),
+    }
 }

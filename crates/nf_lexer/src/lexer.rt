@@ -1,109 +1,92 @@
 //! The tokens of a text.
 
-ghost use Rattle.std.specs.Prelude.{◌≡◌, ◌≤◌, [], List, IfOk, length, drop};
-ghost use Rattle.std.specs.List.{prefix_len};
-ghost use Rattle.nf_lexer.specs.Bytes.{is_not_line_feed};
-ghost use Rattle.nf_lexer.specs.Separators.{Piece, settled};
-ghost use Rattle.nf_lexer.specs.Tokens.{IsTokensOf, Pieces, skipped as skipped_of};
+ghost use Rattle.std.specs.Prelude.{◌≡◌, ◌≤◌, IfOk, MatchResult, length};
+ghost use Rattle.nf_lexer.specs.Tokens.{IsTokensOf, Refuses, at_start as at_start_of, most_bytes};
 
+use crate::fault::LexFault;
 use crate::front;
 use crate::front::Front;
+use crate::joiner::Joiner;
 use crate::list::Tokens;
-use crate::place::{further, next_line, place_after};
-use crate::settler::Settler;
-use crate::token::{Lexeme, Token};
-use crate::word::token_of;
+use crate::open::{Change, Open, Opened};
+use crate::place::past;
 use nf_value::{Mem, Place};
 use std::alloc::Global;
 
-/// The tokens of a script of at most 1,048,576 bytes, each with its place, and the
-/// place after the script's last byte.
+/// The most bytes of a script.
+const MOST_BYTES: usize = 1048576;
+
+/// The tokens of a script, each with its place, and the place after the script's last byte; or the rule of the
+/// tokens that the script breaks first, and where.
 ///
-/// Blanks, tabs and carriage returns stand between tokens and are nothing else; a
-/// line ends at a line feed alone (own). A first line that begins with `#!` is
-/// skipped (Nextflow reference documentation, Syntax, Shebang), up to a byte in it
-/// that isn't UTF-8 (own).
+/// Blanks, tabs and carriage returns stand between tokens and are nothing else; a line ends at a line feed alone
+/// (own). `// ..` to its line's end and `/* .. */` are comments, and a comment between two tokens is as if it weren't
+/// there. A first line that begins with `#!` is skipped (Nextflow reference documentation, Syntax, Comments and
+/// Shebang). Characters past ASCII are free in comments, in the first line that is skipped, and in strings, templates
+/// and patterns (own).
 ///
-/// A line end separates where three things hold (own). The innermost open bracket
-/// is `{`, or there is none. The token before isn't one of `, ( [ { -> : = + - * %
-/// < <= > >= == != ==~ && || | ? ?: . ?. ..`. The next token, past other line ends,
-/// isn't one of `. ?. | || && ? ?: ..` or `else`. A `;` separates always, and of
-/// several separators in a row the first counts. A `)` or `]` closes the innermost
-/// open bracket only where that is of its own kind, and a `}` the nearest open `{`
-/// with all that is open in it.
+/// A line end between two tokens separates where three things hold (own). The innermost thing that is open is `{`, or
+/// nothing is open; a hole counts as an open bracket. The token before isn't one of `, ( [ { -> : = + - * % < <= > >=
+/// == != ==~ && || | ? ?: . ?. ..`. The next token, past other line ends, isn't one of `. ?. | || && ? ?: ..` or
+/// `else`. A `;` separates always, and of several separators in a row the first counts. A `)` or `]` closes the
+/// innermost open bracket only where that is of its own kind, and a `}` the nearest open `{` or hole with all that is
+/// open in it.
 ///
-/// The first byte at which no token begins is one token `Unbuilt`, and the list
-/// ends there.
+/// A string `'..'` or `/../`, a pattern `~/../` and a template `".."` end on their line; `'''..'''` and `"""..."""`
+/// may go over lines. A `/` that begins no comment begins a string (own). In `/../` and patterns `\/` stands for `/`,
+/// and every other backslash is kept. Elsewhere the escapes are `\n \t \r \b \f \\ \' \" \$` and `\u` with four
+/// hexadecimal digits that are no surrogate, and a backslash before a line end removes both (own).
+///
+/// In a template `${` opens a hole, up to its `}`. A `$` before a letter or `_` opens one too: of the name or keyword
+/// that follows, and of each `.` with a name that is no keyword, which follow directly. Any other `$` stands for
+/// itself (Nextflow reference documentation, Syntax, Dynamic string; the parts after `$name` own).
 ///
 /// # Errors
 ///
-/// `Mem` where there is no memory for them.
-pub fn tokens(alloc: Global, text: &[u8]) -> Result<Tokens, Mem>
-    requires { length text.now ≤ 1048576 }
-    ensures { IfOk result (λ t. IsTokensOf text.now t) }
+/// `ScriptTooLong` where the text has more than 1,048,576 bytes. Else the rule that one who reads from left to right
+/// sees broken first: `BadByte`, `BadEscape` and `BigNumber` where they stand; `OpenString` and `OpenComment` where a
+/// line or the text ends, at the opening. A line end in a hole of a template `".."` breaks that template's rule, and
+/// of several that are open there the outermost is named. `Mem` where there is no memory for the tokens.
+pub fn tokens(alloc: Global, text: &[u8]) -> Result<Tokens, LexFault>
+    ensures { MatchResult result (λ t. IsTokensOf text.now t) (λ e. Refuses text.now e) }
 {
-    let items = lexemes(alloc, text)?;
-    Ok(Tokens::of(items, place_after(text)))
+    if text.len() > MOST_BYTES {
+        return Err(LexFault::ScriptTooLong);
+    }
+    short_tokens(alloc, text)
 }
 
-fn lexemes(alloc: Global, text: &[u8]) -> Result<Vec<Lexeme>, Mem>
-    requires { length text.now ≤ 1048576 }
-    ensures { IfOk result (λ v. (pieces : List Piece) × Pieces text.now (drop (skipped_of text.now) text.now) pieces × (v.items ≡ settled [] pieces)) }
+fn short_tokens(alloc: Global, text: &[u8]) -> Result<Tokens, LexFault>
+    requires { length text.now ≤ most_bytes }
+    ensures { MatchResult result (λ t. IsTokensOf text.now t) (λ e. Refuses text.now e) }
 {
-    let mut settler = Settler::new(alloc);
-    let start = skipped(text);
-    let mut place = further(Place { line: 1, col: 1 }, start);
-    let mut rest = text.split_at(start).1;
+    let mut opened = at_start(alloc, text)?;
+    let mut joiner = Joiner::new(alloc);
+    let mut place = Place { line: 1, col: 1 };
+    let mut rest = text;
     loop {
-        match front::first(rest) {
-            Front::Finished => return settler.finish(),
-            Front::Foreign => {
-                settler.token(Lexeme {
-                    token: Token::Unbuilt,
-                    place,
-                })?;
-                return settler.finish();
-            }
-            Front::Skip(after) => {
-                place = further(place, 1);
-                rest = after;
-            }
-            Front::LineEnd(after) => {
-                settler.line_end(place);
-                place = next_line(place);
-                rest = after;
-            }
-            Front::Token(raw, after) => {
-                let token = token_of(alloc, raw)?;
-                settler.token(Lexeme { token, place })?;
-                place = further(place, rest.len() - after.len());
+        match front::first(&opened, place, rest) {
+            Front::Finished => return Ok(Tokens::of(joiner.finish()?, place)),
+            Front::Broken(fault) => return Err(fault),
+            Front::Passes(part, change, bytes) => {
+                joiner.part(alloc, part, place)?;
+                opened.change(change)?;
+                let (taken, after) = rest.split_at(bytes);
+                place = past(place, taken);
                 rest = after;
             }
         }
     }
 }
 
-/// How many bytes of the text are skipped before the first token: a first line
-/// that begins with `#!`, up to a byte that isn't UTF-8.
-#[tactic(auto, unfolding(crate::specs::Tokens::skipped))]
-fn skipped(text: &[u8]) -> usize
-    ensures is { result ≡ skipped_of text.now }
-    ensures within { result ≤ length text.now }
+/// What is open at a text's beginning.
+#[tactic(auto, unfolding(crate::specs::Tokens::at_start))]
+fn at_start(alloc: Global, text: &[u8]) -> Result<Opened, Mem>
+    ensures { IfOk result (λ o. o ≡ at_start_of text.now) }
 {
-    if !text.starts_with(b"#!") {
-        return 0;
+    let mut opened = Opened::new(alloc);
+    if text.starts_with(b"#!") {
+        opened.change(Change::Enter(Open::LineComment))?;
     }
-    let (line, _) = text.split_at(line_len(text));
-    match str::from_utf8(line) {
-        Ok(line) => line.len(),
-        Err(error) => error.valid_up_to(),
-    }
-}
-
-/// How many bytes the first line has.
-fn line_len(text: &[u8]) -> usize
-    ensures is { result ≡ prefix_len is_not_line_feed text.now }
-    ensures within { result ≤ length text.now }
-{
-    text.iter().take_while(|b| **b != b'\n').count()
+    Ok(opened)
 }

@@ -1,19 +1,26 @@
 //! The tokens of a script.
 #![tactic(auto)]
 
-mod brackets;
+mod code;
+mod comment;
+mod escape;
+mod fault;
 mod front;
+mod joiner;
 pub mod laws;
 mod lexer;
 mod list;
 mod marks;
+mod open;
 mod place;
+mod quoted;
 mod settler;
 #[cfg(test)]
 mod tests;
 mod token;
 mod word;
 
+pub use fault::LexFault;
 pub use lexer::tokens;
 pub use list::Tokens;
-pub use token::{Keyword, Lexeme, Mark, Token};
+pub use token::{Keyword, Lexeme, Mark, PlainKind, TemplateKind, Token};

@@ -1,40 +1,32 @@
 //! Which line ends separate.
 
 ghost use Rattle.std.specs.Prelude.{◌≡◌, [], ◌∷◌, ◌++◌, List, None, reverse, not, ◌&&◌, OnOk, IfOk};
-ghost use Rattle.nf_lexer.specs.Brackets.{opened};
-ghost use Rattle.nf_lexer.specs.Separators.{Piece, lexed, line_end_at, settled, lets_lines_end, last_awaits_more as last_awaits_more_of, is_after_separator as is_after_separator_of, next_goes_on, awaits_more as awaits_more_of, mark_awaits_more as mark_awaits_more_of, goes_on as goes_on_of, mark_goes_on as mark_goes_on_of, is_separator as is_separator_of};
-ghost use Rattle.nf_lexer.specs.View.{outcome, IsInStep};
+ghost use Rattle.nf_lexer.specs.Separators.{Piece, lexed, line_end_at, settled, last_awaits_more as last_awaits_more_of, is_after_separator as is_after_separator_of, next_goes_on, awaits_more as awaits_more_of, mark_awaits_more as mark_awaits_more_of, goes_on as goes_on_of, mark_goes_on as mark_goes_on_of, is_separator as is_separator_of};
+ghost use Rattle.nf_lexer.specs.View.{outcome};
 
-use crate::brackets::Brackets;
 use crate::token::{Keyword, Lexeme, Mark, Token};
 use nf_value::{Mem, Place};
 use std::alloc::Global;
 
-/// The tokens so far, the brackets that are open after them, and a line end
-/// that the next token may hold back.
+/// The tokens so far, and a line end that the next token may hold back.
 #[derive(Drop)]
 pub struct Settler {
     pub out: Vec<Lexeme>,
-    pub brackets: Brackets,
     pub waiting: Option<Place>,
 }
 
 impl Settler {
     pub fn new(alloc: Global) -> Settler
-        ensures in_step { IsInStep result }
         ensures outcome { (rest : List Piece) → outcome result rest ≡ settled [] rest }
     {
         Settler {
             out: Vec::new(alloc),
-            brackets: Brackets::new(alloc),
             waiting: None,
         }
     }
 
     /// Takes a line end.
     pub fn line_end(&mut self, place: Place)
-        requires { IsInStep self.old }
-        ensures in_step { IsInStep self.new }
         ensures outcome { (rest : List Piece) → outcome self.new rest ≡ outcome self.old (line_end_at place ∷ rest) }
     {
         if self.waiting.is_none() {
@@ -44,8 +36,6 @@ impl Settler {
 
     /// Takes a token.
     pub fn token(&mut self, lexeme: Lexeme) -> Result<(), Mem>
-        requires { IsInStep self.old }
-        ensures in_step { OnOk result (IsInStep self.new) }
         ensures outcome { OnOk result ((rest : List Piece) → outcome self.new rest ≡ outcome self.old (lexed lexeme ∷ rest)) }
     {
         self.settle_line_end(goes_on(&lexeme.token))?;
@@ -57,7 +47,6 @@ impl Settler {
 
     /// The tokens of all that was taken.
     pub fn finish(mut self) -> Result<Vec<Lexeme>, Mem>
-        requires { IsInStep self }
         ensures { IfOk result (λ v. v.items ≡ outcome self []) }
     {
         self.settle_line_end(false)?;
@@ -66,8 +55,6 @@ impl Settler {
 
     /// Decides on the line end that waits, by whether the next token goes on.
     fn settle_line_end(&mut self, goes_on: bool) -> Result<(), Mem>
-        requires { IsInStep self.old }
-        ensures in_step { OnOk result (IsInStep self.new) }
         ensures settled { OnOk result (self.new.waiting ≡ None) }
         ensures outcome { OnOk result ((rest : List Piece) → next_goes_on rest ≡ goes_on → outcome self.new rest ≡ outcome self.old rest) }
     {
@@ -84,20 +71,16 @@ impl Settler {
 
     /// Whether a line end after these tokens separates, unless the next token goes on.
     fn lets_line_end(&self) -> bool
-        requires { IsInStep self.now }
-        ensures { let before = reverse self.now.out.items in result ≡ ((lets_lines_end (opened before) && not (last_awaits_more_of before)) && not (is_after_separator_of before)) }
+        ensures { let before = reverse self.now.out.items in result ≡ (not (last_awaits_more_of before) && not (is_after_separator_of before)) }
     {
         let out = self.out.as_slice();
-        self.brackets.let_lines_end() && !last_awaits_more(out) && !is_after_separator(out)
+        !last_awaits_more(out) && !is_after_separator(out)
     }
 
     fn push(&mut self, lexeme: Lexeme) -> Result<(), Mem>
-        requires { IsInStep self.old }
-        ensures in_step { OnOk result (IsInStep self.new) }
         ensures waiting { OnOk result (self.new.waiting ≡ self.old.waiting) }
         ensures out { OnOk result (self.new.out.items ≡ self.old.out.items ++ lexeme ∷ []) }
     {
-        self.brackets.pass(&lexeme.token)?;
         self.out.push(lexeme)?;
         Ok(())
     }

@@ -89,8 +89,30 @@ pub enum Mark {
     Elvis,
 }
 
-/// A token of a script (own: the subset's tokens; strings, patterns and comments
-/// aren't built yet).
+/// How a plain string is written (own).
+#[derive(Debug, Clone, Copy, PartialEq, Eq)]
+pub enum PlainKind {
+    /// `'..'`, on one line, with escapes
+    Single,
+    /// `'''..'''`, over lines, with escapes
+    TripleSingle,
+    /// `/../`, on one line; `\/` stands for `/`, and every other backslash is kept
+    Slashes,
+}
+
+/// How a template is written (Nextflow reference documentation, Syntax, Dynamic
+/// string, and for the escapes own).
+#[derive(Debug, Clone, Copy, PartialEq, Eq)]
+pub enum TemplateKind {
+    /// `".."`, on one line
+    Double,
+    /// `"""..."""`, over lines
+    TripleDouble,
+}
+
+/// A token of a script (own: the subset's tokens). A template is flat in the list:
+/// its opening, its texts and holes in turn, its closing. So is a hole: its opening,
+/// its tokens, its end.
 #[derive(Drop)]
 pub enum Token {
     /// The longest run of letters, digits and `_`, all ASCII, that begins with no
@@ -101,14 +123,27 @@ pub enum Token {
     /// The longest run of decimal digits, leading zeros allowed, of a value up to
     /// 9223372036854775807.
     Number(i64),
+    /// A plain string, with the text that it stands for.
+    Plain(PlainKind, Txt),
+    /// A pattern `~/../`, with its text; `\/` stands for `/`, and every other backslash
+    /// is kept.
+    Pattern(Txt),
+    /// The opening of a template.
+    OpenTemplate(TemplateKind),
+    /// All that stands in a template between two of its opening, holes and closing,
+    /// where that isn't empty: the text that it stands for. It begins where they end.
+    TemplateText(Txt),
+    /// The opening of a hole: `${`, or the `$` of `$name`.
+    OpenHole,
+    /// The end of a hole: its `}`, or what follows `$name`, which takes no byte.
+    CloseHole,
+    /// The closing of a template.
+    CloseTemplate(TemplateKind),
     /// A mark.
     Mark(Mark),
     /// A `;`, or a line end that separates. Of several in a row only the first is a
     /// token.
     Separator,
-    /// The first byte at which no other token begins, or the first digit of a
-    /// number above the greatest. It is the last token of its list.
-    Unbuilt,
 }
 
 /// A token, and the place of its first byte; of a separator, of its `;` or line feed.

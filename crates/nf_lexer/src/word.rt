@@ -1,18 +1,19 @@
 //! Names, keywords and numbers.
 
-ghost use Rattle.std.specs.Prelude.{◌≡◌, ◌≤◌, IfOk, SomeIff, length};
+ghost use Rattle.std.specs.Prelude.{◌≡◌, ◌≤◌, IfOk, SomeIff, length, take_while};
 ghost use Rattle.std.specs.List.{prefix_len, AllPass};
-ghost use Rattle.std.specs.Str.{IsAscii};
 ghost use Rattle.std.specs.Str.Parse.{digits_value};
 ghost use Rattle.std.specs.Char.{is_ascii_digit};
-ghost use Rattle.nf_lexer.specs.Bytes.{is_in_name as is_in_name_of};
-ghost use Rattle.nf_lexer.specs.First.{word as word_of, number as number_of, word_token as word_token_of, keyword_in, limit};
+ghost use Rattle.nf_lexer.specs.Bytes.{is_in_name as is_in_name_of, begins_name as begins_name_of};
 ghost use Rattle.nf_lexer.specs.Spellings.{keywords};
-ghost use Rattle.nf_lexer.specs.View.{front_view, raw_view, IsSpelled, IsSpelledRaw};
+ghost use Rattle.nf_lexer.specs.View.{front_view, raw_view};
+ghost use Rattle.nf_lexer.specs.Word.{word as word_of, number as number_of, word_token as word_token_of, keyword_in, limit, begins_property as begins_property_of};
 
-use crate::front::{Front, Raw};
+use crate::fault::LexFault;
+use crate::front::{Front, Part, Raw, next};
+use crate::open::Change;
 use crate::token::{Keyword, Token};
-use nf_value::{Mem, Txt};
+use nf_value::{Mem, Place, Txt};
 use std::alloc::Global;
 
 /// The greatest number.
@@ -20,29 +21,57 @@ const LIMIT: u64 = 9223372036854775807;
 
 /// The longest name or keyword in front.
 pub fn word(bytes: &[u8]) -> Front
-    ensures view { front_view result ≡ word_of bytes.now }
-    ensures spelled { IsSpelled result }
+    ensures { front_view result ≡ word_of bytes.now }
 {
-    let (word, rest) = bytes.split_at(name_len(bytes));
-    Front::Token(Raw::Word(word), rest)
+    let word = name(bytes);
+    Front::Passes(Part::Lexed(Raw::Word(word)), Change::Keep, word.len())
 }
 
-/// The longest number in front, which no token is where it is above the limit.
-#[tactic(auto, unfolding(crate::specs::First::number))]
-pub fn number(bytes: &[u8]) -> Front
-    ensures view { front_view result ≡ number_of bytes.now }
-    ensures spelled { IsSpelled result }
+/// Whether a name stands in front that is no keyword.
+pub fn begins_property(bytes: &[u8]) -> bool
+    ensures { result ≡ begins_property_of bytes.now }
 {
-    let (digits, rest) = bytes.split_at(number_len(bytes));
+    match next(bytes) {
+        Some((b, _)) => begins_name(b) && keyword(name(bytes).as_bytes()).is_none(),
+        None => false,
+    }
+}
+
+pub fn begins_name(b: u8) -> bool
+    ensures { result ≡ begins_name_of b }
+{
+    b.is_ascii_alphabetic() || b == b'_'
+}
+
+/// The bytes of a name in front.
+fn name(bytes: &[u8]) -> &str
+    ensures { result.now ≡ take_while is_in_name_of bytes.now }
+{
+    let (name, _) = bytes.split_at(name_len(bytes));
+    match str::from_utf8(name) {
+        Ok(name) => name,
+        Err(_) => unreachable!(),
+    }
+}
+
+/// The longest number in front.
+#[tactic(auto, unfolding(crate::specs::Word::number))]
+pub fn number(place: Place, bytes: &[u8]) -> Front
+    ensures { front_view result ≡ number_of place bytes.now }
+{
+    let (digits, _) = bytes.split_at(number_len(bytes));
     match value(digits) {
-        Some(value) => Front::Token(Raw::Number(value as i64), rest),
-        None => Front::Foreign,
+        Some(value) => Front::Passes(
+            Part::Lexed(Raw::Number(value as i64)),
+            Change::Keep,
+            digits.len(),
+        ),
+        None => Front::Broken(LexFault::BigNumber { place }),
     }
 }
 
 /// The token of a raw one.
 pub fn token_of(alloc: Global, raw: Raw) -> Result<Token, Mem>
-    requires { IsSpelledRaw raw }
     ensures { IfOk result (λ t. t ≡ raw_view raw.entry) }
 {
     match raw {
@@ -50,27 +79,20 @@ pub fn token_of(alloc: Global, raw: Raw) -> Result<Token, Mem>
         Raw::Number(number) => Ok(Token::Number(number)),
         Raw::Mark(mark) => Ok(Token::Mark(mark)),
         Raw::Separator => Ok(Token::Separator),
+        Raw::OpenTemplate(kind) => Ok(Token::OpenTemplate(kind)),
+        Raw::CloseTemplate(kind) => Ok(Token::CloseTemplate(kind)),
+        Raw::OpenHole => Ok(Token::OpenHole),
+        Raw::CloseHole => Ok(Token::CloseHole),
     }
 }
 
-#[tactic(auto, unfolding(crate::specs::First::word_token))]
-fn word_token(alloc: Global, word: &[u8]) -> Result<Token, Mem>
-    requires { IsAscii word.now }
+#[tactic(auto, unfolding(crate::specs::Word::word_token))]
+fn word_token(alloc: Global, word: &str) -> Result<Token, Mem>
     ensures { IfOk result (λ t. t ≡ word_token_of word.now) }
 {
-    match keyword(word) {
+    match keyword(word.as_bytes()) {
         Some(keyword) => Ok(Token::Keyword(keyword)),
-        None => Ok(Token::Name(text(alloc, word)?)),
-    }
-}
-
-fn text(alloc: Global, word: &[u8]) -> Result<Txt, Mem>
-    requires { IsAscii word.now }
-    ensures { IfOk result (λ t. t ≡ word.now) }
-{
-    match str::from_utf8(word) {
-        Ok(word) => Ok(Txt::of(String::from_str(alloc, word)?)),
-        Err(_) => unreachable!(),
+        None => Ok(Token::Name(Txt::of(String::from_str(alloc, word)?))),
     }
 }
 

@@ -1,7 +1,7 @@
 use Rattle.std.proofs.Common.{ap, sym, ◌∙◌, subst, take}
 use Rattle.std.specs.List.{AllPass}
 use Rattle.std.specs.Char.{is_ascii_digit}
-use Rattle.nf_lexer.proofs.Takes.{number_digits}
+use Rattle.nf_lexer.proofs.Runs.{number_digits}
 use Rattle.nf_lexer.proofs.word.number.Goals as goal
 
 pub value-requires : goal.value-requires

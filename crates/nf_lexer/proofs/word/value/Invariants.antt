@@ -1,6 +1,6 @@
 use Rattle.std.proofs.Common.{◌≡◌, ◌≤◌, take}
 use Rattle.std.specs.Str.Parse.{digits_value}
-use Rattle.nf_lexer.specs.First.{limit}
+use Rattle.nf_lexer.specs.Word.{limit}
 use Rattle.nf_lexer.proofs.word.value.Given as goal
 
 abbrev pub invariant-loop-b : goal.invariant-loop-b

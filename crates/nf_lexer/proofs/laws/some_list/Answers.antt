@@ -1,5 +1,0 @@
-use Rattle.nf_lexer.proofs.SomeList.{some_list}
-use Rattle.nf_lexer.proofs.laws.some_list.Goals as goal
-
-pub returns : goal.returns
-returns c = some_list
