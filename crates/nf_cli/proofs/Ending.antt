@@ -7,7 +7,7 @@ use Rattle.nf_host.specs.Files.{Files}
 use Rattle.nf_cli.specs.declared.ends.End.{End}
 use Rattle.nf_cli.specs.declared.ends.End.TheVariants as end
 use Rattle.nf_cli.specs.declared.ends.ItemCause.TheVariants.{Eval}
-use Rattle.nf_cli.specs.Outcome.{Outcome, reports, misused, absent, unbuilt, faulty}
+use Rattle.nf_cli.specs.Outcome.{Outcome, reports, misused, absent, unlexed, unbuilt, faulty}
 use Rattle.nf_cli.specs.Means.{Means, IsOutcome}
 use Rattle.nf_cli.specs.Due.{Refused, Gives, IsWritten, IsKept, EndsAs, Ended, MayEnd, IsUsageEnd, IsUsage, OnHostFault, WroteOutput, WroteReport, OnOutput, OutputStands}
 
@@ -18,6 +18,7 @@ same_or_memory P m before end.Ok h k = subst P (sym k) h
 same_or_memory P m before (end.ItemFault p c) h k = subst P (sym k) h
 same_or_memory P m before (end.Usage f) h k = subst P (sym k) h
 same_or_memory P m before end.NoScript h k = subst P (sym k) h
+same_or_memory P m before (end.Lex p) h k = subst P (sym k) h
 same_or_memory P m before (end.Unbuilt p) h k = subst P (sym k) h
 same_or_memory P m before end.HostFault h k = subst P (sym k) h
 same_or_memory P m before end.SinkFault h k = subst P (sym k) h
@@ -29,6 +30,7 @@ refused_ended words f end.Ok h = absurd h
 refused_ended words f (end.ItemFault p c) h = h
 refused_ended words f (end.Usage u) h = h
 refused_ended words f end.NoScript h = h
+refused_ended words f (end.Lex p) h = h
 refused_ended words f (end.Unbuilt p) h = h
 refused_ended words f end.HostFault h = h
 refused_ended words f end.SinkFault h = absurd h
@@ -40,6 +42,7 @@ written_ended words f report end.SinkFault h w = (report, h)
 written_ended words f report (end.ItemFault p c) h w = absurd w
 written_ended words f report (end.Usage u) h w = absurd w
 written_ended words f report end.NoScript h w = absurd w
+written_ended words f report (end.Lex p) h w = absurd w
 written_ended words f report (end.Unbuilt p) h w = absurd w
 written_ended words f report end.HostFault h w = absurd w
 written_ended words f report end.Mem h w = absurd w
@@ -57,6 +60,7 @@ may_write report end.SinkFault w = tt
 may_write report (end.ItemFault p c) w = absurd w
 may_write report (end.Usage u) w = absurd w
 may_write report end.NoScript w = absurd w
+may_write report (end.Lex p) w = absurd w
 may_write report (end.Unbuilt p) w = absurd w
 may_write report end.HostFault w = absurd w
 may_write report end.Mem w = absurd w
@@ -70,6 +74,7 @@ module _ (words : List (List ℕ)) (f : Files) (outcome : Outcome) (means : Mean
   refused_may (end.ItemFault p (Eval item fault)) h = at_outcome (faulty p (plain_of item) fault) h (end.ItemFault p (Eval item fault)) (refl, refl, refl)
   refused_may (end.Usage u) h = at_outcome (misused u) h (end.Usage u) refl
   refused_may end.NoScript h = at_outcome absent h end.NoScript tt
+  refused_may (end.Lex p) h = at_outcome (unlexed p) h (end.Lex p) refl
   refused_may (end.Unbuilt p) h = at_outcome (unbuilt p) h (end.Unbuilt p) refl
   refused_may end.HostFault h = any_outside outcome
     where
@@ -94,6 +99,7 @@ written_usage command end.SinkFault w = tt
 written_usage command (end.ItemFault p c) w = absurd w
 written_usage command (end.Usage u) w = absurd w
 written_usage command end.NoScript w = absurd w
+written_usage command (end.Lex p) w = absurd w
 written_usage command (end.Unbuilt p) w = absurd w
 written_usage command end.HostFault w = absurd w
 written_usage command end.Mem w = absurd w
@@ -117,6 +123,7 @@ written_host end.SinkFault rose w = tt
 written_host (end.ItemFault p c) rose w = absurd w
 written_host (end.Usage u) rose w = absurd w
 written_host end.NoScript rose w = absurd w
+written_host (end.Lex p) rose w = absurd w
 written_host (end.Unbuilt p) rose w = absurd w
 written_host end.HostFault rose w = absurd w
 written_host end.Mem rose w = absurd w
@@ -134,6 +141,7 @@ no_output words f end.SinkFault P h = absurd h
 no_output words f (end.ItemFault p c) P h = tt
 no_output words f (end.Usage u) P h = tt
 no_output words f end.NoScript P h = tt
+no_output words f (end.Lex p) P h = tt
 no_output words f (end.Unbuilt p) P h = tt
 no_output words f end.HostFault P h = tt
 no_output words f end.Mem P h = tt
@@ -144,6 +152,7 @@ on_output end.SinkFault P h = h
 on_output (end.ItemFault p c) P h = tt
 on_output (end.Usage u) P h = tt
 on_output end.NoScript P h = tt
+on_output (end.Lex p) P h = tt
 on_output (end.Unbuilt p) P h = tt
 on_output end.HostFault P h = tt
 on_output end.Mem P h = tt

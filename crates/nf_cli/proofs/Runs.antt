@@ -10,7 +10,7 @@ use Rattle.nf_host.specs.Files.{Files}
 use Rattle.nf_cli.specs.declared.ends.End.{End}
 use Rattle.nf_cli.specs.declared.ends.End.TheVariants as end
 use Rattle.nf_cli.specs.declared.ends.ItemCause.TheVariants.{Eval}
-use Rattle.nf_cli.specs.Outcome.{Outcome, reports, misused, absent, unbuilt, faulty}
+use Rattle.nf_cli.specs.Outcome.{Outcome, reports, misused, absent, unlexed, unbuilt, faulty}
 use Rattle.nf_cli.specs.Means.{file_of, TextMeans, Runs, RunsText, Means}
 use Rattle.nf_cli.specs.Due.{HasText, FileRefused, FileGives, Refused, Gives}
 
@@ -32,6 +32,7 @@ module _ (words : List (List ℕ)) (files : Files) (file : List ℕ) (runs : Run
   of_text outcome only h (misused f) m = absurd (no_fault words file f runs m)
   of_text outcome only h absent m = absurd (let e : None ≡ Some h.text = sym m.absent ∙ ap files (same_file words m.file file m.runs runs) ∙ h.there in cc)
   of_text outcome only h (reports r) m = only (reports r) m
+  of_text outcome only h (unlexed p) m = only (unlexed p) m
   of_text outcome only h (unbuilt p) m = only (unbuilt p) m
   of_text outcome only h (faulty p i f) m = only (faulty p i f) m
 
@@ -50,6 +51,7 @@ module _ (words : List (List ℕ)) (files : Files) (file : List ℕ) (runs : Run
   no_script gone (misused f) m = absurd (no_fault words file f runs m)
   no_script gone absent m = refl
   no_script gone (reports r) m = absurd (let e : Some m.text ≡ None = sym m.there ∙ ap files (same_file words m.file file m.runs runs) ∙ gone in cc)
+  no_script gone (unlexed p) m = absurd (let e : Some m.text ≡ None = sym m.there ∙ ap files (same_file words m.file file m.runs runs) ∙ gone in cc)
   no_script gone (unbuilt p) m = absurd (let e : Some m.text ≡ None = sym m.there ∙ ap files (same_file words m.file file m.runs runs) ∙ gone in cc)
   no_script gone (faulty p i f) m = absurd (let e : Some m.text ≡ None = sym m.there ∙ ap files (same_file words m.file file m.runs runs) ∙ gone in cc)
 
@@ -58,6 +60,7 @@ module _ (words : List (List ℕ)) (files : Files) (file : List ℕ) (runs : Run
   refused (end.ItemFault p (Eval item fault)) h = record { means = runs_text (faulty p (plain_of item) fault) h; only = only_of (faulty p (plain_of item) fault) h }
   refused (end.Usage f) h = absurd h
   refused end.NoScript h = record { means = record { file = file; runs = runs; absent = h }; only = no_script h }
+  refused (end.Lex p) h = record { means = runs_text (unlexed p) h; only = only_of (unlexed p) h }
   refused (end.Unbuilt p) h = record { means = runs_text (unbuilt p) h; only = only_of (unbuilt p) h }
   refused end.HostFault h = tt
   refused end.SinkFault h = absurd h
@@ -72,6 +75,7 @@ misuse : (words : List (List ℕ)) (files : Files) (fault : UsageFault) → comm
 misuse words files fault e (misused f) m = ap misused (let q : ◌≡◌ {A = Result Command UsageFault} (Err f) (Err fault) = sym m ∙ e in cc)
 misuse words files fault e absent m = absurd (no_fault words m.file fault m.runs e)
 misuse words files fault e (reports r) m = absurd (no_fault words m.file fault m.runs e)
+misuse words files fault e (unlexed p) m = absurd (no_fault words m.file fault m.runs e)
 misuse words files fault e (unbuilt p) m = absurd (no_fault words m.file fault m.runs e)
 misuse words files fault e (faulty p i f) m = absurd (no_fault words m.file fault m.runs e)
 

@@ -2,20 +2,23 @@
 use Rattle.std.proofs.Common.{◌≡◌, ℕ, ◌+◌, ◌<◌, List, length, replicate, Option, Some, None, Result, Ok, Err, IfSome, IfOk, refl, sym, subst, arith}
 use Rattle.std.proofs.lemmas.List.{length-replicate}
 use Rattle.nf_value.specs.View.{plain_of}
-use Rattle.nf_value.specs.declared.place.Place.{Place}
 use Rattle.nf_words.specs.declared.command.Command.{Command}
 use Rattle.nf_words.specs.declared.fault.UsageFault.{UsageFault}
 use Rattle.nf_words.specs.declared.fault.UsageFault.TheVariants as usage
 use Rattle.nf_words.specs.Words.{command_of, Reads}
 use Rattle.nf_host.specs.Files.{Files, no_files}
+use Rattle.nf_host.specs.Whole.{IsWhole}
+use Rattle.nf_host.specs.declared.whole.Whole.{Whole}
+use Rattle.nf_host.specs.declared.whole.Whole.TheVariants as whole
 use Rattle.nf_cli.specs.declared.ends.End.{End}
 use Rattle.nf_cli.specs.declared.ends.End.TheVariants as end
 use Rattle.nf_cli.specs.declared.ends.ItemCause.TheVariants.{Eval}
 use Rattle.nf_cli.specs.Ends.{end_of_usage}
-use Rattle.nf_cli.specs.Form.{script_limit}
+use Rattle.nf_lexer.specs.declared.fault.LexFault.TheVariants.{ScriptTooLong}
+use Rattle.nf_lexer.specs.Tokens.{most_bytes}
 use Rattle.nf_cli.specs.Means.{Runs}
 use Rattle.nf_cli.specs.Due.{TextRefused, TextGives, FileRefused, FileGives, Gives, EndsAs, WroteOutput, EndsOver}
-use Rattle.nf_cli.proofs.Outcomes.{too_long}
+use Rattle.nf_cli.proofs.Outcomes.{unlexed_text, too_long_only}
 use Rattle.nf_cli.proofs.Runs.{given, misuse_refused}
 use Rattle.nf_cli.proofs.Ending.{ended, complete, output}
 
@@ -32,6 +35,7 @@ text_refused text end.Ok h = absurd h
 text_refused text (end.ItemFault p (Eval item fault)) h = record { text = text; there = refl; comes = h }
 text_refused text (end.Usage f) h = absurd h
 text_refused text end.NoScript h = absurd h
+text_refused text (end.Lex p) h = record { text = text; there = refl; comes = h }
 text_refused text (end.Unbuilt p) h = record { text = text; there = refl; comes = h }
 text_refused text end.HostFault h = absurd h
 text_refused text end.SinkFault h = absurd h
@@ -44,10 +48,18 @@ text_given text (Err e) h = (Some text, text_refused text e h)
 longer : (n : ℕ) → (text : List ℕ) × (n < length text)
 longer n = (replicate {A = ℕ} (n + 1) 0, omega (arith, length-replicate {A = ℕ} (n + 1) 0))
 
-pub long_given : (place : Place) → place ≡ record { line = 1; col = 1 } → SomeFile (Err (end.Unbuilt place))
-long_given place first =
-    let long = longer script_limit in
-    (Some long.0, record { text = long.0; there = refl; comes = too_long long.0 place (record { long = long.1; first = first }) })
+pub long_given : SomeFile (Err (end.Lex ScriptTooLong))
+long_given =
+    let long = longer most_bytes in
+    (Some long.0, record { text = long.0; there = refl; comes = unlexed_text long.0 ScriptTooLong (too_long_only long.0 long.1) })
+
+long_file : (file : Option (List ℕ)) → IsWhole file most_bytes whole.TooLong → FileGives file (Err (end.Lex ScriptTooLong))
+long_file None h = absurd cc
+long_file (Some text) h = record { text = text; there = refl; comes = unlexed_text text ScriptTooLong (too_long_only text h) }
+
+pub long_told : (files : Option Files) (path : List ℕ) (w : Whole) → w ≡ whole.TooLong → IfSome files (λ f. IsWhole (f path) most_bytes w) → IfSome files (λ f. FileGives (f path) (Err (end.Lex ScriptTooLong)))
+long_told None path w e h = tt
+long_told (Some f) path w e h = long_file (f path) (subst (IsWhole (f path) most_bytes) e h)
 
 pub absent_given : SomeFile (Err end.NoScript)
 absent_given = (None, refl)

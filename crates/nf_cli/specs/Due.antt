@@ -9,7 +9,7 @@ use Rattle.nf_cli.specs.declared.ends.End.{End}
 use Rattle.nf_cli.specs.declared.ends.End.TheVariants as end
 use Rattle.nf_cli.specs.declared.ends.ItemCause.TheVariants.{Eval}
 use Rattle.nf_cli.specs.Ends.{error_line}
-use Rattle.nf_cli.specs.Outcome.{Outcome, reports, misused, absent, unbuilt, faulty}
+use Rattle.nf_cli.specs.Outcome.{Outcome, reports, misused, absent, unlexed, unbuilt, faulty}
 use Rattle.nf_cli.specs.Means.{Means, IsOutcome, IsTextOutcome}
 use Rattle.nf_cli.specs.Report.{summary}
 
@@ -17,6 +17,7 @@ use Rattle.nf_cli.specs.Report.{summary}
 
 -- why a text has no report: its own outcome, or want of memory
 abbrev pub TextRefused : List ℕ → End → Type 0
+TextRefused text (end.Lex fault) = IsTextOutcome text (unlexed fault)
 TextRefused text (end.Unbuilt place) = IsTextOutcome text (unbuilt place)
 TextRefused text (end.ItemFault place (Eval item fault)) = IsTextOutcome text (faulty place (plain_of item) fault)
 TextRefused text end.Mem = Unit {0}
@@ -36,6 +37,7 @@ pub record HasText (file : Option (List ℕ)) (outcome : Outcome) : Type 0 where
 -- why a file has no report: it isn't there, its text's own outcome, an outside fault, or want of memory
 abbrev pub FileRefused : Option (List ℕ) → End → Type 0
 FileRefused file end.NoScript = file ≡ None
+FileRefused file (end.Lex fault) = HasText file (unlexed fault)
 FileRefused file (end.Unbuilt place) = HasText file (unbuilt place)
 FileRefused file (end.ItemFault place (Eval item fault)) = HasText file (faulty place (plain_of item) fault)
 FileRefused file end.HostFault = Unit {0}
@@ -58,6 +60,7 @@ IsOfFile _ = Unit {0}
 abbrev pub Refused : List (List ℕ) → Files → End → Type 0
 Refused words files (end.Usage fault) = IsOutcome words files (misused fault)
 Refused words files end.NoScript = IsOutcome words files absent
+Refused words files (end.Lex fault) = IsOutcome words files (unlexed fault)
 Refused words files (end.Unbuilt place) = IsOutcome words files (unbuilt place)
 Refused words files (end.ItemFault place (Eval item fault)) = IsOutcome words files (faulty place (plain_of item) fault)
 Refused words files end.HostFault = Unit {0}
@@ -146,6 +149,7 @@ MayEnd (reports report) end.Ok = Unit {0}
 MayEnd (reports report) end.SinkFault = Unit {0}
 MayEnd (misused due) (end.Usage fault) = fault ≡ due
 MayEnd absent end.NoScript = Unit {0}
+MayEnd (unlexed due) (end.Lex fault) = fault ≡ due
 MayEnd (unbuilt due) (end.Unbuilt place) = place ≡ due
 MayEnd (faulty due item fault) (end.ItemFault place (Eval v f)) = (place ≡ due) × (plain_of v ≡ item) × (f ≡ fault)
 MayEnd outcome e = ⊥

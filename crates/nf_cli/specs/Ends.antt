@@ -5,6 +5,9 @@ use Rattle.nf_value.specs.Place.{place_text}
 use Rattle.nf_value.specs.Fault.{kind_text}
 use Rattle.nf_value.specs.Text.{value_text}
 use Rattle.nf_value.specs.View.{plain_of}
+use Rattle.nf_lexer.specs.Fault.{fault_text}
+use Rattle.nf_lexer.specs.declared.fault.LexFault.{LexFault}
+use Rattle.nf_lexer.specs.declared.fault.LexFault.TheVariants as lex
 use Rattle.nf_words.specs.Usage.{usage_text}
 use Rattle.nf_words.specs.declared.fault.UsageFault.{UsageFault}
 use Rattle.nf_words.specs.declared.fault.UsageFault.TheVariants as usage
@@ -18,6 +21,7 @@ status_of end.Ok = 0
 status_of (end.ItemFault p c) = 1
 status_of (end.Usage f) = 2
 status_of end.NoScript = 3
+status_of (end.Lex f) = 3
 status_of (end.Unbuilt p) = 3
 status_of end.HostFault = 4
 status_of end.SinkFault = 4
@@ -35,6 +39,7 @@ abbrev pub end_text : End → List ℕ
 end_text (end.ItemFault p c) = placed p (cause_text c)
 end_text (end.Usage f) = codes "usage: " ++ usage_text f
 end_text end.NoScript = codes "NoScript"
+end_text (end.Lex f) = fault_text f
 end_text (end.Unbuilt p) = placed p (codes "Unbuilt")
 end_text end.HostFault = codes "HostFault"
 end_text _ = []
@@ -47,3 +52,7 @@ error_line e = codes "error: " ++ end_text e ++ codes "\n"
 abbrev pub end_of_usage : UsageFault → End
 end_of_usage usage.Mem = end.Mem
 end_of_usage fault = end.Usage fault
+
+abbrev pub end_of_lex : LexFault → End
+end_of_lex lex.Mem = end.Mem
+end_of_lex fault = end.Lex fault

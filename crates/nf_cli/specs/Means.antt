@@ -7,9 +7,10 @@ use Rattle.nf_words.specs.declared.command.Command.{Command}
 use Rattle.nf_words.specs.declared.command.Command.TheVariants.{Run}
 use Rattle.nf_words.specs.Words.{command_of}
 use Rattle.nf_host.specs.Files.{Files}
-use Rattle.nf_cli.specs.Form.{IsChain, IsNoScript}
+use Rattle.nf_lexer.specs.Tokens.{Breaks}
+use Rattle.nf_cli.specs.Form.{IsChain, BreaksOff}
 use Rattle.nf_cli.specs.Meaning.{chain_images}
-use Rattle.nf_cli.specs.Outcome.{Outcome, reports, misused, absent, unbuilt, faulty}
+use Rattle.nf_cli.specs.Outcome.{Outcome, reports, misused, absent, unlexed, unbuilt, faulty}
 use Rattle.nf_cli.specs.Report.{report_of}
 
 -- the chain's images are written
@@ -29,7 +30,8 @@ pub record HasFault (text : List ℕ) (item : Plain) (fault : EvalFault) : Type 
 -- what the text of a script comes to
 abbrev pub TextMeans : List ℕ → Outcome → Type 0
 TextMeans text (reports report) = RunsWell text report
-TextMeans text (unbuilt place) = IsNoScript text place
+TextMeans text (unlexed fault) = Breaks text fault
+TextMeans text (unbuilt place) = BreaksOff text place
 TextMeans text (faulty place item fault) = HasFault text item fault × (place ≡ fault.place)
 TextMeans text (misused fault) = ⊥
 TextMeans text absent = ⊥

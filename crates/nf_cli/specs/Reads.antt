@@ -10,11 +10,17 @@ use Rattle.nf_ast.specs.declared.script.Script.{Script}
 use Rattle.nf_ast.specs.Chain.{chain_of}
 use Rattle.nf_core.specs.declared.chains.ChainFault.{ChainFault}
 use Rattle.nf_core.specs.declared.chains.ChainFault.TheVariants as chain
-use Rattle.nf_parser.specs.declared.fault.ParseFault.{ParseFault}
+use Rattle.nf_lexer.specs.declared.token.Lexeme.{Lexeme}
+use Rattle.nf_lexer.specs.declared.fault.LexFault.{LexFault}
+use Rattle.nf_lexer.specs.declared.fault.LexFault.TheVariants as lex
+use Rattle.nf_lexer.specs.Tokens.{IsTokensOf, Breaks}
 use Rattle.nf_parser.specs.declared.fault.ParseFault.TheVariants as parse
 use Rattle.nf_cli.specs.declared.ends.End.{End}
 use Rattle.nf_cli.specs.declared.ends.End.TheVariants as end
 use Rattle.nf_cli.specs.declared.ends.ItemCause.TheVariants.{Eval}
+use Rattle.nf_cli.specs.declared.texts.ScriptFault.{ScriptFault}
+use Rattle.nf_cli.specs.declared.texts.ScriptFault.TheVariants.{Lex, Parse}
+use Rattle.nf_cli.specs.Ends.{end_of_lex}
 use Rattle.nf_cli.specs.Form.{IsScript, BreaksOff}
 use Rattle.nf_cli.specs.Meaning.{chain_images}
 use Rattle.nf_cli.specs.Report.{report_of}
@@ -23,24 +29,38 @@ pub record IsOnlyScript (text : List ℕ) (tree : Tree) : Type 0 where
   pub is : IsScript text tree
   pub only : (other : Tree) → IsScript text other → other ≡ tree
   pub whole : (place : Place) → BreaksOff text place → ⊥
+  pub lexed : (fault : LexFault) → Breaks text fault → ⊥
 
 pub record IsOnlyBreak (text : List ℕ) (place : Place) : Type 0 where
   pub is : BreaksOff text place
   pub only : (other : Place) → BreaksOff text other → other ≡ place
   pub none : (tree : Tree) → IsScript text tree → ⊥
+  pub lexed : (fault : LexFault) → Breaks text fault → ⊥
 
-abbrev pub BreaksIn : List ℕ → ParseFault → Type 0
-BreaksIn text (parse.Unbuilt place) = IsOnlyBreak text place
-BreaksIn text parse.Mem = Unit {0}
+pub record IsOnlyFault (text : List ℕ) (fault : LexFault) : Type 0 where
+  pub is : Breaks text fault
+  pub only : (other : LexFault) → Breaks text other → other ≡ fault
+  pub none : (tokens : List Lexeme × Place) → IsTokensOf text tokens → ⊥
 
--- the one tree of the text, or the one place where it breaks off, unless memory ran out
-abbrev pub ReadsScript : List ℕ → Result Script ParseFault → Type 0
+-- the one rule that the text breaks first, unless memory ran out
+abbrev pub BreaksRule : List ℕ → LexFault → Type 0
+BreaksRule text lex.Mem = Unit {0}
+BreaksRule text fault = IsOnlyFault text fault
+
+abbrev pub BreaksIn : List ℕ → ScriptFault → Type 0
+BreaksIn text (Lex fault) = BreaksRule text fault
+BreaksIn text (Parse (parse.Unbuilt place)) = IsOnlyBreak text place
+BreaksIn text (Parse parse.Mem) = Unit {0}
+
+-- the one tree of the text, or the one rule or place where it breaks, unless memory ran out
+abbrev pub ReadsScript : List ℕ → Result Script ScriptFault → Type 0
 ReadsScript text (Ok s) = IsOnlyScript text (view_script s)
 ReadsScript text (Err e) = BreaksIn text e
 
-abbrev pub end_of_parse : ParseFault → End
-end_of_parse (parse.Unbuilt place) = end.Unbuilt place
-end_of_parse parse.Mem = end.Mem
+abbrev pub end_of_script : ScriptFault → End
+end_of_script (Lex fault) = end_of_lex fault
+end_of_script (Parse (parse.Unbuilt place)) = end.Unbuilt place
+end_of_script (Parse parse.Mem) = end.Mem
 
 abbrev pub end_of_chain : ChainFault → End
 end_of_chain (chain.Item item fault) = end.ItemFault fault.place (Eval item fault)

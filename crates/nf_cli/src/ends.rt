@@ -3,6 +3,7 @@
 ghost use Rattle.std.specs.Prelude.{◌≡◌};
 ghost use Rattle.nf_cli.specs.Ends.{status_of};
 
+use nf_lexer::LexFault;
 use nf_value::{EvalFault, Place, Value};
 use nf_words::UsageFault;
 
@@ -18,6 +19,8 @@ pub enum End {
     Usage(UsageFault),
     /// The script isn't there.
     NoScript,
+    /// The text breaks a rule of the tokens: the first that is broken, at its place.
+    Lex(LexFault),
     /// The text isn't of a form that is built. `place` is that of the first token that no reading of a form goes on
     /// with, or of the text's end.
     Unbuilt { place: Place },
@@ -54,7 +57,7 @@ impl End {
             End::Ok => 0,
             End::ItemFault { .. } => 1,
             End::Usage(_) => 2,
-            End::NoScript | End::Unbuilt { .. } => 3,
+            End::NoScript | End::Lex(_) | End::Unbuilt { .. } => 3,
             End::HostFault | End::SinkFault => 4,
             End::Mem => 5,
         }

@@ -29,6 +29,7 @@ fn text_of_end(alloc: Global, end: &End) -> Result<String, Mem>
         }
         End::Usage(fault) => Ok(format!(in alloc; "usage: {fault}")?),
         End::NoScript => Ok(String::from_str(alloc, "NoScript")?),
+        End::Lex(fault) => Ok(format!(in alloc; "{fault}")?),
         End::Unbuilt { place } => at_place(alloc, *place, "Unbuilt"),
         End::HostFault => Ok(String::from_str(alloc, "HostFault")?),
         End::Ok | End::SinkFault | End::Mem => Ok(String::new(alloc)),

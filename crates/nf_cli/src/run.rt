@@ -12,7 +12,8 @@ ghost use Rattle.nf_cli.specs.Due.{FileGives, Gives, IsOfFile, IsRefusal, IsUsag
 use crate::ends::End;
 use crate::texts::text_report;
 use nf_host::{Host, HostRefusal, Whole, read_whole};
-use nf_value::{Place, Txt};
+use nf_lexer::LexFault;
+use nf_value::Txt;
 use nf_words::{Command, UsageFault, read_words};
 use std::alloc::Global;
 
@@ -73,9 +74,7 @@ fn report_of_file<H: Host>(alloc: Global, file: &str, host: &mut H) -> Result<Tx
 {
     match read_whole(alloc, host, file, SCRIPT_LIMIT) {
         Ok(Whole::Absent) => Err(End::NoScript),
-        Ok(Whole::TooLong) => Err(End::Unbuilt {
-            place: Place { line: 1, col: 1 },
-        }),
+        Ok(Whole::TooLong) => Err(End::Lex(LexFault::ScriptTooLong)),
         Ok(Whole::Bytes(text)) => text_report(alloc, text.items()),
         Err(HostRefusal::Failed) => Err(End::HostFault),
         Err(HostRefusal::Mem) => Err(End::Mem),

@@ -40,7 +40,7 @@ type Row = (
     &'static str,
 );
 
-const ROWS: [Row; 35] = [
+const ROWS: [Row; 37] = [
     // Runs that end well, and the order of values.
     (RUN, Some(EXAMPLE), None, None, "0 Ok", OUTPUT),
     (RUN, Some(SCRIPT_FILE), None, None, "0 Ok", OUTPUT),
@@ -164,11 +164,28 @@ const ROWS: [Row; 35] = [
     ),
     (
         RUN,
+        Some("workflow { channel.of(1 /* a */).map { 'it' }.view() } // b"),
+        None,
+        None,
+        "3 Unbuilt at 1:40",
+        "error: 1:40: Unbuilt\n",
+    ),
+    // Texts that break a rule of the tokens.
+    (
+        RUN,
         Some("workflow { channel.of(9223372036854775808).map { it }.view() }"),
         None,
         None,
-        "3 Unbuilt at 1:23",
-        "error: 1:23: Unbuilt\n",
+        "3 Lex 1:23: BigNumber",
+        "error: 1:23: BigNumber\n",
+    ),
+    (
+        RUN,
+        Some("workflow { channel.of(\"\"\"abc"),
+        None,
+        None,
+        "3 Lex 1:23: OpenString",
+        "error: 1:23: OpenString\n",
     ),
     // Words.
     (RUN, None, None, None, "3 NoScript", "error: NoScript\n"),
@@ -431,7 +448,13 @@ const LIMITS: [Limit; 9] = [
         "3 Unbuilt at 1:544",
     ),
     (EXAMPLE, " ", MOST_BYTES - 55, "", "0 Ok"),
-    (EXAMPLE, " ", MOST_BYTES - 55, "\n", "3 Unbuilt at 1:1"),
+    (
+        EXAMPLE,
+        " ",
+        MOST_BYTES - 55,
+        "\n",
+        "3 Lex 1:1: ScriptTooLong",
+    ),
     ("", " ", MOST_BYTES, "", "3 Unbuilt at 1:1048577"),
 ];
 
@@ -506,6 +529,7 @@ fn show_end(out: &mut String, end: &End) -> Result<(), AllocError> {
         } => write!(out, "ItemFault at {place}"),
         End::Usage(fault) => write!(out, "Usage {fault}"),
         End::NoScript => write!(out, "NoScript"),
+        End::Lex(fault) => write!(out, "Lex {fault}"),
         End::Unbuilt { place } => write!(out, "Unbuilt at {place}"),
         End::HostFault => write!(out, "HostFault"),
         End::SinkFault => write!(out, "SinkFault"),

@@ -1,12 +1,12 @@
 //! The report of a script's text.
 
-ghost use Rattle.std.specs.Prelude.{◌≡◌, ◌≤◌, length, true, IsSome, IfOk};
+ghost use Rattle.std.specs.Prelude.{◌≡◌, true, IsSome, IfOk};
 ghost use Rattle.nf_ast.specs.View.{view, views, view_script};
 ghost use Rattle.nf_ast.specs.Chain.{chain_of, is_sum, are_numbers};
 ghost use Rattle.nf_core.specs.Outcome.{Chained};
 ghost use Rattle.nf_cli.specs.Meaning.{chain_images};
-ghost use Rattle.nf_cli.specs.Form.{script_limit};
-ghost use Rattle.nf_cli.specs.Reads.{ReadsScript, ScriptGives, end_of_parse, end_of_chain};
+ghost use Rattle.nf_cli.specs.Ends.{end_of_lex};
+ghost use Rattle.nf_cli.specs.Reads.{ReadsScript, ScriptGives, end_of_script, end_of_chain};
 ghost use Rattle.nf_cli.specs.Due.{TextGives};
 
 use crate::ends::{End, ItemCause};
@@ -14,39 +14,51 @@ use crate::report::report;
 use crate::rules::{SumRules, numbers};
 use nf_ast::{Chain, Script};
 use nf_core::{ChainFault, chain};
-use nf_lexer::tokens;
+use nf_lexer::{LexFault, tokens};
 use nf_parser::{ParseFault, script};
 use nf_value::{Txt, Vals};
 use std::alloc::Global;
+
+/// Why a text has no tree.
+pub enum ScriptFault {
+    /// It breaks a rule of the tokens.
+    Lex(LexFault),
+    /// Its tokens spell no tree.
+    Parse(ParseFault),
+}
 
 /// The report of a script, given by its text.
 ///
 /// # Errors
 ///
-/// `Unbuilt` exactly where the text isn't of the form, at its place; `ItemFault` exactly where an item has a fault,
-/// with the first such item; `Mem` where there is no memory.
+/// `Lex` exactly where the text breaks a rule of the tokens, with the first that is broken; `Unbuilt` exactly where
+/// its tokens aren't of the form, at their place; `ItemFault` exactly where an item has a fault, with the first such
+/// item; `Mem` where there is no memory.
 pub fn text_report(alloc: Global, text: &[u8]) -> Result<Txt, End>
-    requires { length text.now ≤ script_limit }
     ensures { TextGives text.now result }
 {
     match read_script(alloc, text) {
         Ok(script) => script_report(alloc, &script),
-        Err(fault) => Err(parse_end(fault)),
+        Err(fault) => Err(script_end(fault)),
     }
 }
 
 /// The tree of a text.
-fn read_script(alloc: Global, text: &[u8]) -> Result<Script, ParseFault>
-    requires { length text.now ≤ script_limit }
+fn read_script(alloc: Global, text: &[u8]) -> Result<Script, ScriptFault>
     ensures reads { ReadsScript text.now result }
     ensures chain { IfOk result (λ s. IsSome (chain_of (view_script s))) }
 {
     nf_lexer::laws::one_list();
+    nf_lexer::laws::one_break();
+    nf_lexer::laws::never_both();
     nf_parser::laws::one_place();
-    let Ok(tokens) = tokens(alloc, text) else {
-        return Err(ParseFault::Mem);
-    };
-    script(alloc, &tokens)
+    match tokens(alloc, text) {
+        Ok(tokens) => match script(alloc, &tokens) {
+            Ok(script) => Ok(script),
+            Err(fault) => Err(ScriptFault::Parse(fault)),
+        },
+        Err(fault) => Err(ScriptFault::Lex(fault)),
+    }
 }
 
 /// The report of a script that is a chain.
@@ -76,12 +88,22 @@ fn images(alloc: Global, parts: &Chain<'_>) -> Result<Vals, ChainFault>
     chain(alloc, &items, &SumRules { sum: parts.sum })
 }
 
-fn parse_end(fault: ParseFault) -> End
-    ensures { result ≡ end_of_parse fault }
+fn script_end(fault: ScriptFault) -> End
+    ensures { result ≡ end_of_script fault }
 {
     match fault {
-        ParseFault::Unbuilt { place } => End::Unbuilt { place },
-        ParseFault::Mem => End::Mem,
+        ScriptFault::Lex(fault) => lex_end(fault),
+        ScriptFault::Parse(ParseFault::Unbuilt { place }) => End::Unbuilt { place },
+        ScriptFault::Parse(ParseFault::Mem) => End::Mem,
+    }
+}
+
+fn lex_end(fault: LexFault) -> End
+    ensures { result ≡ end_of_lex fault }
+{
+    match fault {
+        LexFault::Mem => End::Mem,
+        fault => End::Lex(fault),
     }
 }
 

@@ -62,7 +62,7 @@ fn reads_worked_scripts(rt: HostRuntime) -> Result<(), Fail> {
             "Unbuilt at 1:46",
         ),
         (
-            "workflow { channel.of(1).map { it }.view() }; ;\n'",
+            "workflow { channel.of(1).map { it }.view() }; ;\n%",
             "Unbuilt at 2:1",
         ),
     ] {
@@ -114,9 +114,6 @@ fn stops_at_the_limits(rt: HostRuntime) -> Result<(), Fail> {
 /// What is read of a text.
 fn shown(alloc: Global, text: &[u8]) -> Result<String, Fail> {
     let mut out = String::new(alloc);
-    if text.len() > 1048576 {
-        return Ok(out);
-    }
     let tokens = tokens(alloc, text)?;
     match script(alloc, &tokens) {
         Ok(script) => show_script(&mut out, &script)?,
