@@ -4,3 +4,4 @@ pub mod Steps
 pub mod Loop
 pub mod OneAnswer
 pub mod Longest
+pub mod Utf8

@@ -2,6 +2,7 @@
 
 ghost use Rattle.std.specs.Prelude.{◌≡◌, ◌⊎◌, ℕ, List, ◌++◌};
 ghost use Rattle.std.specs.List.{Contains};
+ghost use Rattle.std.specs.Str.{IsUtf8};
 ghost use Rattle.nf_value.specs.declared.place.Place.{Place};
 ghost use Rattle.nf_lexer.specs.declared.fault.LexFault.{LexFault};
 ghost use Rattle.nf_lexer.specs.declared.token.Lexeme.{Lexeme};
@@ -29,6 +30,11 @@ pub fn one_break()
 /// A text that has tokens breaks no rule.
 pub fn never_both()
     ensures { (text : List ℕ) (t : List Lexeme × Place) (f : LexFault) → IsTokensOf text t → Breaks text f → ⊥ }
+{}
+
+/// A text that has tokens is UTF-8.
+pub fn tokens_are_utf8()
+    ensures { (text : List ℕ) (t : List Lexeme × Place) → IsTokensOf text t → IsUtf8 text }
 {}
 
 /// Where marks stand in front, one of them is taken, and it is the longest.

@@ -13,6 +13,7 @@ fn lexes_worked_texts(rt: HostRuntime) -> Result<(), Fail> {
     laws::one_break();
     laws::never_both();
     laws::longest_mark();
+    laws::tokens_are_utf8();
     for (text, want) in [
         (
             "workflow { channel.of(3, 1, 2).map { it * 10 }.view() }",
