@@ -1,5 +1,5 @@
 -- What stands first takes a byte or closes something, and no more bytes than are left.
-use Rattle.std.proofs.Common.{◌≡◌, ℕ, suc, ◌+◌, ◌*◌, ◌-◌, ◌≤◌, ◌<◌, ◌⊎◌, inl, inr, Bool, true, false, cond, List, [], ◌∷◌, length, take, drop, Option, Some, None, refl, sym, ap, ◌∙◌, subst, arith}
+use Rattle.std.proofs.Common.{◌≡◌, ℕ, suc, ◌+◌, ◌*◌, ◌≤◌, ◌<◌, ◌⊎◌, inl, inr, Bool, true, false, cond, List, [], ◌∷◌, length, take, drop, Option, Some, None, refl, sym, ap, subst, arith}
 use Rattle.std.specs.Prelude.{nat_lt, nat_eq, ◌==◌, ◌&&◌, take_while}
 use Rattle.std.specs.List.{starts_with}
 use Rattle.std.specs.Char.{is_ascii_digit}
@@ -21,12 +21,12 @@ use Rattle.nf_lexer.specs.declared.open.Change.{Change}
 use Rattle.nf_lexer.specs.declared.open.Change.TheVariants.{Keep, Enter, Leave, LeaveBrace}
 use Rattle.nf_lexer.specs.Bytes.{is_blank, begins_name, is_in_name, is_not_line_feed, is_special, is_ordinary, is_in_comment}
 use Rattle.nf_lexer.specs.Front.{Item, silent, First, passes, finished, broken, checked}
-use Rattle.nf_lexer.specs.Open.{around, around_nearest, after_brace, nearest, changed, is_brace_or_hole, innermost, outermost, line_fault, end_fault}
+use Rattle.nf_lexer.specs.Open.{around, around_nearest, after_brace, nearest, changed, is_brace_or_hole, innermost, outermost, end_fault}
 use Rattle.nf_lexer.specs.Spellings.{marks, closing}
 use Rattle.nf_lexer.specs.Word.{word, number, limit, begins_property}
 use Rattle.nf_lexer.specs.Mark.{past, mark_or, mark_in, mark, marked}
 use Rattle.nf_lexer.specs.Escape.{escaped, hex_number, character, written_or_bad, escape, kept}
-use Rattle.nf_lexer.specs.First.{begun, opens, quote, slash, tilde, line_item, in_code, has_escapes, has_holes, ended, hole, in_text, in_named_hole, in_line_comment, star, in_comment, in_open, broken_or, fault_at, first}
+use Rattle.nf_lexer.specs.First.{quote, slash, tilde, in_code, has_escapes, has_holes, hole, in_text, in_named_hole, in_line_comment, star, in_comment, in_open, broken_or, fault_at, first}
 use Rattle.nf_lexer.proofs.Runs.{run_le, run_some}
 
 abbrev pub Steps : List Open → List ℕ → First → Type 0

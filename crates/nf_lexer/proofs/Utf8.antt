@@ -1,5 +1,5 @@
 -- What stands first takes whole characters, so that a text that has tokens is UTF-8.
-use Rattle.std.proofs.Common.{◌≡◌, ℕ, zero, suc, ◌+◌, ◌≤◌, ◌<◌, Bool, true, false, cond, List, [], ◌∷◌, ◌++◌, length, take, drop, Option, Some, None, refl, sym, ap, ◌∙◌, subst, arith}
+use Rattle.std.proofs.Common.{◌≡◌, ℕ, ◌<◌, Bool, true, false, cond, List, [], ◌∷◌, ◌++◌, length, take, drop, Option, Some, None, refl, sym, ap, ◌∙◌, subst, arith}
 use Rattle.std.specs.Prelude.{nat_lt, nat_eq, ◌==◌, ◌&&◌, take_while}
 use Rattle.std.specs.List.{starts_with, prefix_len, list_all}
 use Rattle.std.specs.Char.{is_ascii_digit, is_ascii_hexdigit}
@@ -8,7 +8,7 @@ use Rattle.std.specs.Str.Parse.{digits_value}
 use lib.Pointwise.{bytes_decides}
 use Rattle.std.proofs.lemmas.Bool.Decides.{nat_tests, Decides-eqb}
 use Rattle.std.proofs.lemmas.List.{take-append-drop, length-take-le, take_at}
-use Rattle.std.proofs.lemmas.List.Sums.{prefix_len-le-length, take_while-cons}
+use Rattle.std.proofs.lemmas.List.Sums.{prefix_len-le-length}
 use Rattle.std.proofs.lemmas.Str.{IsUtf8-append, IsUtf8-nil, IsUtf8-from_ascii, IsUtf8-from_is_utf8}
 use Rattle.nf_value.specs.declared.place.Place.{Place}
 use Rattle.nf_lexer.specs.declared.fault.LexFault.{LexFault}
@@ -25,13 +25,13 @@ use Rattle.nf_lexer.specs.declared.open.Change.TheVariants.{Keep}
 use Rattle.nf_lexer.specs.Bytes.{is_blank, begins_name, is_in_name, is_not_line_feed, is_special, is_ordinary, is_in_comment}
 use Rattle.nf_lexer.specs.Front.{Item, silent, First, passes, finished, broken, checked}
 use Rattle.nf_lexer.specs.Joined.{Placed}
-use Rattle.nf_lexer.specs.Open.{innermost, outermost, line_fault, end_fault}
+use Rattle.nf_lexer.specs.Open.{innermost, outermost, end_fault}
 use Rattle.nf_lexer.specs.Place.{place_of}
 use Rattle.nf_lexer.specs.Spellings.{marks, closing}
 use Rattle.nf_lexer.specs.Word.{word, number, limit, begins_property}
 use Rattle.nf_lexer.specs.Mark.{past, mark_or, mark_in, mark, marked}
 use Rattle.nf_lexer.specs.Escape.{escaped, hex_number, character, written_or_bad, escape, kept}
-use Rattle.nf_lexer.specs.First.{opens, quote, slash, tilde, in_code, has_escapes, has_holes, hole, in_text, in_named_hole, in_line_comment, star, in_comment, in_open, broken_or, fault_at, first}
+use Rattle.nf_lexer.specs.First.{quote, slash, tilde, in_code, has_escapes, has_holes, hole, in_text, in_named_hole, star, in_comment, in_open, broken_or, fault_at, first}
 use Rattle.nf_lexer.specs.Tokens.{Reads, ends, breaks, goes, IsTokensOf}
 use Rattle.nf_lexer.proofs.Runs.{all_of_run, ascii_cons, name_ascii}
 

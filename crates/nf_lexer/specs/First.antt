@@ -1,5 +1,5 @@
 -- What stands first in a text, by what is open there.
-use Rattle.std.specs.Prelude.{ℕ, Bool, true, false, List, [], ◌∷◌, length, nat_eq, Option, Some, None, ◌==◌, ◌&&◌, ◌||◌, if◌then◌else◌, take_while}
+use Rattle.std.specs.Prelude.{ℕ, Bool, true, false, List, [], ◌∷◌, length, nat_eq, Option, Some, None, ◌==◌, ◌&&◌, if◌then◌else◌, take_while}
 use Rattle.std.specs.List.{starts_with}
 use Rattle.std.specs.Char.{is_ascii_digit}
 use Rattle.nf_value.specs.declared.place.Place.{Place}

@@ -1,5 +1,5 @@
 -- What stands first in a text: a part of it, or a broken rule.
-use Rattle.std.specs.Prelude.{ℕ, Bool, List, length, if◌then◌else◌}
+use Rattle.std.specs.Prelude.{ℕ, List, length, if◌then◌else◌}
 use Rattle.std.specs.Str.{is_utf8}
 use Rattle.std.specs.Str.Lossy.{utf8_valid_len}
 use Rattle.nf_value.specs.declared.place.Place.{Place}

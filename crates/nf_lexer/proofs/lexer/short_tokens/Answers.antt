@@ -1,4 +1,4 @@
-use Rattle.std.proofs.Common.{◌≡◌, ℕ, length, sym, subst, arith}
+use Rattle.std.proofs.Common.{sym, subst, arith}
 use Rattle.nf_lexer.specs.Front.{passes}
 use Rattle.nf_lexer.specs.Tokens.{IsTokensOf}
 use Rattle.nf_lexer.specs.View.{part_view}
