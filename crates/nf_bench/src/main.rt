@@ -1,5 +1,5 @@
-//! Times calls of layers that the program doesn't reach yet: `nf_bench OPERATION COUNT` does one operation on a list of COUNT
-//! numbers, prints what came of it, and on standard error how many microseconds the operation took.
+//! Times calls of single layers: `nf_bench OPERATION COUNT` does one operation on a list of COUNT numbers, or on a text that
+//! repeats a few bytes COUNT times, prints what came of it, and on standard error how many microseconds the operation took.
 #![tactic(auto)]
 
 use anyhow::{Context, Result, bail};
@@ -16,10 +16,24 @@ fn main(rt: HostRuntime) -> Result<()> {
 fn run<R: Env + Clock + AllocGlobal + Print + Eprint>(rt: &R) -> Result<()> {
     let mut words = env::args(rt)?.skip(1);
     let operation = words.next().context("which operation?")?;
-    let count = words.next().context("how many numbers?")?;
-    let count = count.parse::<u32>().context("how many numbers?")?;
-    let list = numbers(rt.alloc(), count)?;
+    let count = words.next().context("how many?")?;
+    let count = count.parse::<u32>().context("how many?")?;
     match operation.as_str() {
+        "lex-names" => lex(rt, "a_name1\n", count),
+        "lex-holes" => lex(rt, "\"${", count),
+        "lex-brackets" => lex(rt, "({[", count),
+        "lex-strings" => lex(rt, "'\\u0041' \"$a.b\" /* c */\n", count),
+        operation => values(rt, operation, numbers(rt.alloc(), count)?),
+    }
+}
+
+/// Does an operation on a list.
+fn values<R: Clock + AllocGlobal + Print + Eprint>(
+    rt: &R,
+    operation: &str,
+    list: Vals,
+) -> Result<()> {
+    match operation {
         "copy" => copy(rt, &list),
         "compare" => compare(rt, list),
         "sort" => sort(rt, list),
@@ -40,6 +54,25 @@ fn numbers(alloc: Global, count: u32) -> Result<Vals, AllocError> {
         items.push(Value::Int(i64::from((number >> 33) as u32)))?;
     }
     Ok(Vals::of(items))
+}
+
+/// Reads the tokens of a text that repeats these bytes.
+fn lex<R: Clock + AllocGlobal + Print + Eprint>(rt: &R, bytes: &str, count: u32) -> Result<()> {
+    let mut text = String::new(rt.alloc());
+    for _ in 0..count {
+        text.push_str(bytes)?;
+    }
+    let start = Instant::now(rt)?;
+    let read = nf_lexer::tokens(rt.alloc(), text.as_bytes());
+    took(rt, start)?;
+    match read {
+        Ok(tokens) => {
+            let len = tokens.items().len();
+            println!(rt; "tokens {len}")?;
+        }
+        Err(fault) => println!(rt; "{fault}")?,
+    }
+    Ok(())
 }
 
 fn copy<R: Clock + AllocGlobal + Print + Eprint>(rt: &R, list: &Vals) -> Result<()> {

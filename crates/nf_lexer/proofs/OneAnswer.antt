@@ -1,5 +1,5 @@
 -- A text has one list of tokens or breaks one rule first, and not both.
-use Rattle.std.proofs.Common.{◌≡◌, ℕ, zero, suc, ◌+◌, ◌*◌, ◌≤◌, ◌<◌, ◌⊎◌, inl, inr, List, [], ◌∷◌, length, drop, Option, Some, None, refl, sym, ap, ◌∙◌, subst, arith}
+use Rattle.std.proofs.Common.{◌≡◌, ℕ, zero, suc, ◌+◌, ◌*◌, ◌≤◌, ◌<◌, ◌⊎◌, ◌↔◌, inl, inr, List, [], ◌∷◌, length, drop, Option, Some, None, Result, Err, MatchResult, refl, sym, ap, ◌∙◌, subst, arith}
 use Rattle.std.proofs.lemmas.Bool.{cases_lt}
 use Rattle.nf_value.specs.declared.place.Place.{Place}
 use Rattle.nf_lexer.specs.declared.fault.LexFault.{LexFault}
@@ -13,8 +13,8 @@ use Rattle.nf_lexer.specs.Joined.{Placed, at, nothing, joined}
 use Rattle.nf_lexer.specs.Open.{changed}
 use Rattle.nf_lexer.specs.Place.{place_after, place_of}
 use Rattle.nf_lexer.specs.Separators.{settled}
-use Rattle.nf_lexer.specs.Tokens.{Reads, ends, breaks, goes, at_start, most_bytes, IsTokensOf, Breaks, too_long, breaks_at}
-use Rattle.nf_lexer.proofs.Steps.{Steps, first_steps, less_left}
+use Rattle.nf_lexer.specs.Tokens.{Reads, ends, breaks, goes, at_start, most_bytes, IsTokensOf, Breaks, too_long, breaks_at, Refuses}
+use Rattle.nf_lexer.proofs.Steps.{Steps, IsPlaced, IsPlacedIfAny, first_steps, less_left}
 
 -- ---- at most one
 
@@ -56,6 +56,23 @@ one_break (too_long h) _ (too_long k) = refl
 one_break (too_long h) g (breaks_at k q) = absurd (omega arith)
 one_break (breaks_at h p) _ (too_long k) = absurd (omega arith)
 one_break (breaks_at {fault = f} h p) g (breaks_at {items = w} k q) = same_some f g (one_reading p w (Some g) q).1
+
+-- ---- only a text that is too long breaks that rule
+
+reads_placed : {text : List ℕ} {o : List Open} {bs : List ℕ} {v : List Placed} {e : Option LexFault} → Reads text o bs v e → IsPlacedIfAny e
+reads_placed (ends e) = tt
+reads_placed {text} {o} {bs} (breaks e) = subst (Steps o bs) e (first_steps o (place_of text (length bs)) bs)
+reads_placed (goes e p) = reads_placed p
+
+breaks_long : {text : List ℕ} {f : LexFault} → Breaks text f → f ≡ ScriptTooLong → most_bytes < length text
+breaks_long (too_long h) e = h
+breaks_long (breaks_at h p) e = absurd (subst IsPlaced e (reads_placed p))
+
+pub long_exactly : (text : List ℕ) → Breaks text ScriptTooLong ↔ most_bytes < length text
+long_exactly text = (λ h. breaks_long h refl, too_long)
+
+pub refused_long : (text : List ℕ) (r : Result (List Lexeme × Place) LexFault) → MatchResult r (λ t. IsTokensOf text t) (λ e. Refuses text e) → r ≡ Err ScriptTooLong → most_bytes < length text
+refused_long text r h e = (long_exactly text).0 (subst (λ (z : Result (List Lexeme × Place) LexFault). MatchResult z (λ t. IsTokensOf text t) (λ e. Refuses text e)) e h)
 
 never_some : (f : LexFault) → None ≡ Some f → ⊥
 never_some f e = cc

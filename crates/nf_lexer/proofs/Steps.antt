@@ -1,4 +1,4 @@
--- What stands first takes a byte or closes something, and no more bytes than are left.
+-- What stands first takes a byte or closes something, and no more bytes than are left; or a rule is broken at a place.
 use Rattle.std.proofs.Common.{◌≡◌, ℕ, suc, ◌+◌, ◌*◌, ◌≤◌, ◌<◌, ◌⊎◌, inl, inr, Bool, true, false, cond, List, [], ◌∷◌, length, take, drop, Option, Some, None, refl, sym, ap, subst, arith}
 use Rattle.std.specs.Prelude.{nat_lt, nat_eq, ◌==◌, ◌&&◌, take_while}
 use Rattle.std.specs.List.{starts_with}
@@ -10,6 +10,7 @@ use Rattle.std.proofs.lemmas.Bool.Decides.{nat_tests}
 use Rattle.std.proofs.lemmas.List.{length-take, length-drop}
 use Rattle.nf_value.specs.declared.place.Place.{Place}
 use Rattle.nf_lexer.specs.declared.fault.LexFault.{LexFault}
+use Rattle.nf_lexer.specs.declared.fault.LexFault.TheVariants.{BadByte, OpenString, OpenComment, BadEscape, BigNumber, ScriptTooLong, Mem}
 use Rattle.nf_lexer.specs.declared.token.Mark.{Mark}
 use Rattle.nf_lexer.specs.declared.token.PlainKind.TheVariants.{Single, TripleSingle, Slashes}
 use Rattle.nf_lexer.specs.declared.token.TemplateKind.TheVariants.{Double, TripleDouble}
@@ -21,7 +22,7 @@ use Rattle.nf_lexer.specs.declared.open.Change.{Change}
 use Rattle.nf_lexer.specs.declared.open.Change.TheVariants.{Keep, Enter, Leave, LeaveBrace}
 use Rattle.nf_lexer.specs.Bytes.{is_blank, begins_name, is_in_name, is_not_line_feed, is_special, is_ordinary, is_in_comment}
 use Rattle.nf_lexer.specs.Front.{Item, silent, First, passes, finished, broken, checked}
-use Rattle.nf_lexer.specs.Open.{around, around_nearest, after_brace, nearest, changed, is_brace_or_hole, innermost, outermost, end_fault}
+use Rattle.nf_lexer.specs.Open.{around, around_nearest, after_brace, nearest, changed, is_brace_or_hole, innermost, outermost, is_one_line, line_fault, end_fault, rather}
 use Rattle.nf_lexer.specs.Spellings.{marks, closing}
 use Rattle.nf_lexer.specs.Word.{word, number, limit, begins_property}
 use Rattle.nf_lexer.specs.Mark.{past, mark_or, mark_in, mark, marked}
@@ -29,10 +30,24 @@ use Rattle.nf_lexer.specs.Escape.{escaped, hex_number, character, written_or_bad
 use Rattle.nf_lexer.specs.First.{quote, slash, tilde, in_code, has_escapes, has_holes, hole, in_text, in_named_hole, in_line_comment, star, in_comment, in_open, broken_or, fault_at, first}
 use Rattle.nf_lexer.proofs.Runs.{run_le, run_some}
 
+-- a rule that is broken at a place of the text
+abbrev pub IsPlaced : LexFault → Type 0
+IsPlaced (BadByte p) = Unit {0}
+IsPlaced (OpenString p) = Unit {0}
+IsPlaced (OpenComment p) = Unit {0}
+IsPlaced (BadEscape p) = Unit {0}
+IsPlaced (BigNumber p) = Unit {0}
+IsPlaced ScriptTooLong = ⊥
+IsPlaced Mem = ⊥
+
+abbrev pub IsPlacedIfAny : Option LexFault → Type 0
+IsPlacedIfAny (Some fault) = IsPlaced fault
+IsPlacedIfAny None = Unit {0}
+
 abbrev pub Steps : List Open → List ℕ → First → Type 0
 Steps o bs (passes item change n) = (n ≤ length bs) × ((0 < n) ⊎ ((change ≡ Leave) × (0 < length o)))
 Steps o bs finished = bs ≡ []
-Steps o bs (broken fault) = Unit {0}
+Steps o bs (broken fault) = IsPlaced fault
 
 if_steps : (o : List Open) (bs : List ℕ) (c : Bool) (x y : First) → (c ≡ true → Steps o bs x) → (c ≡ false → Steps o bs y) → Steps o bs (cond c x y)
 if_steps o bs true x y h k = h refl
@@ -227,14 +242,51 @@ open_steps (Text k p ∷ o) place b bs = text_steps (Text k p ∷ o) k place b b
 open_steps (Comment p ∷ o) place b bs = comment_steps (Comment p ∷ o) place b bs
 open_steps (LineComment ∷ o) place b bs = line_comment_steps (LineComment ∷ o) place (b ∷ bs) (omega arith)
 
-broken_or_steps : (o : List Open) (bs : List ℕ) (f : Option LexFault) (x : First) → Steps o bs x → Steps o bs (broken_or f x)
-broken_or_steps o bs (Some f) x h = tt
-broken_or_steps o bs None x h = h
+-- ---- what is open breaks a rule at a place
+
+if_placed : (c : Bool) (x y : Option LexFault) → IsPlacedIfAny x → IsPlacedIfAny y → IsPlacedIfAny (cond c x y)
+if_placed true x y h k = h
+if_placed false x y h k = k
+
+line_placed : (x : Open) → IsPlacedIfAny (line_fault x)
+line_placed (Text k place) = if_placed (is_one_line k) (Some (OpenString place)) None tt tt
+line_placed Round = tt
+line_placed Square = tt
+line_placed Brace = tt
+line_placed Hole = tt
+line_placed NamedHole = tt
+line_placed (Comment place) = tt
+line_placed LineComment = tt
+
+end_placed : (x : Open) → IsPlacedIfAny (end_fault x)
+end_placed (Text k place) = tt
+end_placed (Comment place) = tt
+end_placed Round = tt
+end_placed Square = tt
+end_placed Brace = tt
+end_placed Hole = tt
+end_placed NamedHole = tt
+end_placed LineComment = tt
+
+rather_placed : (f g : Option LexFault) → IsPlacedIfAny f → IsPlacedIfAny g → IsPlacedIfAny (rather f g)
+rather_placed (Some f) g h k = h
+rather_placed None g h k = k
+
+outermost_placed : (fault : Open → Option LexFault) → ((x : Open) → IsPlacedIfAny (fault x)) → (o : List Open) → IsPlacedIfAny (outermost fault o)
+outermost_placed fault h [] = tt
+outermost_placed fault h (x ∷ o) = rather_placed (outermost fault o) (fault x) (outermost_placed fault h o) (h x)
+
+fault_at_placed : (b : ℕ) (o : List Open) → IsPlacedIfAny (fault_at b o)
+fault_at_placed b o = if_placed (b == 10) (outermost line_fault o) None (outermost_placed line_fault line_placed o) tt
+
+broken_or_steps : (o : List Open) (bs : List ℕ) (f : Option LexFault) (x : First) → IsPlacedIfAny f → Steps o bs x → Steps o bs (broken_or f x)
+broken_or_steps o bs (Some f) x p h = p
+broken_or_steps o bs None x p h = h
 
 pub first_steps : (o : List Open) (place : Place) (bs : List ℕ) → Steps o bs (first o place bs)
 unfolding first
-first_steps o place [] = broken_or_steps o [] (outermost end_fault o) finished refl
-first_steps o place (b ∷ bs) = broken_or_steps o (b ∷ bs) (fault_at b o) (in_open (innermost o) o place b bs) (open_steps o place b bs)
+first_steps o place [] = broken_or_steps o [] (outermost end_fault o) finished (outermost_placed end_fault end_placed o) refl
+first_steps o place (b ∷ bs) = broken_or_steps o (b ∷ bs) (fault_at b o) (in_open (innermost o) o place b bs) (fault_at_placed b o) (open_steps o place b bs)
 
 pub steps_of : (o : List Open) (place : Place) (bs : List ℕ) (x : First) → x ≡ first o place bs → Steps o bs x
 steps_of o place bs x e = subst (Steps o bs) (sym e) (first_steps o place bs)

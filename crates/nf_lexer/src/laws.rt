@@ -1,16 +1,17 @@
 //! Laws of the definitions.
 
-ghost use Rattle.std.specs.Prelude.{◌≡◌, ◌⊎◌, ℕ, List, ◌++◌};
+ghost use Rattle.std.specs.Prelude.{◌≡◌, ◌⊎◌, ◌<◌, ◌↔◌, ℕ, List, ◌++◌, length};
 ghost use Rattle.std.specs.List.{Contains};
 ghost use Rattle.std.specs.Str.{IsUtf8};
 ghost use Rattle.nf_value.specs.declared.place.Place.{Place};
 ghost use Rattle.nf_lexer.specs.declared.fault.LexFault.{LexFault};
+ghost use Rattle.nf_lexer.specs.declared.fault.LexFault.TheVariants.{ScriptTooLong};
 ghost use Rattle.nf_lexer.specs.declared.token.Lexeme.{Lexeme};
 ghost use Rattle.nf_lexer.specs.declared.token.Mark.{Mark};
 ghost use Rattle.nf_lexer.specs.Longest.{IsLongest};
 ghost use Rattle.nf_lexer.specs.Mark.{mark};
 ghost use Rattle.nf_lexer.specs.Spellings.{marks};
-ghost use Rattle.nf_lexer.specs.Tokens.{IsTokensOf, Breaks};
+ghost use Rattle.nf_lexer.specs.Tokens.{IsTokensOf, Breaks, most_bytes};
 
 /// A text has a list of tokens and an end, or breaks a rule first.
 pub fn some_answer()
@@ -25,6 +26,11 @@ pub fn one_list()
 /// A text breaks at most one rule first, at one place.
 pub fn one_break()
     ensures { (text : List ℕ) (f g : LexFault) → Breaks text f → Breaks text g → f ≡ g }
+{}
+
+/// A text breaks the rule of the most bytes exactly where it has more.
+pub fn too_long_exactly()
+    ensures { (text : List ℕ) → Breaks text ScriptTooLong ↔ most_bytes < length text }
 {}
 
 /// A text that has tokens breaks no rule.

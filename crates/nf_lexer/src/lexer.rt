@@ -1,6 +1,7 @@
 //! The tokens of a text.
 
-ghost use Rattle.std.specs.Prelude.{◌≡◌, ◌≤◌, IfOk, MatchResult, length};
+ghost use Rattle.std.specs.Prelude.{◌≡◌, ◌≤◌, ◌<◌, ◌↔◌, IfOk, MatchResult, Err, length};
+ghost use Rattle.nf_lexer.specs.declared.fault.LexFault.TheVariants.{ScriptTooLong};
 ghost use Rattle.nf_lexer.specs.Tokens.{IsTokensOf, Refuses, at_start as at_start_of, most_bytes};
 
 use crate::fault::LexFault;
@@ -48,7 +49,8 @@ const MOST_BYTES: usize = 1048576;
 /// line or the text ends, at the opening. A line end in a hole of a template `".."` breaks that template's rule, and
 /// of several that are open there the outermost is named. `Mem` where there is no memory for the tokens.
 pub fn tokens(alloc: Global, text: &[u8]) -> Result<Tokens, LexFault>
-    ensures { MatchResult result (λ t. IsTokensOf text.now t) (λ e. Refuses text.now e) }
+    ensures gives { MatchResult result (λ t. IsTokensOf text.now t) (λ e. Refuses text.now e) }
+    ensures long { (result ≡ Err ScriptTooLong) ↔ (most_bytes < length text.now) }
 {
     if text.len() > MOST_BYTES {
         return Err(LexFault::ScriptTooLong);

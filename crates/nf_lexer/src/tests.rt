@@ -14,6 +14,7 @@ fn lexes_worked_texts(rt: HostRuntime) -> Result<(), Fail> {
     laws::some_answer();
     laws::one_list();
     laws::one_break();
+    laws::too_long_exactly();
     laws::never_both();
     laws::longest_mark();
     laws::tokens_are_utf8();
