@@ -1,6 +1,9 @@
-//! Times calls of single layers: `nf_bench OPERATION COUNT` does one operation on a list of COUNT numbers, or on a text that
-//! repeats a few bytes COUNT times, prints what came of it, and on standard error how many microseconds the operation took.
+//! Reaches layers that the program doesn't reach yet. `nf_bench OPERATION COUNT` does one operation on a list of COUNT numbers, or on
+//! a text that repeats a few bytes COUNT times, prints what came of it, and on standard error how many microseconds the operation
+//! took. `nf_bench codes` reads codes of values from standard input, one a line, and prints what they say.
 #![tactic(auto)]
+
+mod table;
 
 use anyhow::{Context, Result, bail};
 use nf_value::{Vals, Value};
@@ -13,9 +16,12 @@ fn main(rt: HostRuntime) -> Result<()> {
     run(&rt)
 }
 
-fn run<R: Env + Clock + AllocGlobal + Print + Eprint>(rt: &R) -> Result<()> {
+fn run<R: Env + Clock + AllocGlobal + Input + Print + Eprint>(rt: &R) -> Result<()> {
     let mut words = env::args(rt)?.skip(1);
     let operation = words.next().context("which operation?")?;
+    if operation.as_str() == "codes" {
+        return table::print_values(rt);
+    }
     let count = words.next().context("how many?")?;
     let count = count.parse::<u32>().context("how many?")?;
     match operation.as_str() {
