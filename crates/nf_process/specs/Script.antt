@@ -1,0 +1,51 @@
+-- The text of a script: a template's text that doesn't begin with a line end, and whose lines begin as far left as they can.
+use Rattle.std.specs.Prelude.{ℕ, min, ◌==◌, ◌||◌, List, [], ◌∷◌, length, map, filter, drop, Bool, not, unwrap_or, if◌then◌else◌}
+use Rattle.std.specs.List.{slice_split, join_by, list_all, prefix_len, reduce}
+use Rattle.nf_value.specs.Plain.{Plain}
+use Rattle.nf_process.specs.declared.template.Piece.{Piece}
+use Rattle.nf_process.specs.Template.{template_text}
+
+-- the line end is a line feed
+abbrev pub is_line_end : ℕ → Bool
+is_line_end b = b == 10
+
+-- a blank is a space or a tab
+abbrev pub is_blank : ℕ → Bool
+is_blank b = (b == 32) || (b == 9)
+
+-- how many blanks a line begins with
+abbrev pub indent_of : List ℕ → ℕ
+indent_of line = prefix_len is_blank line
+
+-- a line has more than blanks
+abbrev pub is_filled : List ℕ → Bool
+is_filled line = not (list_all is_blank line)
+
+-- how many blanks all filled lines begin with; none where no line is filled
+abbrev pub margin_of : List (List ℕ) → ℕ
+margin_of lines = unwrap_or (reduce min (map indent_of (filter is_filled lines))) 0
+
+-- a line without so many of its first blanks, or without as many as it has
+abbrev pub outdented : ℕ → List ℕ → List ℕ
+outdented margin line = drop (min margin (indent_of line)) line
+
+-- lines, with a line end between each two
+abbrev pub joined : List (List ℕ) → List ℕ
+joined = join_by (λ line. line) (10 ∷ [])
+
+-- the lines, each without the margin of all
+abbrev pub flush_left : List (List ℕ) → List (List ℕ)
+flush_left lines = map (outdented (margin_of lines)) lines
+
+-- a text without the margin of its lines
+abbrev pub without_margin : List ℕ → List ℕ
+without_margin t = joined (flush_left (slice_split is_line_end t))
+
+-- a text without the line end that it begins with
+abbrev pub without_line_end : List ℕ → List ℕ
+without_line_end [] = []
+without_line_end (b ∷ bs) = if is_line_end b then bs else b ∷ bs
+
+-- the text of a script for an input
+abbrev pub script_of : List Piece → Plain → List ℕ
+script_of pieces v = without_margin (without_line_end (template_text pieces v))

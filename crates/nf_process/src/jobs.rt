@@ -1,0 +1,91 @@
+//! The job of an instance's attempt.
+
+ghost use Rattle.std.specs.Prelude.{◌≡◌, ◌≤◌, OnOk};
+ghost use Rattle.nf_value.specs.Plain.{list, plains_of};
+ghost use Rattle.nf_job.specs.Sizes.{IsFit};
+ghost use Rattle.nf_process.specs.Parts.{parts_of, no_item};
+ghost use Rattle.nf_process.specs.Answers.{Answers};
+
+use crate::process::ProcessSpec;
+use crate::script::script_text;
+use nf_codec::encode;
+use nf_job::{FileRefs, Job, JobParts, TaskFault, TaskRefusal, Txts, inputs_code, make_job};
+use nf_value::{EvalFault, EvalKind, Mem, Vals, Value};
+use std::alloc::Global;
+
+/// What an attempt at the instance of these inputs and this number is made of. An instance's number counts from 0 those
+/// of equal inputs; the attempt counts from 1. The input is the first item; no input reads the others (own).
+///
+/// # Errors
+///
+/// `Fault` with `WrongKind` at the input's place exactly where there is no item, but for `Mem`, where there was no memory.
+pub fn parts(
+    alloc: Global,
+    spec: &ProcessSpec,
+    inputs: &Vals,
+    n: u32,
+    attempt: u32,
+) -> Result<JobParts, TaskRefusal>
+    ensures { Answers (parts_of spec.now inputs.now n attempt) result }
+{
+    let Some(input) = inputs.items().first() else {
+        return Err(TaskRefusal::Fault(no_item(spec)));
+    };
+    let process = spec.name.copy()?;
+    let code = inputs_code(alloc, inputs)?;
+    let script = script_text(alloc, &spec.script, input)?;
+    Ok(JobParts {
+        process,
+        script,
+        inputs: code,
+        stdin: None,
+        staged: FileRefs::of(Vec::new(alloc)),
+        patterns: Txts::of(Vec::new(alloc)),
+        wants_stdout: true,
+        n,
+        attempt,
+    })
+}
+
+/// The fault of an input for which no item is there.
+pub(crate) fn no_item(spec: &ProcessSpec) -> TaskFault
+    ensures { result ≡ no_item spec.now }
+{
+    TaskFault::Eval(EvalFault {
+        kind: EvalKind::WrongKind,
+        place: spec.input,
+    })
+}
+
+/// The job of an attempt, from 1 to 101, at the instance of these inputs and this number: that of its [`parts`].
+///
+/// # Errors
+///
+/// As for [`parts`].
+pub fn job(
+    alloc: Global,
+    spec: &ProcessSpec,
+    inputs: &Vals,
+    n: u32,
+    attempt: u32,
+) -> Result<Job, TaskRefusal>
+    requires first { 1 ≤ attempt }
+    requires last { attempt ≤ 101 }
+    ensures { Answers (parts_of spec.now inputs.now n attempt) result }
+{
+    let parts = parts(alloc, spec, inputs, n, attempt)?;
+    Ok(make_job(alloc, parts)?)
+}
+
+/// Tells that all numbers, lengths and counts in these inputs fit 64 bits, which the laws on jobs ask of them.
+///
+/// # Errors
+///
+/// `Mem` where there is no memory for the code of the inputs.
+pub fn tell_fit(alloc: Global, inputs: &Vals) -> Result<(), Mem>
+    ensures { OnOk result (IsFit (list (plains_of inputs.now))) }
+{
+    let list = Value::List(inputs.copy()?);
+    encode(alloc, &list)?;
+    Ok(())
+}
