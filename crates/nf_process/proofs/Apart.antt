@@ -1,5 +1,5 @@
 -- The text of a job tells the instance and the attempt.
-use Rattle.std.proofs.Common.{◌≡◌, ℕ, List, [], ◌∷◌, Ok, Err, refl, ap, sym, ◌∙◌}
+use Rattle.std.proofs.Common.{◌≡◌, ℕ, List, [], ◌∷◌, Ok, sym, ◌∙◌}
 use Rattle.nf_value.specs.Plain.{Plain, list, plains_of}
 use Rattle.nf_job.specs.declared.parts.JobParts.{JobParts}
 use Rattle.nf_job.specs.JobText.{job_text, inputs_text}

@@ -4,7 +4,6 @@ use Rattle.std.specs.declared.result.Result.{Result}
 use Rattle.nf_value.specs.Plain.{Plain}
 use Rattle.nf_job.specs.declared.fault.TaskFault.{TaskFault}
 use Rattle.nf_job.specs.declared.report.Report.{Report}
-use Rattle.nf_job.specs.declared.emitted.Outputs.{Outputs}
 use Rattle.nf_job.specs.declared.emitted.Outputs.TheVariants.{Again, Ignored}
 use Rattle.nf_job.specs.Emission.{stdout_emitted}
 use Rattle.nf_process.specs.declared.process.ProcessSpec.{ProcessSpec}

@@ -1,5 +1,5 @@
 -- A value that was written has sizes that 64 bits hold.
-use Rattle.std.proofs.Common.{◌≡◌, ℤ, pos, negsuc, Some, None, List, ℕ, arith}
+use Rattle.std.proofs.Common.{ℤ, pos, negsuc, Some, None, List, ℕ}
 use Rattle.std.specs.declared.option.Option.{Option}
 use Rattle.nf_value.specs.Plain.{Plain, null, truth, int, text, file, list, table, Plains, no_items, item, PlainPairs, no_pairs, pair}
 use Rattle.nf_codec.specs.Whole.{IsWhole, AreWhole, ArePairs, IsWholeInt}

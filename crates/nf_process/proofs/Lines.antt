@@ -1,6 +1,6 @@
 -- Lines as a slice holds them.
-use Rattle.std.proofs.Common.{◌≡◌, ℕ, Bool, true, false, cond, List, [], ◌∷◌, ◌++◌, map, Bor, refl, ap, ◌∙◌}
-use Rattle.std.specs.List.{filter, flat_map, IsFirstAndRest}
+use Rattle.std.proofs.Common.{◌≡◌, ℕ, Bool, true, false, cond, List, [], ◌∷◌, ◌++◌, map, Bor, refl, ap}
+use Rattle.std.specs.List.{filter, flat_map}
 use Rattle.nf_process.specs.Script.{outdented, joined}
 
 pub map-filter_map : {A B C : Type 0} (f : B → C) (p : B → Bool) (g : A → B) (xs : List A) → map (λ x. f (g x)) (filter (λ x. p (g x)) xs) ≡ map f (filter p (map g xs))

@@ -1,11 +1,10 @@
 -- The parts of an attempt at an instance that has a first input.
-use Rattle.std.proofs.Common.{◌≡◌, ℕ, List, [], ◌∷◌, map, true, Some, None, Ok, refl, ap, sym, subst, ◌∙◌}
+use Rattle.std.proofs.Common.{◌≡◌, ℕ, List, [], ◌∷◌, map, true, Some, None, Ok, ap, sym, ◌∙◌}
 use Rattle.std.specs.List.{slice_get}
 use Rattle.nf_value.specs.Plain.{Plain}
 use Rattle.nf_value.specs.View.{plain_of}
 use Rattle.nf_value.specs.declared.value.Value.{Value}
 use Rattle.nf_value.specs.declared.file.FileRef.{FileRef}
-use Rattle.nf_job.specs.declared.parts.JobParts.{JobParts}
 use Rattle.nf_job.specs.JobText.{inputs_text}
 use Rattle.nf_process.specs.declared.process.ProcessSpec.{ProcessSpec}
 use Rattle.nf_process.specs.Script.{script_of}

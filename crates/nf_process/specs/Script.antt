@@ -1,5 +1,5 @@
 -- The text of a script: a template's text that doesn't begin with a line end, and whose lines begin as far left as they can.
-use Rattle.std.specs.Prelude.{ℕ, min, ◌==◌, ◌||◌, List, [], ◌∷◌, length, map, filter, drop, Bool, not, unwrap_or, if◌then◌else◌}
+use Rattle.std.specs.Prelude.{ℕ, min, ◌==◌, ◌||◌, List, [], ◌∷◌, map, filter, drop, Bool, not, unwrap_or, if◌then◌else◌}
 use Rattle.std.specs.List.{slice_split, join_by, list_all, prefix_len, reduce}
 use Rattle.nf_value.specs.Plain.{Plain}
 use Rattle.nf_process.specs.declared.template.Piece.{Piece}

@@ -1,6 +1,6 @@
 //! Scripts, jobs and outcomes worked by hand.
 
-use crate::{Piece, Pieces, ProcessSpec, emit_of, job, script_text};
+use crate::{Piece, Pieces, ProcessSpec, emit_of, job, script_text, tell_fit};
 use nf_job::{Captured, Found, Outputs, Report, TaskRefusal};
 use nf_value::{Mem, Place, Txt, Vals, Value, text_of};
 use std::alloc::Global;
@@ -58,7 +58,9 @@ fn scripts_begin_at_the_left(rt: HostRuntime) -> Result<(), Fail> {
 #[test]
 fn a_job_is_written(rt: HostRuntime) -> Result<(), Fail> {
     let alloc = rt.alloc();
-    let job = job(alloc, &printf(alloc)?, &letter_a(alloc)?, 0, 1);
+    let inputs = letter_a(alloc)?;
+    tell_fit(alloc, &inputs)?;
+    let job = job(alloc, &printf(alloc)?, &inputs, 0, 1);
     let job = job.ok().ok_or("no job")?;
     let want = "l10:s6:nfjob2s1:Ps8:printf as7:l1:s1:anl0:l0:ti0;i1;";
     assert_eq!(rt; job.text().as_str(), want);
