@@ -1,5 +1,5 @@
 -- Each report decides its instance.
-use Rattle.std.proofs.Common.{◌≡◌, ◌≢◌, ℕ, List, [], ◌∷◌, Ok, Err}
+use Rattle.std.proofs.Common.{◌≡◌, ◌≢◌, ◌↔◌, ap, ℕ, List, [], ◌∷◌, Ok, Err}
 use Rattle.std.specs.declared.result.Result.{Result}
 use Rattle.nf_value.specs.Plain.{Plain}
 use Rattle.nf_job.specs.declared.fault.TaskFault.{TaskFault}
@@ -7,6 +7,7 @@ use Rattle.nf_job.specs.declared.report.Report.{Report}
 use Rattle.nf_job.specs.declared.emitted.Outputs.TheVariants.{Again, Ignored}
 use Rattle.nf_job.specs.Emission.{stdout_emitted}
 use Rattle.nf_process.specs.declared.process.ProcessSpec.{ProcessSpec}
+use Rattle.nf_process.specs.Parts.{parts_of}
 use Rattle.nf_process.specs.Outcome.{outputs_by, outputs_of}
 
 not_again : (o : Result (List ℕ) TaskFault) → outputs_by o ≢ Again
@@ -27,3 +28,10 @@ never_again s (v ∷ vs) attempt r = λ h. not_again (stdout_emitted r) (value_i
 pub never_ignored : (s : ProcessSpec) (vs : List Plain) (attempt : ℕ) (r : Report) → outputs_of s vs attempt r ≢ Ok Ignored
 never_ignored s [] attempt r = λ h. cc
 never_ignored s (v ∷ vs) attempt r = λ h. not_ignored (stdout_emitted r) (value_is _ _ h)
+
+fault_is : {A : Type 0} (e f : TaskFault) → ◌≡◌ {A = Result A TaskFault} (Err e) (Err f) → e ≡ f
+fault_is e f h = cc
+
+pub same_fault : (s : ProcessSpec) (vs : List Plain) (n attempt : ℕ) (r : Report) (f : TaskFault) → (outputs_of s vs attempt r ≡ Err f) ↔ (parts_of s vs n attempt ≡ Err f)
+same_fault s [] n attempt r f = ((λ h. ap Err (fault_is _ _ h)), (λ h. ap Err (fault_is _ _ h)))
+same_fault s (v ∷ vs) n attempt r f = ((λ h. cc), (λ h. cc))

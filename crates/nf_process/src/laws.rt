@@ -1,8 +1,9 @@
 //! Laws of processes, each as a contract over the definitions alone.
 
-ghost use Rattle.std.specs.Prelude.{◌≡◌, ◌≢◌, ℕ, List, Ok};
+ghost use Rattle.std.specs.Prelude.{◌≡◌, ◌≢◌, ◌↔◌, ℕ, List, Ok, Err};
 ghost use Rattle.nf_value.specs.Plain.{Plain, list, plains_of};
 ghost use Rattle.nf_job.specs.declared.parts.JobParts.{JobParts};
+ghost use Rattle.nf_job.specs.declared.fault.TaskFault.{TaskFault};
 ghost use Rattle.nf_job.specs.declared.report.Report.{Report};
 ghost use Rattle.nf_job.specs.declared.emitted.Outputs.TheVariants.{Again, Ignored};
 ghost use Rattle.nf_job.specs.JobText.{job_text};
@@ -32,4 +33,10 @@ pub fn never_again()
 #[tactic(auto, using(crate::proofs::Decided::never_ignored))]
 pub fn never_ignored()
     ensures { (s : ProcessSpec) → (vs : List Plain) → (attempt : ℕ) → (r : Report) → outputs_of s vs attempt r ≢ Ok Ignored }
+{}
+
+/// A report has no outputs exactly where its attempt has no job, and then for the same fault.
+#[tactic(auto, using(crate::proofs::Decided::same_fault))]
+pub fn faults_are_those_of_jobs()
+    ensures { (s : ProcessSpec) → (vs : List Plain) → (n attempt : ℕ) → (r : Report) → (f : TaskFault) → (outputs_of s vs attempt r ≡ Err f) ↔ (parts_of s vs n attempt ≡ Err f) }
 {}
