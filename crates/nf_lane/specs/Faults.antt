@@ -1,0 +1,10 @@
+-- When a lane may answer that it failed.
+use Rattle.std.specs.Prelude.{Result, Ok, Err}
+use Rattle.nf_lane.specs.declared.refusal.LaneRefusal.{LaneRefusal}
+use Rattle.nf_lane.specs.declared.refusal.LaneRefusal.TheVariants.{Failed, Mem}
+
+-- P holds where the answer is Failed
+abbrev pub OnFailed : {T : Type 0} → Result T LaneRefusal → Type 0 → Type 0
+OnFailed (Ok x) P = Unit {0}
+OnFailed (Err Failed) P = P
+OnFailed (Err Mem) P = Unit {0}

@@ -1,0 +1,94 @@
+//! A lane that runs child processes.
+
+ghost use Rattle.std.specs.Prelude.{◌≡◌, ◌+◌, ◌<◌, ◌≤◌, ◌^◌, None, IfOk, OnOk};
+ghost use Rattle.nf_host.specs.Faults.{Rose};
+ghost use Rattle.nf_job.specs.JobText.{job_text};
+ghost use Rattle.nf_lane.specs.Faults.{OnFailed};
+ghost use Rattle.nf_lane.specs.Child.{IsChildReport};
+
+use crate::child::run_script;
+use crate::done::Done;
+use crate::lane::Lane;
+use crate::refusal::LaneRefusal;
+use nf_job::Job;
+use std::alloc::Global;
+use std::io::ErrorKind;
+use std::process::Processes;
+
+/// Runs each job's script by `sh -ue -c SCRIPT`, with empty input, in the program's working folder. It tells no world. A child's
+/// standard error goes to the program's (own).
+#[derive(Drop)]
+pub struct ChildLane<R> {
+    rt: R,
+    runs: u64,
+    faults: u64,
+}
+
+impl<R: Processes> ChildLane<R> {
+    ghost use Rattle.nf_lane.specs.ChildLane.{runs_of, faults_of};
+
+    /// A lane over the system's processes. Takes no memory.
+    pub fn new(rt: R) -> ChildLane<R>
+        ensures runs { runs_of result ≡ 0 }
+        ensures faults { faults_of result ≡ 0 }
+    {
+        ChildLane {
+            rt,
+            runs: 0,
+            faults: 0,
+        }
+    }
+
+    fn fail(&mut self) -> LaneRefusal
+        ensures failed { result ≡ LaneRefusal.Failed }
+        ensures later { faults_of self.old ≤ faults_of self.new }
+        ensures rose { Rose (faults_of self.old) (faults_of self.new) }
+        ensures runs { runs_of self.new ≡ runs_of self.old }
+    {
+        self.faults = self.faults.saturating_add(1);
+        LaneRefusal::Failed
+    }
+}
+
+impl<R: Processes> Lane for ChildLane<R> {
+    ghost use Rattle.nf_lane.specs.ChildLane.{runs_of, faults_of};
+    ghost use Rattle.nf_lane.specs.Done.{IsGenuine, text_of, report_of_done, number_of};
+
+    type Done = Done;
+
+    ghost runs = { runs_of };
+
+    ghost faults = { faults_of };
+
+    ghost world = { λ _. None };
+
+    fn run(&mut self, alloc: Global, job: &Job) -> Result<Done, LaneRefusal>
+        requires { runs_of self.old < 2 ^ 63 }
+        ensures rises { runs_of self.new ≡ runs_of self.old + 1 }
+        ensures later { faults_of self.old ≤ faults_of self.new }
+        ensures cause { OnFailed result (Rose (faults_of self.old) (faults_of self.new)) }
+        ensures genuine { IfOk result IsGenuine }
+        ensures numbered { IfOk result (λ d. number_of d ≡ runs_of self.new) }
+        ensures of_the_job { IfOk result (λ d. text_of d ≡ job_text job.now) }
+
+        // Only a failure is counted, and a report is one that a child can have.
+        ensures counted { OnOk result (faults_of self.new ≡ faults_of self.old) }
+        ensures reported { IfOk result (λ d. IsChildReport job.now.wants_stdout (report_of_done d)) }
+    {
+        self.runs += 1;
+        let parts = job.parts();
+        match run_script(&self.rt, alloc, parts.script.as_str(), parts.wants_stdout) {
+            Ok(report) => Ok(Done::of(job, report, self.runs)?),
+            Err(error) if error.kind() == ErrorKind::OutOfMemory => Err(LaneRefusal::Mem),
+            Err(_) => Err(self.fail()),
+        }
+    }
+
+    fn runs(&self) -> u64 {
+        self.runs
+    }
+
+    fn faults(&self) -> u64 {
+        self.faults
+    }
+}
