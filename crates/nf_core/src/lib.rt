@@ -2,7 +2,13 @@
 #![tactic(auto)]
 
 mod chains;
+mod event;
+mod runs;
+mod tasks;
 #[cfg(test)]
 mod tests;
 
 pub use chains::{ChainFault, Rules, chain};
+pub use event::{Cause, Event, Outside, Stop};
+pub use runs::{TasksEnd, serial};
+pub use tasks::TaskRules;

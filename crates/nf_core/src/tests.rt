@@ -1,12 +1,16 @@
-//! A chain whose rules put true values into lists.
+//! A chain whose rules put true values into lists, and tasks that have one job.
 
-ghost use Rattle.std.specs.Prelude.{Ok, Err, if◌then◌else◌};
-ghost use Rattle.nf_value.specs.Plain.{list, item, no_items};
+ghost use Rattle.std.specs.Prelude.{◌≤◌, [], ◌∷◌, Ok, Err, Some, if◌then◌else◌};
+ghost use Rattle.nf_value.specs.Plain.{list, item, no_items, null};
 ghost use Rattle.nf_value.specs.Truth.{truth_of};
+ghost use Rattle.nf_job.specs.declared.emitted.Outputs.TheVariants.{Emits};
 ghost use Rattle.nf_core.specs.Chain.{AreTaken};
+ghost use Rattle.nf_core.specs.Rules.{rules_by};
 
-use crate::{ChainFault, Rules, chain};
-use nf_value::{EvalFault, EvalKind, EvalRefusal, Place, Vals, Value, text_of, truth};
+use crate::{ChainFault, Rules, Stop, TaskRules, TasksEnd, chain, serial};
+use nf_job::{Emitted, FileRefs, Job, JobParts, Outputs, Report, TaskRefusal, Txts, make_job};
+use nf_lane::{Lane, Table, TableLane};
+use nf_value::{EvalFault, EvalKind, EvalRefusal, Mem, Place, Txt, Vals, Value, text_of, truth};
 use std::alloc::Global;
 use std::test::Fail;
 
@@ -79,5 +83,88 @@ fn shown(alloc: Global, items: &Vals) -> Result<String, Fail>
             Ok(format!(in alloc; "{item}: {kind} at {place}")?)
         }
         Err(ChainFault::Mem) => Ok(String::from_str(alloc, "Mem")?),
+    }
+}
+
+/// Each task has the same job, and emits null, whatever its report.
+#[derive(Drop)]
+struct Fixed {
+    parts: JobParts,
+    ghost fits: { (1 ≤ parts.attempt) × (parts.attempt ≤ 101) },
+}
+
+impl TaskRules for Fixed {
+    ghost rules = { λ r. rules_by (λ inputs n attempt. Ok r.parts) (λ inputs attempt report. Ok (Emits (Some null ∷ []))) };
+
+    fn job(
+        &self,
+        alloc: Global,
+        _inputs: &Vals,
+        _n: u32,
+        _attempt: u32,
+    ) -> Result<Job, TaskRefusal> {
+        let parts = self.parts.copy()?;
+        let job = make_job(alloc, parts)?;
+        Ok(job)
+    }
+
+    fn outputs(
+        &self,
+        alloc: Global,
+        _inputs: &Vals,
+        _attempt: u32,
+        _report: &Report,
+    ) -> Result<Outputs, TaskRefusal> {
+        let values = vec![in alloc; Some(Value::Null)]?;
+        Ok(Outputs::Emits(Emitted::of(values)))
+    }
+}
+
+fn with_one_job(alloc: Global) -> Result<Fixed, Mem> {
+    let process = text(alloc, "P")?;
+    let script = text(alloc, "true")?;
+    let inputs = text(alloc, "l0:")?;
+    let parts = JobParts {
+        process,
+        script,
+        inputs,
+        stdin: None,
+        staged: FileRefs::of(Vec::new(alloc)),
+        patterns: Txts::of(Vec::new(alloc)),
+        wants_stdout: false,
+        n: 0,
+        attempt: 1,
+    };
+    Ok(Fixed { parts })
+}
+
+fn text(alloc: Global, from: &str) -> Result<Txt, Mem> {
+    Ok(Txt::of(String::from_str(alloc, from)?))
+}
+
+#[test]
+fn runs_each_task_once(rt: HostRuntime) -> Result<(), Fail> {
+    let alloc = rt.alloc();
+    let items = vec![in alloc; Value::Int(7), Value::Int(7)]?;
+    let mut lane = TableLane::new(Table::of(Vec::new(alloc)), Vec::new(alloc));
+    let rules = with_one_job(alloc)?;
+    let end = serial(alloc, &Vals::of(items), &rules, &mut lane);
+    let TasksEnd {
+        history,
+        kept,
+        outcome,
+    } = end;
+    assert_eq!(rt; history.len(), 6);
+    assert_eq!(rt; kept.dones.len(), 2);
+    assert_eq!(rt; count(&outcome), 2);
+    assert_eq!(rt; lane.runs(), 2);
+    Ok(())
+}
+
+/// How many values came of a run.
+fn count(outcome: &Result<Vals, Stop>) -> usize {
+    match outcome {
+        Ok(values) => values.len(),
+        Err(_) => 0,
     }
 }

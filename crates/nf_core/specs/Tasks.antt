@@ -1,0 +1,109 @@
+-- What one process means, with no item in motion: its instances, what they emit under outcomes, and their faults.
+use Rattle.std.specs.Prelude.{ℕ, suc, ◌==◌, ◌&&◌, Bool, List, [], ◌∷◌, ◌++◌, if◌then◌else◌, map, flat_map, bytes_eq, Result, Ok, Err}
+use Rattle.std.specs.declared.option.Option.{Option}
+use Rattle.std.specs.declared.option.Option.TheVariants.{None, Some}
+use Rattle.nf_value.specs.Plain.{Plain}
+use Rattle.nf_job.specs.declared.parts.JobParts.{JobParts}
+use Rattle.nf_job.specs.declared.report.Report.{Report}
+use Rattle.nf_job.specs.declared.fault.TaskFault.{TaskFault}
+use Rattle.nf_job.specs.declared.emitted.Outputs.TheVariants.{Emits, Ignored, Failed, Again}
+use Rattle.nf_core.specs.Rules.{Outs, Rules, emitted_by, decided}
+use Rattle.nf_core.specs.Machine.{Taken, Ticket, Ended, State, same_items, number_of}
+
+-- a process's call, a list of inputs, and how many equal ones came before
+pub record Instance : Type 0 where
+  pub call : List ℕ
+  pub inputs : List Plain
+  pub n : ℕ
+
+-- for some instances the reports of their attempts
+abbrev pub Outcomes : Type 0
+Outcomes = List (Instance × List Report)
+
+abbrev pub is_instance : Instance → Instance → Bool
+is_instance i j = bytes_eq i.call j.call && (same_items i.inputs j.inputs && (i.n == j.n))
+
+-- the reports of an instance: those of its first entry
+abbrev pub reports_of : Outcomes → Instance → List Report
+reports_of [] i = []
+reports_of (e ∷ o) i = if is_instance e.0 i then e.1 else reports_of o i
+
+abbrev pub instance_of : List ℕ → Taken → Instance
+instance_of call t = record { call = call; inputs = t.inputs; n = t.n }
+
+-- each list of inputs with how many equal ones stand before it, after those that were taken
+abbrev pub numbered : List Taken → List (List Plain) → List Taken
+numbered before [] = []
+numbered before (x ∷ xs) = let t : Taken = record { inputs = x; n = number_of x before } in t ∷ numbered (before ++ t ∷ []) xs
+
+-- a list of inputs for each item of a process's one queue
+abbrev pub input_lists : List Plain → List (List Plain)
+input_lists items = map (λ x. x ∷ []) items
+
+-- the instances of a process with one queue, for the items of its bag
+abbrev pub instances : List ℕ → List Plain → List Instance
+instances call items = map (instance_of call) (numbered [] (input_lists items))
+
+-- what the report that decides amounts to
+abbrev pub outs_of : Rules → Outcomes → Instance → Option Outs
+outs_of R o i = decided (R.outputs i.inputs) 1 (reports_of o i)
+
+abbrev pub emitted_of : Option Outs → List Plain
+emitted_of None = []
+emitted_of (Some outs) = emitted_by outs
+
+-- what an instance emits
+abbrev pub emits : Rules → Outcomes → Instance → List Plain
+emits R o i = emitted_of (outs_of R o i)
+
+-- why an attempt has no job
+abbrev pub refused : Result JobParts TaskFault → List TaskFault
+refused (Ok p) = []
+refused (Err f) = f ∷ []
+
+-- the fault of a report, or, where it is tried again, those of the attempts after it
+abbrev pub or_later : Outs → List TaskFault → List TaskFault
+or_later (Ok Again) later = later
+or_later (Ok (Emits vs)) later = []
+or_later (Ok Ignored) later = []
+or_later (Ok (Failed f)) later = f ∷ []
+or_later (Err f) later = f ∷ []
+
+-- the faults of an instance's attempts, from this one on, that its reports lead to
+abbrev pub faults_from : (ℕ → Result JobParts TaskFault) → (ℕ → Report → Outs) → ℕ → List Report → List TaskFault
+faults_from job outputs attempt [] = refused (job attempt)
+faults_from job outputs attempt (r ∷ rs) = refused (job attempt) ++ or_later (outputs attempt r) (faults_from job outputs (suc attempt) rs)
+
+abbrev pub faults : Rules → Outcomes → Instance → List (Instance × TaskFault)
+faults R o i = map (λ f. (i, f)) (faults_from (R.job i.inputs i.n) (R.outputs i.inputs) 1 (reports_of o i))
+
+pub record Meaning : Type 0 where
+  -- the bag that the process emits
+  pub bag : List Plain
+  pub instances : List Instance
+  pub faults : List (Instance × TaskFault)
+
+-- what a process means over the items of its queue, under outcomes
+abbrev pub meaning : Rules → Outcomes → List ℕ → List Plain → Meaning
+meaning R o call items = record {
+  bag = flat_map (emits R o) (instances call items);
+  instances = instances call items;
+  faults = flat_map (faults R o) (instances call items);
+}
+
+-- ---- the outcomes of a history
+
+abbrev pub ended_outcome : List ℕ → Ended → Instance × List Report
+ended_outcome call e = (instance_of call e.taken, e.told)
+
+-- a ticket that was tried
+abbrev pub tried : List ℕ → Taken → List Report → Outcomes
+tried call t [] = []
+tried call t (r ∷ rs) = (instance_of call t, r ∷ rs) ∷ []
+
+abbrev pub ticket_outcome : List ℕ → Ticket → Outcomes
+ticket_outcome call k = tried call k.taken k.told
+
+-- for each instance that came back the reports of its attempts, by the state that the history leads to
+abbrev pub outcomes : List ℕ → State → Outcomes
+outcomes call s = map (ended_outcome call) s.ended ++ flat_map (ticket_outcome call) s.gone ++ flat_map (ticket_outcome call) s.tickets
