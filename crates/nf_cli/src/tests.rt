@@ -40,7 +40,7 @@ type Row = (
     &'static str,
 );
 
-const ROWS: [Row; 37] = [
+const ROWS: &[Row] = &[
     // Runs that end well, and the order of values.
     (RUN, Some(EXAMPLE), None, None, "0 Ok", OUTPUT),
     (RUN, Some(SCRIPT_FILE), None, None, "0 Ok", OUTPUT),
@@ -317,7 +317,7 @@ const ROWS: [Row; 37] = [
 
 #[test]
 fn whole_calls(rt: HostRuntime) -> Result<(), Fail> {
-    for (words, script, failing_read, failing_write, end, written) in ROWS {
+    for (words, script, failing_read, failing_write, end, written) in ROWS.iter().copied() {
         let mut host = host_with(rt.alloc(), script.map(|text| text.as_bytes()))?;
         if let Some(read) = failing_read {
             host.fail_at(read)?;
@@ -404,7 +404,7 @@ type Limit = (
     &'static str,
 );
 
-const LIMITS: [Limit; 9] = [
+const LIMITS: &[Limit] = &[
     (
         "workflow { channel.of(1",
         ",1",
@@ -460,7 +460,7 @@ const LIMITS: [Limit; 9] = [
 
 #[test]
 fn limits(rt: HostRuntime) -> Result<(), Fail> {
-    for (before, part, count, after, end) in LIMITS {
+    for (before, part, count, after, end) in LIMITS.iter().copied() {
         let mut text = String::from_str(rt.alloc(), before)?;
         for _ in 0..count {
             text.push_str(part)?;
