@@ -12,6 +12,8 @@ pub data Tree : Type 0 where
   -- expressions
   number : Place → ℤ → Tree
   name : Place → List ℕ → Tree
+  text : Place → List ℕ → Tree
+  template : Place → Tree → Tree
   binary : Place → BinaryMark → Tree → Tree → Tree
   property : Place → Tree → List ℕ → Tree
   call : Place → Tree → Tree → Tree
@@ -19,6 +21,8 @@ pub data Tree : Type 0 where
   closure : Place → Tree → Tree
   -- tops
   workflow : Place → Tree → Tree
+  -- its name, the name of its one input, and its script
+  process : Place → Tree → Tree → Tree → Tree
 
 -- parts in a row
 abbrev pub trees : List Tree → Tree

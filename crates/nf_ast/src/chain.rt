@@ -1,9 +1,9 @@
 //! The form of the first chain, found on a script's tree.
 
-ghost use Rattle.std.specs.Prelude.{◌≡◌, true, option_map, IfSome};
+ghost use Rattle.std.specs.Prelude.{◌≡◌, true, option_map, option_and_then, IfSome};
 ghost use Rattle.nf_ast.specs.Tree.{trees};
-ghost use Rattle.nf_ast.specs.View.{view, views, view_stmts, view_closure, view_script, view_workflow, view_top, view_stmt};
-ghost use Rattle.nf_ast.specs.Chain.{chain_of, called as called_of, called_with as called_with_of, property_of as property_found, single, is_sum as is_sum_of, are_numbers as are_numbers_of, is_name as is_name_of, is_empty, whole, viewed, mapped, source};
+ghost use Rattle.nf_ast.specs.View.{view, views, view_stmts, view_closure, view_script, view_top, view_stmt};
+ghost use Rattle.nf_ast.specs.Chain.{chain_of, called as called_of, called_with as called_with_of, property_of as property_found, single, workflow_body, is_sum as is_sum_of, are_numbers as are_numbers_of, is_name as is_name_of, is_empty, whole, viewed, mapped, source};
 
 use crate::expr::{Closure, Expr, Stmt};
 use crate::script::{Script, Top, Workflow};
@@ -46,7 +46,7 @@ fn whole_of(script: &Script) -> Option<&Expr>
     single_expr(&workflow.body)
 }
 
-fn viewed_of(expr: &Expr) -> Option<&Expr>
+pub fn viewed_of(expr: &Expr) -> Option<&Expr>
     ensures { option_map (λ e. view e.now) result ≡ viewed (view expr.now) }
 {
     let (of, args) = called(expr, "view")?;
@@ -83,23 +83,24 @@ fn numbers_of(expr: &Expr) -> Option<&[Expr]>
 }
 
 fn single_workflow(script: &Script) -> Option<&Workflow>
-    ensures { option_map (λ w. view_workflow w.now) result ≡ single (view_script script.now) }
+    ensures { option_map (λ w. view_stmts w.now.body.items) result ≡ option_and_then workflow_body (single (view_script script.now)) }
 {
     if script.tops.len() != 1 {
         return None;
     }
-    Some(workflow_of(&script.tops[0]))
+    workflow_of(&script.tops[0])
 }
 
-fn workflow_of(top: &Top) -> &Workflow
-    ensures { view_workflow result.now ≡ view_top top.now }
+pub fn workflow_of(top: &Top) -> Option<&Workflow>
+    ensures { option_map (λ w. view_stmts w.now.body.items) result ≡ workflow_body (view_top top.now) }
 {
     match top {
-        Top::Workflow(workflow) => workflow,
+        Top::Workflow(workflow) => Some(workflow),
+        Top::Process(_) => None,
     }
 }
 
-fn single_expr(body: &Vec<Stmt>) -> Option<&Expr>
+pub fn single_expr(body: &Vec<Stmt>) -> Option<&Expr>
     ensures { option_map (λ e. view e.now) result ≡ single (view_stmts body.now.items) }
 {
     if body.len() != 1 {
@@ -125,7 +126,7 @@ fn property_of<'a>(expr: &'a Expr, word: &str) -> Option<&'a Expr>
     }
 }
 
-fn called<'a>(expr: &'a Expr, word: &str) -> Option<(&'a Expr, &'a [Expr])>
+pub fn called<'a>(expr: &'a Expr, word: &str) -> Option<(&'a Expr, &'a [Expr])>
     ensures { option_map (λ x. (view x.0.now, views x.1.now)) result ≡ called_of word.now (view expr.now) }
 {
     match expr {
@@ -137,7 +138,7 @@ fn called<'a>(expr: &'a Expr, word: &str) -> Option<(&'a Expr, &'a [Expr])>
     }
 }
 
-fn called_with<'a>(expr: &'a Expr, word: &str) -> Option<(&'a Expr, &'a Closure)>
+pub fn called_with<'a>(expr: &'a Expr, word: &str) -> Option<(&'a Expr, &'a Closure)>
     ensures { option_map (λ x. (view x.0.now, view_closure x.1.now)) result ≡ called_with_of word.now (view expr.now) }
 {
     match expr {
@@ -149,7 +150,7 @@ fn called_with<'a>(expr: &'a Expr, word: &str) -> Option<(&'a Expr, &'a Closure)
     }
 }
 
-fn is_name(expr: &Expr, word: &str) -> bool
+pub fn is_name(expr: &Expr, word: &str) -> bool
     ensures { result ≡ is_name_of word.now (view expr.now) }
 {
     match expr {

@@ -1,7 +1,7 @@
 //! Expressions, closures and statements.
 
 ghost use Rattle.std.specs.Prelude.{◌≡◌, IfOk};
-ghost use Rattle.nf_ast.specs.Tree.{number as number_of, name as name_of, binary as binary_of, property as property_of, call as call_of, call_with as call_with_of, closure as closure_of};
+ghost use Rattle.nf_ast.specs.Tree.{number as number_of, name as name_of, text as text_of, template as template_of, binary as binary_of, property as property_of, call as call_of, call_with as call_with_of, closure as closure_of};
 ghost use Rattle.nf_ast.specs.View.{view, views, view_stmt, view_stmts, view_closure};
 
 use nf_value::{Mem, Place, Txt};
@@ -27,6 +27,10 @@ pub enum Expr {
     Number(Place, i64),
     /// A name, with the place of its first letter.
     Name(Place, Txt),
+    /// A plain string, with the place of its opening mark, and the text that it stands for.
+    Text(Place, Txt),
+    /// A template, with the place of its opening mark, and its parts in their order: texts, and holes, which are expressions.
+    Template(Place, Vec<Expr>),
     /// Two operands, left and right, with their mark and its place.
     Binary(Place, BinaryMark, Box<Expr>, Box<Expr>),
     /// `e.name`, with the place of the name.
@@ -125,6 +129,22 @@ impl Expr {
         ensures { view result ≡ name_of place name }
     {
         Expr::Name(place, name)
+    }
+}
+
+impl Expr {
+    /// A plain string, whose opening mark stands at `place`. Takes no memory.
+    pub fn text(place: Place, text: Txt) -> Expr
+        ensures { view result ≡ text_of place text }
+    {
+        Expr::Text(place, text)
+    }
+
+    /// A template of these parts, whose opening mark stands at `place`. Takes no memory.
+    pub fn template(place: Place, parts: Vec<Expr>) -> Expr
+        ensures { view result ≡ template_of place (views parts.items) }
+    {
+        Expr::Template(place, parts)
     }
 }
 

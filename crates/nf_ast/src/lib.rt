@@ -4,9 +4,11 @@
 mod chain;
 mod expr;
 mod script;
+mod tasks;
 #[cfg(test)]
 mod tests;
 
 pub use chain::Chain;
 pub use expr::{BinaryMark, Closure, Expr, Stmt};
-pub use script::{Script, Top, Workflow};
+pub use script::{Process, Script, Top, Workflow};
+pub use tasks::Tasks;

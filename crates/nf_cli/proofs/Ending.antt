@@ -1,166 +1,174 @@
 -- From what is known before the writing to how the call ends.
-use Rattle.std.proofs.Common.{ℕ, List, Option, Some, None, Result, Ok, Err, IfSome, IfOk, IfErr, refl, sym, subst}
-use Rattle.nf_value.specs.View.{plain_of}
+use Rattle.std.proofs.Common.{◌≡◌, ℕ, List, [], Option, Some, None, Result, Ok, Err, IfSome, IfOk, IfErr, refl, sym, ◌∙◌, subst}
 use Rattle.nf_words.specs.declared.command.Command.{Command}
 use Rattle.nf_words.specs.declared.fault.UsageFault.{UsageFault}
+use Rattle.nf_words.specs.Words.{command_of}
 use Rattle.nf_host.specs.Files.{Files}
+use Rattle.nf_job.specs.declared.report.Report.{Report}
+use Rattle.nf_lane.specs.World.{World}
+use Rattle.nf_core.specs.declared.event.Event.{Event}
+use Rattle.nf_core.specs.Machine.{starts}
+use Rattle.nf_run.specs.Form.{Form}
+use Rattle.nf_run.specs.Run.{meant, state_after}
 use Rattle.nf_cli.specs.declared.ends.End.{End}
 use Rattle.nf_cli.specs.declared.ends.End.TheVariants as end
 use Rattle.nf_cli.specs.declared.ends.ItemCause.TheVariants.{Eval}
-use Rattle.nf_cli.specs.Outcome.{Outcome, reports, misused, absent, unlexed, unbuilt, faulty}
-use Rattle.nf_cli.specs.Means.{Means, IsOutcome}
-use Rattle.nf_cli.specs.Due.{Refused, Gives, IsWritten, IsKept, EndsAs, Ended, MayEnd, IsUsageEnd, IsUsage, OnHostFault, WroteOutput, WroteReport, OnOutput, OutputStands}
+use Rattle.nf_cli.specs.declared.works.Output.{Output}
+use Rattle.nf_cli.specs.Outcome.{Outcome, runs, misused, absent, unlexed, unbuilt}
+use Rattle.nf_cli.specs.Means.{Means}
+use Rattle.nf_cli.specs.Report.{report_of, summary}
+use Rattle.nf_cli.specs.Due.{RunEnds, MayEnd, Ended, as_due, host_failed, no_memory, StopEnds, EndsByStop, OnHostFault, OnLaneFault, WroteOutput, WroteReport, OnOutput, OutputStands, Tells, EndsOver}
+use Rattle.nf_cli.specs.Work.{WorkGives, HasWorked, IsReported, IsRefusal, IsWritten, IsKept, EndsAs}
 
 -- the end stays, or it is Mem
 same_or_memory : (P : End → Type 0) → P end.Mem → (before after : End) → P before → IsKept before after → P after
 same_or_memory P m before end.Mem h k = m
 same_or_memory P m before end.Ok h k = subst P (sym k) h
+same_or_memory P m before (end.TaskFailed p i n f) h k = subst P (sym k) h
 same_or_memory P m before (end.ItemFault p c) h k = subst P (sym k) h
 same_or_memory P m before (end.Usage f) h k = subst P (sym k) h
 same_or_memory P m before end.NoScript h k = subst P (sym k) h
 same_or_memory P m before (end.Lex p) h k = subst P (sym k) h
 same_or_memory P m before (end.Unbuilt p) h k = subst P (sym k) h
 same_or_memory P m before end.HostFault h k = subst P (sym k) h
+same_or_memory P m before end.LaneFault h k = subst P (sym k) h
 same_or_memory P m before end.SinkFault h k = subst P (sym k) h
+
+-- what holds of both ends of a call that writes a report
+written : (P : End → Type 0) → P end.Ok → P end.SinkFault → (e : End) → IsWritten e → P e
+written P a b end.Ok w = a
+written P a b end.SinkFault w = b
+written P a b (end.TaskFailed p i n f) w = absurd w
+written P a b (end.ItemFault p c) w = absurd w
+written P a b (end.Usage u) w = absurd w
+written P a b end.NoScript w = absurd w
+written P a b (end.Lex p) w = absurd w
+written P a b (end.Unbuilt p) w = absurd w
+written P a b end.HostFault w = absurd w
+written P a b end.LaneFault w = absurd w
+written P a b end.Mem w = absurd w
 
 -- ---- the end is the outcome
 
-refused_ended : (words : List (List ℕ)) (f : Files) (e : End) → Refused words f e → Ended words f e
-refused_ended words f end.Ok h = absurd h
-refused_ended words f (end.ItemFault p c) h = h
-refused_ended words f (end.Usage u) h = h
-refused_ended words f end.NoScript h = h
-refused_ended words f (end.Lex p) h = h
-refused_ended words f (end.Unbuilt p) h = h
-refused_ended words f end.HostFault h = h
-refused_ended words f end.SinkFault h = absurd h
-refused_ended words f end.Mem h = h
-
-written_ended : (words : List (List ℕ)) (f : Files) (report : List ℕ) (e : End) → IsOutcome words f (reports report) → IsWritten e → Ended words f e
-written_ended words f report end.Ok h w = (report, h)
-written_ended words f report end.SinkFault h w = (report, h)
-written_ended words f report (end.ItemFault p c) h w = absurd w
-written_ended words f report (end.Usage u) h w = absurd w
-written_ended words f report end.NoScript h w = absurd w
-written_ended words f report (end.Lex p) h w = absurd w
-written_ended words f report (end.Unbuilt p) h w = absurd w
-written_ended words f report end.HostFault h w = absurd w
-written_ended words f report end.Mem h w = absurd w
-
-pub ended : (words : List (List ℕ)) (files : Option Files) (r : Result (List ℕ) End) (e : End) → IfSome files (λ f. Gives words f r) → EndsAs r e → IfSome files (λ f. Ended words f e)
-ended words None r e h k = tt
-ended words (Some f) (Ok report) e h k = written_ended words f report e h k
-ended words (Some f) (Err before) e h k = same_or_memory (Ended words f) tt before e (refused_ended words f before h) k
+ended : (words : List (List ℕ)) (files : Files) (h : List Event) (r : Result Output End) (e : End) → WorkGives words files h r → EndsAs r e → Ended words files h e
+ended words files h (Ok o) e g k = as_due (runs g.0) g.1 (written (RunEnds g.0 h) g.2.well g.2.well e k)
+ended words files h (Err before) e g k = same_or_memory (Ended words files h) no_memory before e g k
 
 -- ---- the outcome is the end
 
-may_write : (report : List ℕ) (e : End) → IsWritten e → MayEnd (reports report) e
-may_write report end.Ok w = tt
-may_write report end.SinkFault w = tt
-may_write report (end.ItemFault p c) w = absurd w
-may_write report (end.Usage u) w = absurd w
-may_write report end.NoScript w = absurd w
-may_write report (end.Lex p) w = absurd w
-may_write report (end.Unbuilt p) w = absurd w
-may_write report end.HostFault w = absurd w
-may_write report end.Mem w = absurd w
+-- memory may end any call
+memory_may : (o : Outcome) (h : List Event) → MayEnd o h end.Mem
+memory_may (runs form) h = tt
+memory_may (misused due) h = tt
+memory_may absent h = tt
+memory_may (unlexed due) h = tt
+memory_may (unbuilt due) h = tt
 
-module _ (words : List (List ℕ)) (f : Files) (outcome : Outcome) (means : Means words f outcome) where
-  at_outcome : (due : Outcome) → IsOutcome words f due → (e : End) → MayEnd due e → MayEnd outcome e
-  at_outcome due h e may = subst (λ o. MayEnd o e) (sym (h.only outcome means)) may
+-- the host ends a call whose words are right, before anything is run
+host_may : (words : List (List ℕ)) (files : Files) (h : List Event) (command : Command) → command_of words ≡ Ok command → h ≡ [] → (o : Outcome) → Means words files o → MayEnd o h end.HostFault
+host_may words files h command right nothing (runs form) means = nothing
+host_may words files h command right nothing (misused due) means = absurd (let e : ◌≡◌ {A = Result Command UsageFault} (Ok command) (Err due) = sym right ∙ means in cc)
+host_may words files h command right nothing absent means = tt
+host_may words files h command right nothing (unlexed due) means = tt
+host_may words files h command right nothing (unbuilt due) means = tt
 
-  refused_may : (e : End) → Refused words f e → MayEnd outcome e
-  refused_may end.Ok h = absurd h
-  refused_may (end.ItemFault p (Eval item fault)) h = at_outcome (faulty p (plain_of item) fault) h (end.ItemFault p (Eval item fault)) (refl, refl, refl)
-  refused_may (end.Usage u) h = at_outcome (misused u) h (end.Usage u) refl
-  refused_may end.NoScript h = at_outcome absent h end.NoScript tt
-  refused_may (end.Lex p) h = at_outcome (unlexed p) h (end.Lex p) refl
-  refused_may (end.Unbuilt p) h = at_outcome (unbuilt p) h (end.Unbuilt p) refl
-  refused_may end.HostFault h = any_outside outcome
-    where
-      any_outside : (o : Outcome) → MayEnd o end.HostFault
-      any_outside o = tt
-  refused_may end.SinkFault h = absurd h
-  refused_may end.Mem h = tt
+complete : (words : List (List ℕ)) (files : Files) (h : List Event) (e : End) → Ended words files h e → (o : Outcome) → Means words files o → MayEnd o h e
+complete words files h e (as_due due is may) o means = subst (λ o. MayEnd o h e) (sym (is.only o means)) may
+complete words files h e (host_failed command right nothing) o means = host_may words files h command right nothing o means
+complete words files h e no_memory o means = memory_may o h
 
-  may : (r : Result (List ℕ) End) (e : End) → Gives words f r → EndsAs r e → MayEnd outcome e
-  may (Ok report) e h k = at_outcome (reports report) h e (may_write report e k)
-  may (Err before) e h k = same_or_memory (MayEnd outcome) tt before e (refused_may before h) k
+-- ---- a stop is the end
 
-pub complete : (words : List (List ℕ)) (files : Option Files) (r : Result (List ℕ) End) (e : End) → IfSome files (λ f. Gives words f r) → EndsAs r e → IfSome files (λ f. (outcome : Outcome) → Means words f outcome → MayEnd outcome e)
-complete words None r e h k = tt
-complete words (Some f) r e h k = λ outcome means. may words f outcome means r e h k
+run_stops : (form : Form) (h : List Event) (e : End) → RunEnds form h e → StopEnds (state_after form h).stop e
+run_stops form h end.Ok w = subst (λ s. StopEnds s end.Ok) (sym w.ended.goes_on) tt
+run_stops form h end.SinkFault w = subst (λ s. StopEnds s end.SinkFault) (sym w.ended.goes_on) tt
+run_stops form h (end.TaskFailed p i n f) w = subst (λ s. StopEnds s (end.TaskFailed p i n f)) (sym w.stop) (refl, refl, refl)
+run_stops form h (end.ItemFault p (Eval item f)) w = subst (λ s. StopEnds s (end.ItemFault p (Eval item f))) (sym w.0.goes_on) tt
+run_stops form h end.LaneFault w = subst (λ s. StopEnds s end.LaneFault) (sym w) tt
+run_stops form h end.HostFault w = subst (λ h. StopEnds (state_after form h).stop end.HostFault) (sym w) tt
+run_stops form h end.Mem w = tt
+run_stops form h (end.Usage u) w = absurd w
+run_stops form h end.NoScript w = absurd w
+run_stops form h (end.Lex p) w = absurd w
+run_stops form h (end.Unbuilt p) w = absurd w
 
--- ---- usage, outside faults, what was written
+stopped : (o : Outcome) (h : List Event) (e : End) → MayEnd o h e → EndsByStop o h e
+stopped (runs form) h e may = run_stops form h e may
+stopped (misused due) h e may = tt
+stopped absent h e may = tt
+stopped (unlexed due) h e may = tt
+stopped (unbuilt due) h e may = tt
 
-written_usage : (command : Command) (e : End) → IsWritten e → IsUsageEnd (Ok command) e
-written_usage command end.Ok w = tt
-written_usage command end.SinkFault w = tt
-written_usage command (end.ItemFault p c) w = absurd w
-written_usage command (end.Usage u) w = absurd w
-written_usage command end.NoScript w = absurd w
-written_usage command (end.Lex p) w = absurd w
-written_usage command (end.Unbuilt p) w = absurd w
-written_usage command end.HostFault w = absurd w
-written_usage command end.Mem w = absurd w
+-- ---- outside faults
 
-memory_usage : (due : Result Command UsageFault) → IsUsageEnd due end.Mem
-memory_usage (Ok c) = tt
-memory_usage (Err f) = tt
-
-pub usage : (due : Result Command UsageFault) (r : Result (List ℕ) End) (e : End) → IsUsage due r → EndsAs r e → IsUsageEnd due e
-usage (Ok command) (Ok report) e h k = written_usage command e k
-usage (Err fault) (Ok report) e h k = absurd h
-usage due (Err before) e h k = same_or_memory (IsUsageEnd due) (memory_usage due) before e (went due before h) k
-  where
-    went : (due : Result Command UsageFault) (before : End) → IsUsage due (Err before) → IsUsageEnd due before
-    went (Ok c) before h = h
-    went (Err f) before h = h
-
-written_host : (e : End) (rose : Type 0) → IsWritten e → OnHostFault e rose
-written_host end.Ok rose w = tt
-written_host end.SinkFault rose w = tt
-written_host (end.ItemFault p c) rose w = absurd w
-written_host (end.Usage u) rose w = absurd w
-written_host end.NoScript rose w = absurd w
-written_host (end.Lex p) rose w = absurd w
-written_host (end.Unbuilt p) rose w = absurd w
-written_host end.HostFault rose w = absurd w
-written_host end.Mem rose w = absurd w
-
-pub host_fault : (r : Result (List ℕ) End) (e : End) (rose : Type 0) → IfErr r (λ e. OnHostFault e rose) → EndsAs r e → OnHostFault e rose
-host_fault (Ok report) e rose h k = written_host e rose k
+pub host_fault : (r : Result Output End) (e : End) (rose : Type 0) → IfErr r (λ e. OnHostFault e rose) → EndsAs r e → OnHostFault e rose
+host_fault (Ok o) e rose h k = written (λ e. OnHostFault e rose) tt tt e k
 host_fault (Err before) e rose h k = same_or_memory (λ e. OnHostFault e rose) tt before e h k
 
-refused_output : (before e : End) (P : Type 0) → IsKept before e → OnOutput before P → OnOutput e P
-refused_output before e P k h = same_or_memory (λ e. OnOutput e P) tt before e h k
+pub lane_fault : (r : Result Output End) (e : End) (rose : Type 0) → IfErr r (λ e. OnLaneFault e rose) → EndsAs r e → OnLaneFault e rose
+lane_fault (Ok o) e rose h k = written (λ e. OnLaneFault e rose) tt tt e k
+lane_fault (Err before) e rose h k = same_or_memory (λ e. OnLaneFault e rose) tt before e h k
 
-no_output : (words : List (List ℕ)) (f : Files) (e : End) (P : Type 0) → Refused words f e → OnOutput e P
-no_output words f end.Ok P h = absurd h
-no_output words f end.SinkFault P h = absurd h
-no_output words f (end.ItemFault p c) P h = tt
-no_output words f (end.Usage u) P h = tt
-no_output words f end.NoScript P h = tt
-no_output words f (end.Lex p) P h = tt
-no_output words f (end.Unbuilt p) P h = tt
-no_output words f end.HostFault P h = tt
-no_output words f end.Mem P h = tt
+-- ---- what was written
+
+no_output : (e : End) (P : Type 0) → IsRefusal e → OnOutput e P
+no_output end.Ok P h = absurd h
+no_output end.SinkFault P h = absurd h
+no_output (end.TaskFailed p i n f) P h = tt
+no_output (end.ItemFault p c) P h = tt
+no_output (end.Usage u) P h = tt
+no_output end.NoScript P h = tt
+no_output (end.Lex p) P h = tt
+no_output (end.Unbuilt p) P h = tt
+no_output end.HostFault P h = tt
+no_output end.LaneFault P h = tt
+no_output end.Mem P h = tt
 
 on_output : (e : End) (P : Type 0) → P → OnOutput e P
 on_output end.Ok P h = h
 on_output end.SinkFault P h = h
+on_output (end.TaskFailed p i n f) P h = tt
 on_output (end.ItemFault p c) P h = tt
 on_output (end.Usage u) P h = tt
 on_output end.NoScript P h = tt
 on_output (end.Lex p) P h = tt
 on_output (end.Unbuilt p) P h = tt
 on_output end.HostFault P h = tt
+on_output end.LaneFault P h = tt
 on_output end.Mem P h = tt
 
-pub output : (words : List (List ℕ)) (files : Option Files) (old new : Option (List ℕ)) (r : Result (List ℕ) End) (e : End) → IfSome files (λ f. Gives words f r) → EndsAs r e
-    → IfOk r (λ report. IfSome old (λ before. IfSome new (λ after. WroteOutput e report before after))) → OutputStands words files old new e
-output words None old new r e h k w = tt
-output words (Some f) None new r e h k w = tt
-output words (Some f) (Some before) None r e h k w = tt
-output words (Some f) (Some before) (Some after) (Ok report) e h k w = on_output e (WroteReport words f e before after) (report, h, w)
-output words (Some f) (Some before) (Some after) (Err first) e h k w = refused_output first e (WroteReport words f e before after) k (no_output words f first (WroteReport words f e before after) h)
+-- what the sink took of this output, where it tells it
+abbrev pub Took : Option (List ℕ) → Option (List ℕ) → Result Output End → End → Type 0
+Took old new r e = IfOk r (λ o. IfSome old (λ before. IfSome new (λ after. WroteOutput e o.report o.summary before after)))
+
+is_written : (form : Form) (h : List Event) (o : Output) (e : End) (before after : List ℕ) → IsReported form h o → WroteOutput e o.report o.summary before after → WroteOutput e (report_of (meant form h).viewed) (summary (starts h)) before after
+is_written form h o e before after r w = subst (λ line. WroteOutput e (report_of (meant form h).viewed) line before after) r.output.summary (subst (λ report. WroteOutput e report o.summary before after) r.output.report w)
+
+output : (words : List (List ℕ)) (files : Files) (h : List Event) (old new : Option (List ℕ)) (r : Result Output End) (e : End) → WorkGives words files h r → IfErr r IsRefusal → EndsAs r e → Took old new r e → OutputStands words files h old new e
+output words files h None new r e g early k w = tt
+output words files h (Some before) None r e g early k w = tt
+output words files h (Some before) (Some after) (Ok o) e g early k w =
+    on_output e (WroteReport words files h e before after) (record { form = g.0; of_form = g.1; output = is_written g.0 h o e before after g.2 w })
+output words files h (Some before) (Some after) (Err first) e g early k w =
+    same_or_memory (λ last. OnOutput last (WroteReport words files h e before after)) tt first e (no_output first (WroteReport words files h e before after) early) k
+
+-- ---- the whole call
+
+pub over : {L D : Type 0} (Genuine : D → Type 0) (job_of : D → List ℕ) (report_by : D → Report) (number : D → ℕ) (run_count : L → ℕ) (world : L → Option World)
+    (told : Option Files) (words : List (List ℕ)) (h : List Event) (kept : List D) (lanes_old lanes_new : List L) (old new : Option (List ℕ)) (r : Result Output End) (e : End)
+    → ((f : Files) × Tells told f × HasWorked Genuine job_of report_by number run_count world words f h kept lanes_old lanes_new r) → IfErr r IsRefusal → EndsAs r e → Took old new r e
+    → (f : Files) × Tells told f × EndsOver Genuine job_of report_by number run_count world words f h kept lanes_old lanes_new old new e
+over Genuine job_of report_by number run_count world told words h kept lanes_old lanes_new old new r e worked early k w =
+    let f = worked.0 in
+    let has = worked.2 in
+    let end_is = ended words f h r e has.gives k in (
+      f,
+      worked.1,
+      record {
+        ended = end_is;
+        complete = complete words f h e end_is;
+        ran = has.ran;
+        stopped = λ o means. stopped o h e (complete words f h e end_is o means);
+        output = output words f h old new r e has.gives early k w;
+      },
+    )

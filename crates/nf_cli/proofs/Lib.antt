@@ -1,6 +1,6 @@
 pub mod Writing
-pub mod Numbers
 pub mod Outcomes
 pub mod Runs
 pub mod Ending
 pub mod Untold
+pub mod Working

@@ -1,11 +1,10 @@
 -- From a text's tree to what the text comes to.
-use Rattle.std.proofs.Common.{◌≡◌, ℕ, ◌<◌, List, length, Some, Result, Ok, Err, refl, sym, ap, ◌∙◌, subst, arith}
-use Rattle.nf_value.specs.Plain.{Plain}
-use Rattle.nf_value.specs.View.{plain_of}
+use Rattle.std.proofs.Common.{◌≡◌, ◌⊎◌, inl, inr, false, true, ℕ, ◌<◌, List, length, Option, Some, None, Ok, IsSome, option_map, refl, sym, ap, ◌∙◌, subst, arith}
+use Rattle.std.specs.Option.{option_or}
 use Rattle.nf_value.specs.declared.place.Place.{Place}
-use Rattle.nf_value.specs.declared.fault.EvalFault.{EvalFault}
 use Rattle.nf_ast.specs.Tree.{Tree}
 use Rattle.nf_ast.specs.Chain.{chain_of}
+use Rattle.nf_ast.specs.Tasks.{tasks_of}
 use Rattle.nf_ast.specs.declared.script.Script.{Script}
 use Rattle.nf_ast.specs.View.{view_script}
 use Rattle.nf_lexer.specs.declared.token.Lexeme.{Lexeme}
@@ -18,101 +17,53 @@ use Rattle.nf_parser.specs.Spells.{Spells}
 use Rattle.nf_parser.specs.Unbuilt.{IsUnbuilt, Refuses}
 use Rattle.nf_parser.specs.declared.fault.ParseFault.{ParseFault}
 use Rattle.nf_parser.specs.declared.fault.ParseFault.TheVariants as parse
+use Rattle.nf_run.specs.Form.{Form, chain_form, tasks_form, form_of}
 use Rattle.nf_cli.specs.declared.ends.End.{End}
-use Rattle.nf_cli.specs.declared.ends.End.TheVariants as end
-use Rattle.nf_cli.specs.declared.ends.ItemCause.TheVariants.{Eval}
 use Rattle.nf_cli.specs.declared.texts.ScriptFault.{ScriptFault}
 use Rattle.nf_cli.specs.declared.texts.ScriptFault.TheVariants.{Lex, Parse}
 use Rattle.nf_cli.specs.Ends.{end_of_lex}
-use Rattle.nf_cli.specs.Form.{IsChain}
-use Rattle.nf_cli.specs.Meaning.{chain_images}
-use Rattle.nf_cli.specs.Report.{report_of}
-use Rattle.nf_cli.specs.Outcome.{Outcome, reports, misused, absent, unlexed, unbuilt, faulty}
+use Rattle.nf_cli.specs.Form.{IsForm}
+use Rattle.nf_cli.specs.Outcome.{Outcome, runs, misused, absent, unlexed, unbuilt}
 use Rattle.nf_cli.specs.Means.{TextMeans, IsTextOutcome}
-use Rattle.nf_cli.specs.Reads.{ReadsScript, IsOnlyScript, IsOnlyBreak, IsOnlyFault, BreaksRule, BreaksIn, IsReported, IsFaulty, ScriptFails, ScriptGives, end_of_script}
-use Rattle.nf_cli.specs.Due.{TextRefused, TextGives}
+use Rattle.nf_cli.specs.Reads.{ReadsScript, IsOnlyScript, IsOnlyBreak, IsOnlyFault, BreaksRule, BreaksIn, end_of_script}
+use Rattle.nf_cli.specs.Work.{TextRefused, TextGives}
 
 some_is : {A : Type 0} {x y : A} → Some x ≡ Some y → x ≡ y
 some_is e = cc
 
-ok_is : {A E : Type 0} {x y : A} → ◌≡◌ {A = Result A E} (Ok x) (Ok y) → x ≡ y
-ok_is e = cc
+-- a text with one tree has one form
+same_form : (text : List ℕ) (tree : Tree) (a b : Form) → IsOnlyScript text tree → form_of tree ≡ Some a → IsForm text b → b ≡ a
+same_form text tree a b one form other = some_is (sym other.of_tree ∙ ap form_of (one.only other.tree other.script) ∙ form)
 
-err_is : {A E : Type 0} {x y : E} → ◌≡◌ {A = Result A E} (Err x) (Err y) → x ≡ y
-err_is e = cc
-
--- a text with one tree is one chain
-same_chain : (text : List ℕ) (tree : Tree) (a b : Tree × Tree) → IsOnlyScript text tree → chain_of tree ≡ Some a → IsChain text b → b ≡ a
-same_chain text tree a b one parts other = some_is (sym other.parts ∙ ap chain_of (one.only other.tree other.script) ∙ parts)
-
-pub reported : (text : List ℕ) (tree : Tree) (report : List ℕ) → IsOnlyScript text tree → IsReported tree report → IsTextOutcome text (reports report)
-reported text tree report one r = record {
-  means = record { chain = r.chain; is_chain = record { tree = tree; script = one.is; parts = r.parts }; items = r.items; images = r.images; written = r.written };
-  only = only;
-}
+formed : (text : List ℕ) (tree : Tree) (form : Form) → IsOnlyScript text tree → form_of tree ≡ Some form → IsTextOutcome text (runs form)
+formed text tree form one is = record { means = record { tree = tree; script = one.is; of_tree = is }; only = only }
   where
-    same_images : (b : Tree × Tree) → IsChain text b → chain_images b ≡ Ok r.items
-    same_images b h = ap chain_images (same_chain text tree r.chain b one r.parts h) ∙ r.images
-
-    only : (other : Outcome) → TextMeans text other → other ≡ reports report
-    only (reports s) h =
-        let e = ok_is (sym h.images ∙ same_images h.chain h.is_chain) in
-        ap reports (h.written ∙ ap report_of e ∙ sym r.written)
+    only : (other : Outcome) → TextMeans text other → other ≡ runs form
+    only (runs g) h = ap runs (same_form text tree form g one is h)
     only (misused f) h = absurd h
     only absent h = absurd h
     only (unlexed f) h = absurd (one.lexed f h)
     only (unbuilt p) h = absurd (one.whole p h)
-    only (faulty p item f) h = absurd (let e : Err (item, f) ≡ Ok r.items = sym h.0.images ∙ same_images h.0.chain h.0.is_chain in cc)
 
-pub failed : (text : List ℕ) (tree : Tree) (place : Place) (item : Plain) (fault : EvalFault) → IsOnlyScript text tree → IsFaulty tree item fault → place ≡ fault.place → IsTextOutcome text (faulty place item fault)
-failed text tree place item fault one r at = record {
-  means = (record { chain = r.chain; is_chain = record { tree = tree; script = one.is; parts = r.parts }; images = r.images }, at);
-  only = only;
-}
+broken_text : (text : List ℕ) (place : Place) → IsOnlyBreak text place → IsTextOutcome text (unbuilt place)
+broken_text text place one = record { means = one.is; only = only }
   where
-    same_images : (b : Tree × Tree) → IsChain text b → chain_images b ≡ Err (item, fault)
-    same_images b h = ap chain_images (same_chain text tree r.chain b one r.parts h) ∙ r.images
-
-    only : (other : Outcome) → TextMeans text other → other ≡ faulty place item fault
-    only (reports s) h = absurd (let e : Ok h.items ≡ Err (item, fault) = sym h.images ∙ same_images h.chain h.is_chain in cc)
-    only (misused f) h = absurd h
-    only absent h = absurd h
-    only (unlexed f) h = absurd (one.lexed f h)
-    only (unbuilt p) h = absurd (one.whole p h)
-    only (faulty p i f) h =
-        let e : (i, f) ≡ (item, fault) = err_is (sym h.0.images ∙ same_images h.0.chain h.0.is_chain) in
-        let ei : i ≡ item = ap (λ x. x.0) e in
-        let ef : f ≡ fault = ap (λ x. x.1) e in
-        let ep : p ≡ place = h.1 ∙ ap (λ g. g.place) ef ∙ sym at in
-        (λ j. faulty (ep j) (ei j) (ef j))
-
-pub broken : (text : List ℕ) (place : Place) → IsOnlyBreak text place → IsTextOutcome text (unbuilt place)
-broken text place one = record { means = one.is; only = only }
-  where
-    no_chain : (chain : Tree × Tree) → IsChain text chain → ⊥
-    no_chain chain h = one.none h.tree h.script
-
     only : (other : Outcome) → TextMeans text other → other ≡ unbuilt place
-    only (reports s) h = absurd (no_chain h.chain h.is_chain)
+    only (runs g) h = absurd (one.none h.tree h.script)
     only (misused f) h = absurd h
     only absent h = absurd h
     only (unlexed f) h = absurd (one.lexed f h)
     only (unbuilt p) h = ap unbuilt (one.only p h)
-    only (faulty p item f) h = absurd (no_chain h.0.chain h.0.is_chain)
 
 pub unlexed_text : (text : List ℕ) (fault : LexFault) → IsOnlyFault text fault → IsTextOutcome text (unlexed fault)
 unlexed_text text fault one = record { means = one.is; only = only }
   where
-    no_chain : (chain : Tree × Tree) → IsChain text chain → ⊥
-    no_chain chain h = one.none h.script.tokens h.script.tokens_of
-
     only : (other : Outcome) → TextMeans text other → other ≡ unlexed fault
-    only (reports s) h = absurd (no_chain h.chain h.is_chain)
+    only (runs g) h = absurd (one.none h.script.tokens h.script.tokens_of)
     only (misused f) h = absurd h
     only absent h = absurd h
     only (unlexed f) h = ap unlexed (one.only f h)
     only (unbuilt p) h = absurd (one.none h.tokens h.tokens_of)
-    only (faulty p item f) h = absurd (no_chain h.0.chain h.0.is_chain)
 
 -- a text that is too long breaks no other rule
 only_long : {text : List ℕ} → most_bytes < length text → {f : LexFault} → Breaks text f → f ≡ ScriptTooLong
@@ -142,23 +93,20 @@ fault_refused text fault e h is = subst (TextRefused text) (sym is) (went fault 
   where
     went : (fault : ScriptFault) → BreaksIn text fault → TextRefused text (end_of_script fault)
     went (Lex fault) h = lex_refused text fault h
-    went (Parse (parse.Unbuilt place)) h = broken text place h
+    went (Parse (parse.Unbuilt place)) h = broken_text text place h
     went (Parse parse.Mem) h = tt
 
-script_refused : (text : List ℕ) (tree : Tree) (e : End) → IsOnlyScript text tree → ScriptFails tree e → TextRefused text e
-script_refused text tree end.Ok one h = absurd h
-script_refused text tree (end.ItemFault place (Eval item fault)) one h = failed text tree place (plain_of item) fault one h.0 h.1
-script_refused text tree (end.Usage f) one h = absurd h
-script_refused text tree end.NoScript one h = absurd h
-script_refused text tree (end.Lex f) one h = absurd h
-script_refused text tree (end.Unbuilt p) one h = absurd h
-script_refused text tree end.HostFault one h = absurd h
-script_refused text tree end.SinkFault one h = absurd h
-script_refused text tree end.Mem one h = tt
+-- a tree that is of one of the forms has its form
+some_form : (c : Option (Tree × Tree)) (t : Option (List ℕ × Place × Tree × Tree)) → IsSome c ⊎ IsSome t → (form : Form) × (option_or (option_map chain_form c) (option_map tasks_form t) ≡ Some form)
+some_form (Some c) t h = (chain_form c, refl)
+some_form None (Some t) h = (tasks_form t, refl)
+some_form None None (inl h) = absurd (let e : false ≡ true = h in cc)
+some_form None None (inr h) = absurd (let e : false ≡ true = h in cc)
 
-pub script_given : (text : List ℕ) (tree : Tree) (r : Result (List ℕ) End) → IsOnlyScript text tree → ScriptGives tree r → TextGives text r
-script_given text tree (Ok report) one h = reported text tree report one h
-script_given text tree (Err e) one h = script_refused text tree e one h
+pub script_given : (text : List ℕ) (s : Script) → IsOnlyScript text (view_script s) → IsSome (chain_of (view_script s)) ⊎ IsSome (tasks_of (view_script s)) → TextGives text (Ok s)
+script_given text s one either =
+    let found = some_form (chain_of (view_script s)) (tasks_of (view_script s)) either in
+    (found.0, found.1, formed text (view_script s) found.0 one found.1)
 
 -- ---- reading a text
 

@@ -5,7 +5,8 @@ use Rattle.nf_host.specs.declared.sink.SinkFailed.{SinkFailed}
 use Rattle.nf_cli.specs.declared.ends.End.{End}
 use Rattle.nf_cli.specs.declared.ends.End.TheVariants as end
 use Rattle.nf_cli.specs.Ends.{error_line}
-use Rattle.nf_cli.specs.Due.{IsRefusal, IsKept, WroteLine}
+use Rattle.nf_cli.specs.Due.{WroteLine}
+use Rattle.nf_cli.specs.Work.{IsRefusal, IsKept}
 
 -- both tell what they hold, and it stands so, or one of them doesn't tell
 abbrev pub Grew : Option (List ℕ) → Option (List ℕ) → (List ℕ → List ℕ → Type 0) → Type 0
@@ -31,12 +32,14 @@ two_front (Some x) (Some y) (Some z) p q told first second =
 
 pub kept : (e : End) → IsKept e e
 kept end.Ok = refl
+kept (end.TaskFailed p i n f) = refl
 kept (end.ItemFault p f) = refl
 kept (end.Usage f) = refl
 kept end.NoScript = refl
 kept (end.Lex p) = refl
 kept (end.Unbuilt p) = refl
 kept end.HostFault = refl
+kept end.LaneFault = refl
 kept end.SinkFault = refl
 kept end.Mem = tt
 
@@ -52,12 +55,14 @@ module _ (a b : Option (List ℕ)) (line : List ℕ) (rose : Type 0) where
 
 pub wrote_line : (a b : Option (List ℕ)) (e : End) (rose : Type 0) (r : Result (Unit {0}) SinkFailed) → IsRefusal e → e ≢ end.Mem → OnErr r rose → Grew a b (λ x y. GrowsByFront x (error_line e) y) → Grew a b (λ x y. OnOk r (y ≡ x ++ error_line e)) → Grew a b (WroteLine e rose)
 wrote_line a b end.Ok rose r refusal other cause front all = absurd refusal
+wrote_line a b (end.TaskFailed p i n f) rose r refusal other cause front all = came a b (error_line (end.TaskFailed p i n f)) rose r cause front all
 wrote_line a b (end.ItemFault p f) rose r refusal other cause front all = came a b (error_line (end.ItemFault p f)) rose r cause front all
 wrote_line a b (end.Usage f) rose r refusal other cause front all = came a b (error_line (end.Usage f)) rose r cause front all
 wrote_line a b end.NoScript rose r refusal other cause front all = came a b (error_line end.NoScript) rose r cause front all
 wrote_line a b (end.Lex p) rose r refusal other cause front all = came a b (error_line (end.Lex p)) rose r cause front all
 wrote_line a b (end.Unbuilt p) rose r refusal other cause front all = came a b (error_line (end.Unbuilt p)) rose r cause front all
 wrote_line a b end.HostFault rose r refusal other cause front all = came a b (error_line end.HostFault) rose r cause front all
+wrote_line a b end.LaneFault rose r refusal other cause front all = came a b (error_line end.LaneFault) rose r cause front all
 wrote_line a b end.SinkFault rose r refusal other cause front all = absurd refusal
 wrote_line a b end.Mem rose r refusal other cause front all = absurd (other refl)
 

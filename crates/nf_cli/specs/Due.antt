@@ -1,108 +1,121 @@
 -- What a call owes.
-use Rattle.std.specs.Prelude.{◌≡◌, ◌⊎◌, ℕ, List, ◌++◌, Option, Some, None, IfSome, Result, Ok, Err}
+use Rattle.std.specs.Prelude.{◌≡◌, ◌⊎◌, ℕ, List, [], ◌++◌, Option, Some, None, IfSome, Ok}
 use Rattle.nf_value.specs.View.{plain_of}
 use Rattle.nf_words.specs.declared.command.Command.{Command}
 use Rattle.nf_words.specs.declared.fault.UsageFault.{UsageFault}
+use Rattle.nf_words.specs.Words.{command_of}
+use Rattle.nf_value.specs.declared.place.Place.{Place}
+use Rattle.nf_lexer.specs.declared.fault.LexFault.{LexFault}
 use Rattle.nf_host.specs.Files.{Files}
 use Rattle.nf_host.specs.Sink.{GrowsByFront}
+use Rattle.nf_job.specs.declared.report.Report.{Report}
+use Rattle.nf_lane.specs.World.{World}
+use Rattle.nf_core.specs.declared.event.Event.{Event}
+use Rattle.nf_core.specs.declared.event.Stop.{Stop}
+use Rattle.nf_core.specs.declared.event.Stop.TheVariants as stop
+use Rattle.nf_core.specs.Machine.{starts}
+use Rattle.nf_run.specs.Form.{Form}
+use Rattle.nf_run.specs.Run.{IsHistoryOf, AreBooked, WentWell, HasItemFault, HasTaskFault, LostLane, meant, state_after}
 use Rattle.nf_cli.specs.declared.ends.End.{End}
 use Rattle.nf_cli.specs.declared.ends.End.TheVariants as end
 use Rattle.nf_cli.specs.declared.ends.ItemCause.TheVariants.{Eval}
 use Rattle.nf_cli.specs.Ends.{error_line}
-use Rattle.nf_cli.specs.Outcome.{Outcome, reports, misused, absent, unlexed, unbuilt, faulty}
-use Rattle.nf_cli.specs.Means.{Means, IsOutcome, IsTextOutcome}
-use Rattle.nf_cli.specs.Report.{summary}
+use Rattle.nf_cli.specs.Outcome.{Outcome, runs, misused, absent, unlexed, unbuilt}
+use Rattle.nf_cli.specs.Means.{Means, IsOutcome}
+use Rattle.nf_cli.specs.Report.{report_of, summary}
 
--- ---- before anything is written
+-- ---- how a call may end
 
--- why a text has no report: its own outcome, or want of memory
-abbrev pub TextRefused : List ℕ → End → Type 0
-TextRefused text (end.Lex fault) = IsTextOutcome text (unlexed fault)
-TextRefused text (end.Unbuilt place) = IsTextOutcome text (unbuilt place)
-TextRefused text (end.ItemFault place (Eval item fault)) = IsTextOutcome text (faulty place (plain_of item) fault)
-TextRefused text end.Mem = Unit {0}
-TextRefused text _ = ⊥
+-- with words that have this fault; nothing is asked of the host
+abbrev pub EndsMisused : UsageFault → End → Type 0
+EndsMisused due (end.Usage fault) = fault ≡ due
+EndsMisused due end.Mem = Unit {0}
+EndsMisused due _ = ⊥
 
--- the report of a text, or why there is none
-abbrev pub TextGives : List ℕ → Result (List ℕ) End → Type 0
-TextGives text (Ok report) = IsTextOutcome text (reports report)
-TextGives text (Err e) = TextRefused text e
+-- without a script
+abbrev pub EndsAbsent : End → Type 0
+EndsAbsent end.NoScript = Unit {0}
+EndsAbsent end.HostFault = Unit {0}
+EndsAbsent end.Mem = Unit {0}
+EndsAbsent _ = ⊥
 
--- the file is there, and its text comes to this
-pub record HasText (file : Option (List ℕ)) (outcome : Outcome) : Type 0 where
-  pub text : List ℕ
-  pub there : file ≡ Some text
-  pub comes : IsTextOutcome text outcome
+-- with a script that breaks this rule of the tokens
+abbrev pub EndsUnlexed : LexFault → End → Type 0
+EndsUnlexed due (end.Lex fault) = fault ≡ due
+EndsUnlexed due end.HostFault = Unit {0}
+EndsUnlexed due end.Mem = Unit {0}
+EndsUnlexed due _ = ⊥
 
--- why a file has no report: it isn't there, its text's own outcome, an outside fault, or want of memory
-abbrev pub FileRefused : Option (List ℕ) → End → Type 0
-FileRefused file end.NoScript = file ≡ None
-FileRefused file (end.Lex fault) = HasText file (unlexed fault)
-FileRefused file (end.Unbuilt place) = HasText file (unbuilt place)
-FileRefused file (end.ItemFault place (Eval item fault)) = HasText file (faulty place (plain_of item) fault)
-FileRefused file end.HostFault = Unit {0}
-FileRefused file end.Mem = Unit {0}
-FileRefused file _ = ⊥
+-- with a script that is of no form, from this place on
+abbrev pub EndsUnbuilt : Place → End → Type 0
+EndsUnbuilt due (end.Unbuilt place) = place ≡ due
+EndsUnbuilt due end.HostFault = Unit {0}
+EndsUnbuilt due end.Mem = Unit {0}
+EndsUnbuilt due _ = ⊥
 
--- the report of a file, or why there is none
-abbrev pub FileGives : Option (List ℕ) → Result (List ℕ) End → Type 0
-FileGives file (Ok report) = HasText file (reports report)
-FileGives file (Err e) = FileRefused file e
+-- with a script of this form, whose run has this history
+abbrev pub RunEnds : Form → List Event → End → Type 0
+RunEnds form h end.Ok = WentWell form h
+RunEnds form h end.SinkFault = WentWell form h
+RunEnds form h (end.TaskFailed process inputs n fault) = HasTaskFault form h process inputs n fault
+RunEnds form h (end.ItemFault place (Eval item fault)) = HasItemFault form h (plain_of item) fault × (place ≡ fault.place)
+RunEnds form h end.LaneFault = LostLane form h
+RunEnds form h end.HostFault = h ≡ []
+RunEnds form h end.Mem = Unit {0}
+RunEnds form h _ = ⊥
 
--- an end that is not of the words, and comes before anything is written
-abbrev pub IsOfFile : End → Type 0
-IsOfFile end.Ok = ⊥
-IsOfFile end.SinkFault = ⊥
-IsOfFile (end.Usage fault) = ⊥
-IsOfFile _ = Unit {0}
+-- with this outcome; only the end of a run depends on its history
+abbrev pub MayEnd : Outcome → List Event → End → Type 0
+MayEnd (runs form) h e = RunEnds form h e
+MayEnd (misused due) h e = EndsMisused due e
+MayEnd absent h e = EndsAbsent e
+MayEnd (unlexed due) h e = EndsUnlexed due e
+MayEnd (unbuilt due) h e = EndsUnbuilt due e
 
--- why there is no report: the outcome of the words over the files, an outside fault, or want of memory
-abbrev pub Refused : List (List ℕ) → Files → End → Type 0
-Refused words files (end.Usage fault) = IsOutcome words files (misused fault)
-Refused words files end.NoScript = IsOutcome words files absent
-Refused words files (end.Lex fault) = IsOutcome words files (unlexed fault)
-Refused words files (end.Unbuilt place) = IsOutcome words files (unbuilt place)
-Refused words files (end.ItemFault place (Eval item fault)) = IsOutcome words files (faulty place (plain_of item) fault)
-Refused words files end.HostFault = Unit {0}
-Refused words files end.Mem = Unit {0}
-Refused words files _ = ⊥
+-- the end is that of the one outcome of the words over the files, where neither memory nor the host ended the call
+pub data Ended (words : List (List ℕ)) (files : Files) (h : List Event) : End → Type 0 where
+  as_due : {e : End} (outcome : Outcome) → IsOutcome words files outcome → MayEnd outcome h e → Ended words files h e
+  host_failed : (command : Command) → command_of words ≡ Ok command → h ≡ [] → Ended words files h end.HostFault
+  no_memory : Ended words files h end.Mem
 
--- the report of the words over the files, or why there is none
-abbrev pub Gives : List (List ℕ) → Files → Result (List ℕ) End → Type 0
-Gives words files (Ok report) = IsOutcome words files (reports report)
-Gives words files (Err e) = Refused words files e
+-- a run that its history stops ends by that stop; one that it doesn't stop ends by no task and no lane; or memory ran out
+abbrev pub StopEnds : Option Stop → End → Type 0
+StopEnds x end.Mem = Unit {0}
+StopEnds None (end.TaskFailed process inputs n fault) = ⊥
+StopEnds None end.LaneFault = ⊥
+StopEnds None e = Unit {0}
+StopEnds (Some (stop.Task node is m f)) (end.TaskFailed process inputs n fault) = (inputs ≡ is) × (n ≡ m) × (fault ≡ f)
+StopEnds (Some (stop.Outside o)) end.LaneFault = Unit {0}
+StopEnds (Some x) e = ⊥
 
--- Usage comes exactly with the fault of the words, but for want of memory
-abbrev pub IsUsageEnd : Result Command UsageFault → End → Type 0
-IsUsageEnd (Err due) (end.Usage fault) = fault ≡ due
-IsUsageEnd (Err due) end.Mem = Unit {0}
-IsUsageEnd (Err due) _ = ⊥
-IsUsageEnd (Ok command) (end.Usage fault) = ⊥
-IsUsageEnd (Ok command) _ = Unit {0}
-
--- there is a report only where the words are right
-abbrev pub IsUsage : Result Command UsageFault → Result (List ℕ) End → Type 0
-IsUsage (Err due) (Ok report) = ⊥
-IsUsage (Ok command) (Ok report) = Unit {0}
-IsUsage command (Err e) = IsUsageEnd command e
-
--- an end before anything is written
-abbrev pub IsRefusal : End → Type 0
-IsRefusal end.Ok = ⊥
-IsRefusal end.SinkFault = ⊥
-IsRefusal _ = Unit {0}
+abbrev pub EndsByStop : Outcome → List Event → End → Type 0
+EndsByStop (runs form) h e = StopEnds (state_after form h).stop e
+EndsByStop _ h e = Unit {0}
 
 -- where the end is HostFault, the host's count rose
 abbrev pub OnHostFault : End → Type 0 → Type 0
 OnHostFault end.HostFault rose = rose
 OnHostFault _ rose = Unit {0}
 
+-- where the end is LaneFault, a lane's count rose
+abbrev pub OnLaneFault : End → Type 0 → Type 0
+OnLaneFault end.LaneFault rose = rose
+OnLaneFault _ rose = Unit {0}
+
 -- where the end is SinkFault, the sink's count rose
 abbrev pub OnSinkFault : End → Type 0 → Type 0
 OnSinkFault end.SinkFault rose = rose
 OnSinkFault _ rose = Unit {0}
 
--- ---- after the writing
+-- ---- what was run
+
+-- the history is one of this script, and its lanes ran what it says; without a script nothing was run
+abbrev pub RanTasks : {L D : Type 0} → (D → Type 0) → (D → List ℕ) → (D → Report) → (D → ℕ) → (L → ℕ) → (L → Option World) → Outcome → List Event → List D → List L → List L → Type 0
+RanTasks Genuine job_of report_by number run_count world (runs form) h kept old new =
+    IsHistoryOf form h × AreBooked Genuine job_of report_by number run_count world form h kept old new
+RanTasks Genuine job_of report_by number run_count world _ h kept old new = (h ≡ []) × (kept ≡ []) × (new ≡ old)
+
+-- ---- what was written
 
 -- the error line was written, or a front of it where the sink's count rose; nothing where there is none
 abbrev pub WroteLine : End → Type 0 → List ℕ → List ℕ → Type 0
@@ -112,64 +125,42 @@ WroteLine end.SinkFault rose before after = Unit {0}
 WroteLine e rose before after = (after ≡ before ++ error_line e) ⊎ (rose × GrowsByFront before (error_line e) after)
 
 -- the report and the summary line were written, or a front of them where the sink failed
-abbrev pub WroteOutput : End → List ℕ → List ℕ → List ℕ → Type 0
-WroteOutput end.Ok report before after = after ≡ before ++ (report ++ summary)
-WroteOutput end.SinkFault report before after = GrowsByFront before (report ++ summary) after
-WroteOutput _ report before after = ⊥
+abbrev pub WroteOutput : End → List ℕ → List ℕ → List ℕ → List ℕ → Type 0
+WroteOutput end.Ok report line before after = after ≡ before ++ (report ++ line)
+WroteOutput end.SinkFault report line before after = GrowsByFront before (report ++ line) after
+WroteOutput _ report line before after = ⊥
 
--- the end stays, or memory ran out for its line
-abbrev pub IsKept : End → End → Type 0
-IsKept before end.Mem = Unit {0}
-IsKept before after = after ≡ before
-
--- the end of a call that writes a report
-abbrev pub IsWritten : End → Type 0
-IsWritten end.Ok = Unit {0}
-IsWritten end.SinkFault = Unit {0}
-IsWritten _ = ⊥
-
--- how a call ends that has a report, or an end already
-abbrev pub EndsAs : Result (List ℕ) End → End → Type 0
-EndsAs (Ok report) e = IsWritten e
-EndsAs (Err before) e = IsKept before e
-
--- ---- the whole call
-
--- the end is the outcome of the words over the files, where memory and what is outside didn't end the call
-abbrev pub Ended : List (List ℕ) → Files → End → Type 0
-Ended words files end.Ok = (report : List ℕ) × IsOutcome words files (reports report)
-Ended words files end.SinkFault = (report : List ℕ) × IsOutcome words files (reports report)
-Ended words files e = Refused words files e
-
--- how a call may end where the words and files come to this outcome
-abbrev pub MayEnd : Outcome → End → Type 0
-MayEnd outcome end.HostFault = Unit {0}
-MayEnd outcome end.Mem = Unit {0}
-MayEnd (reports report) end.Ok = Unit {0}
-MayEnd (reports report) end.SinkFault = Unit {0}
-MayEnd (misused due) (end.Usage fault) = fault ≡ due
-MayEnd absent end.NoScript = Unit {0}
-MayEnd (unlexed due) (end.Lex fault) = fault ≡ due
-MayEnd (unbuilt due) (end.Unbuilt place) = place ≡ due
-MayEnd (faulty due item fault) (end.ItemFault place (Eval v f)) = (place ≡ due) × (plain_of v ≡ item) × (f ≡ fault)
-MayEnd outcome e = ⊥
-
--- where both tell, the report that the words come to was written with the summary line, or a front of them
-abbrev pub WroteReport : List (List ℕ) → Files → End → List ℕ → List ℕ → Type 0
-WroteReport words files e before after = (report : List ℕ) × IsOutcome words files (reports report) × WroteOutput e report before after
+-- the report of what the script means under the outcomes of the history, and the count of its Start events
+pub record WroteReport (words : List (List ℕ)) (files : Files) (h : List Event) (e : End) (before after : List ℕ) : Type 0 where
+  pub form : Form
+  pub of_form : IsOutcome words files (runs form)
+  pub output : WroteOutput e (report_of (meant form h).viewed) (summary (starts h)) before after
 
 abbrev pub OnOutput : End → Type 0 → Type 0
 OnOutput end.Ok P = P
 OnOutput end.SinkFault P = P
 OnOutput _ P = Unit {0}
 
-abbrev pub OutputStands : List (List ℕ) → Option Files → Option (List ℕ) → Option (List ℕ) → End → Type 0
-OutputStands words files old new e = IfSome files (λ f. IfSome old (λ before. IfSome new (λ after. OnOutput e (WroteReport words f e before after))))
+-- where the sink tells it
+abbrev pub OutputStands : List (List ℕ) → Files → List Event → Option (List ℕ) → Option (List ℕ) → End → Type 0
+OutputStands words files h old new e = IfSome old (λ before. IfSome new (λ after. OnOutput e (WroteReport words files h e before after)))
 
--- ---- whatever the host tells
+-- ---- the whole call
 
--- how a call ends over these files, and what it writes where the sink tells it
-pub record EndsOver (words : List (List ℕ)) (files : Files) (old new : Option (List ℕ)) (e : End) : Type 0 where
-  pub ended : Ended words files e
-  pub complete : (outcome : Outcome) → Means words files outcome → MayEnd outcome e
-  pub output : OutputStands words (Some files) old new e
+-- these are the files that the host tells, where it tells them
+abbrev pub Tells : Option Files → Files → Type 0
+Tells None files = Unit {0}
+Tells (Some told) files = files ≡ told
+
+-- how a call ends over these files, and what it runs and writes
+pub record EndsOver {L D : Type 0} (Genuine : D → Type 0) (job_of : D → List ℕ) (report_by : D → Report) (number : D → ℕ) (run_count : L → ℕ) (world : L → Option World) (words : List (List ℕ)) (files : Files) (h : List Event) (kept : List D) (lanes_old lanes_new : List L) (old new : Option (List ℕ)) (e : End) : Type 0 where
+  -- the end has its cause
+  pub ended : Ended words files h e
+  -- whatever the words and files come to is how the call ends, but for the host and memory
+  pub complete : (outcome : Outcome) → Means words files outcome → MayEnd outcome h e
+  -- the history is lawful, and the lanes ran each of its tasks once
+  pub ran : (outcome : Outcome) → Means words files outcome → RanTasks Genuine job_of report_by number run_count world outcome h kept lanes_old lanes_new
+  -- a stop of the history is the end
+  pub stopped : (outcome : Outcome) → Means words files outcome → EndsByStop outcome h e
+  -- what was written is the report of the meaning under the history's outcomes
+  pub output : OutputStands words files h old new e

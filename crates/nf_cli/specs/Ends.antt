@@ -1,10 +1,13 @@
 -- The status and the error line of each end.
-use Rattle.std.specs.Prelude.{ℕ, List, [], ◌++◌, codes}
+use Rattle.std.specs.Prelude.{ℕ, List, [], ◌++◌, codes, decimal}
+use Rattle.nf_value.specs.Plain.{Plain, list, plains_of}
 use Rattle.nf_value.specs.declared.place.Place.{Place}
 use Rattle.nf_value.specs.Place.{place_text}
 use Rattle.nf_value.specs.Fault.{kind_text}
 use Rattle.nf_value.specs.Text.{value_text}
 use Rattle.nf_value.specs.View.{plain_of}
+use Rattle.nf_job.specs.Fault as job
+use Rattle.nf_job.specs.declared.fault.TaskFault.{TaskFault}
 use Rattle.nf_lexer.specs.Fault.{fault_text}
 use Rattle.nf_lexer.specs.declared.fault.LexFault.{LexFault}
 use Rattle.nf_lexer.specs.declared.fault.LexFault.TheVariants as lex
@@ -18,12 +21,14 @@ use Rattle.nf_cli.specs.declared.ends.ItemCause.TheVariants.{Eval}
 
 abbrev pub status_of : End → ℕ
 status_of end.Ok = 0
+status_of (end.TaskFailed p i n f) = 1
 status_of (end.ItemFault p c) = 1
 status_of (end.Usage f) = 2
 status_of end.NoScript = 3
 status_of (end.Lex f) = 3
 status_of (end.Unbuilt p) = 3
 status_of end.HostFault = 4
+status_of end.LaneFault = 4
 status_of end.SinkFault = 4
 status_of end.Mem = 5
 
@@ -31,17 +36,24 @@ status_of end.Mem = 5
 abbrev pub cause_text : ItemCause → List ℕ
 cause_text (Eval item fault) = kind_text fault.kind ++ codes " on " ++ value_text (plain_of item)
 
+-- task PROC INPUTS #n: FAULT
+abbrev pub task_text : List ℕ → List Plain → ℕ → TaskFault → List ℕ
+task_text process inputs n fault =
+    codes "task " ++ process ++ codes " " ++ value_text (list (plains_of inputs)) ++ codes " #" ++ decimal n ++ codes ": " ++ job.fault_text fault
+
 -- LINE:COL: TEXT
 abbrev pub placed : Place → List ℕ → List ℕ
 placed p text = place_text p.line p.col ++ codes ": " ++ text
 
 abbrev pub end_text : End → List ℕ
+end_text (end.TaskFailed p i n f) = task_text p i n f
 end_text (end.ItemFault p c) = placed p (cause_text c)
 end_text (end.Usage f) = codes "usage: " ++ usage_text f
 end_text end.NoScript = codes "NoScript"
 end_text (end.Lex f) = fault_text f
 end_text (end.Unbuilt p) = placed p (codes "Unbuilt")
 end_text end.HostFault = codes "HostFault"
+end_text end.LaneFault = codes "LaneFault"
 end_text _ = []
 
 -- the line that is written, after each end but Ok, SinkFault and Mem

@@ -1,8 +1,8 @@
 pub mod Ends
-pub mod Meaning
 pub mod Outcome
 pub mod Report
 pub mod Form
 pub mod Means
 pub mod Due
+pub mod Work
 pub mod Reads

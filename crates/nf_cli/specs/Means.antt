@@ -1,38 +1,18 @@
 -- What a command line means over files.
 use Rattle.std.specs.Prelude.{◌≡◌, ℕ, List, None, Some, Ok, Err}
-use Rattle.nf_value.specs.Plain.{Plain}
-use Rattle.nf_value.specs.declared.fault.EvalFault.{EvalFault}
-use Rattle.nf_ast.specs.Tree.{Tree}
 use Rattle.nf_words.specs.declared.command.Command.{Command}
 use Rattle.nf_words.specs.declared.command.Command.TheVariants.{Run}
 use Rattle.nf_words.specs.Words.{command_of}
 use Rattle.nf_host.specs.Files.{Files}
 use Rattle.nf_lexer.specs.Tokens.{Breaks}
-use Rattle.nf_cli.specs.Form.{IsChain, BreaksOff}
-use Rattle.nf_cli.specs.Meaning.{chain_images}
-use Rattle.nf_cli.specs.Outcome.{Outcome, reports, misused, absent, unlexed, unbuilt, faulty}
-use Rattle.nf_cli.specs.Report.{report_of}
-
--- the chain's images are written
-pub record RunsWell (text report : List ℕ) : Type 0 where
-  pub chain : Tree × Tree
-  pub is_chain : IsChain text chain
-  pub items : List Plain
-  pub images : chain_images chain ≡ Ok items
-  pub written : report ≡ report_of items
-
--- the first item of the chain that has a fault
-pub record HasFault (text : List ℕ) (item : Plain) (fault : EvalFault) : Type 0 where
-  pub chain : Tree × Tree
-  pub is_chain : IsChain text chain
-  pub images : chain_images chain ≡ Err (item, fault)
+use Rattle.nf_cli.specs.Form.{IsForm, BreaksOff}
+use Rattle.nf_cli.specs.Outcome.{Outcome, runs, misused, absent, unlexed, unbuilt}
 
 -- what the text of a script comes to
 abbrev pub TextMeans : List ℕ → Outcome → Type 0
-TextMeans text (reports report) = RunsWell text report
+TextMeans text (runs form) = IsForm text form
 TextMeans text (unlexed fault) = Breaks text fault
 TextMeans text (unbuilt place) = BreaksOff text place
-TextMeans text (faulty place item fault) = HasFault text item fault × (place ≡ fault.place)
 TextMeans text (misused fault) = ⊥
 TextMeans text absent = ⊥
 

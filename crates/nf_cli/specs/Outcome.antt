@@ -1,14 +1,12 @@
 -- What a command line over files comes to.
-use Rattle.std.specs.Prelude.{ℕ, List}
-use Rattle.nf_value.specs.Plain.{Plain}
 use Rattle.nf_value.specs.declared.place.Place.{Place}
-use Rattle.nf_value.specs.declared.fault.EvalFault.{EvalFault}
 use Rattle.nf_lexer.specs.declared.fault.LexFault.{LexFault}
 use Rattle.nf_words.specs.declared.fault.UsageFault.{UsageFault}
+use Rattle.nf_run.specs.Form.{Form}
 
 pub data Outcome : Type 0 where
-  -- a run that ends well, with its report
-  reports : List ℕ → Outcome
+  -- a script of this form is run
+  runs : Form → Outcome
   -- the words are wrong
   misused : UsageFault → Outcome
   -- the script isn't there
@@ -17,5 +15,3 @@ pub data Outcome : Type 0 where
   unlexed : LexFault → Outcome
   -- the script isn't of a form that is built
   unbuilt : Place → Outcome
-  -- an item has a fault, at this place
-  faulty : Place → Plain → EvalFault → Outcome

@@ -1,5 +1,5 @@
 -- What a run writes.
-use Rattle.std.specs.Prelude.{ℕ, List, ◌++◌, codes, flat_map}
+use Rattle.std.specs.Prelude.{ℕ, List, ◌++◌, codes, decimal, flat_map}
 use Rattle.nf_value.specs.Plain.{Plain}
 use Rattle.nf_value.specs.Text.{value_text}
 use Rattle.nf_bag.specs.Sorted.{sorted_of}
@@ -13,5 +13,5 @@ unfoldable pub report_of : List Plain → List ℕ
 report_of items = lines (sorted_of items)
 
 -- after the report: how many tasks were started, and how many were taken from the cache
-abbrev pub summary : List ℕ
-summary = codes "executed 0 cached 0\n"
+abbrev pub summary : ℕ → List ℕ
+summary started = codes "executed " ++ decimal started ++ codes " cached 0\n"

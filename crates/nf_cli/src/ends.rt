@@ -3,8 +3,11 @@
 ghost use Rattle.std.specs.Prelude.{◌≡◌};
 ghost use Rattle.nf_cli.specs.Ends.{status_of};
 
+use nf_core::Event;
+use nf_job::TaskFault;
+use nf_lane::{Kept, Lane};
 use nf_lexer::LexFault;
-use nf_value::{EvalFault, Place, Value};
+use nf_value::{EvalFault, Place, Txt, Vals, Value};
 use nf_words::UsageFault;
 
 /// How a call ended (own).
@@ -12,9 +15,20 @@ use nf_words::UsageFault;
 pub enum End {
     /// All was written.
     Ok,
+    /// A task failed: that of these inputs at this call of a process. `n` counts from 0 the tasks of equal inputs that
+    /// were taken before.
+    TaskFailed {
+        process: Txt,
+        inputs: Vals,
+        n: u32,
+        fault: TaskFault,
+    },
     /// An item has a fault: the first item in the text that has one, with its first fault. `place` is that of the
     /// operator's mark.
-    ItemFault { place: Place, fault: ItemCause },
+    ItemFault {
+        place: Place,
+        fault: ItemCause,
+    },
     /// The words aren't a command line.
     Usage(UsageFault),
     /// The script isn't there.
@@ -23,9 +37,13 @@ pub enum End {
     Lex(LexFault),
     /// The text isn't of a form that is built. `place` is that of the first token that no reading of a form goes on
     /// with, or of the text's end.
-    Unbuilt { place: Place },
+    Unbuilt {
+        place: Place,
+    },
     /// The host failed.
     HostFault,
+    /// A lane failed: a task couldn't be started, or what it wrote couldn't be read.
+    LaneFault,
     /// The sink failed.
     SinkFault,
     /// Want of memory. Nothing was written.
@@ -39,13 +57,20 @@ pub enum ItemCause {
     Eval { item: Value, fault: EvalFault },
 }
 
-/// A call's end, and the status with which the program ends.
+/// What a call leaves.
 #[derive(Drop)]
-pub struct NfEnd {
-    /// 0 where all went well, 1 for a fault of the run, 2 for the words, 3 for the script, 4 for what is outside of
-    /// the program, 5 for want of memory (own).
+pub struct NfEnd<L: Lane> {
+    /// The status with which the program ends: 0 where all went well, 1 for a fault of the run, 2 for the words, 3 for the
+    /// script, 4 for what is outside of the program, 5 for want of memory (own).
     pub status: u8,
+    /// How the call ended.
     pub end: End,
+    /// All events of the run, in their order; none where no task was taken.
+    pub history: Vec<Event>,
+    /// The jobs that were run, in the order of their Finish events.
+    pub kept: Kept<L>,
+    /// All lanes that were handed in, in their order.
+    pub lanes: Vec<L>,
 }
 
 impl End {
@@ -55,10 +80,10 @@ impl End {
     {
         match self {
             End::Ok => 0,
-            End::ItemFault { .. } => 1,
+            End::TaskFailed { .. } | End::ItemFault { .. } => 1,
             End::Usage(_) => 2,
             End::NoScript | End::Lex(_) | End::Unbuilt { .. } => 3,
-            End::HostFault | End::SinkFault => 4,
+            End::HostFault | End::LaneFault | End::SinkFault => 4,
             End::Mem => 5,
         }
     }

@@ -4,15 +4,15 @@
 mod ends;
 mod lines;
 mod report;
-mod rules;
-mod run;
+mod scripts;
 mod texts;
 mod top;
+mod works;
 mod writes;
 
 pub use ends::{End, ItemCause, NfEnd};
-pub use run::SCRIPT_LIMIT;
-pub use top::nf_main;
+pub use scripts::SCRIPT_LIMIT;
+pub use top::{LANES, nf_main};
 
 #[cfg(test)]
 mod tests;

@@ -1,10 +1,11 @@
 //! The lines of text that a call writes.
 
 ghost use Rattle.std.specs.Prelude.{◌≡◌, IfOk, string_bytes};
-ghost use Rattle.nf_cli.specs.Ends.{cause_text, end_text, placed, error_line as error_line_of};
+ghost use Rattle.nf_cli.specs.Ends.{cause_text, end_text, placed, task_text, error_line as error_line_of};
 
 use crate::ends::{End, ItemCause};
-use nf_value::{Mem, Place, text_of};
+use nf_job::TaskFault;
+use nf_value::{Mem, Place, Txt, Vals, Value, text_of};
 use std::alloc::Global;
 
 /// The error line of an end.
@@ -23,6 +24,12 @@ fn text_of_end(alloc: Global, end: &End) -> Result<String, Mem>
     ensures { IfOk result (λ s. string_bytes s ≡ end_text end.now) }
 {
     match end {
+        End::TaskFailed {
+            process,
+            inputs,
+            n,
+            fault,
+        } => text_of_task(alloc, process, inputs, *n, fault),
         End::ItemFault { place, fault } => {
             let cause = text_of_cause(alloc, fault)?;
             at_place(alloc, *place, cause.as_str())
@@ -32,8 +39,24 @@ fn text_of_end(alloc: Global, end: &End) -> Result<String, Mem>
         End::Lex(fault) => Ok(format!(in alloc; "{fault}")?),
         End::Unbuilt { place } => at_place(alloc, *place, "Unbuilt"),
         End::HostFault => Ok(String::from_str(alloc, "HostFault")?),
+        End::LaneFault => Ok(String::from_str(alloc, "LaneFault")?),
         End::Ok | End::SinkFault | End::Mem => Ok(String::new(alloc)),
     }
+}
+
+fn text_of_task(
+    alloc: Global,
+    process: &Txt,
+    inputs: &Vals,
+    n: u32,
+    fault: &TaskFault,
+) -> Result<String, Mem>
+    ensures { IfOk result (λ s. string_bytes s ≡ task_text process.now inputs.now n fault.now) }
+{
+    let inputs = text_of(alloc, &Value::List(inputs.copy()?))?;
+    let process = process.as_str();
+    let inputs = inputs.as_str();
+    Ok(format!(in alloc; "task {process} {inputs} #{n}: {fault}")?)
 }
 
 fn text_of_cause(alloc: Global, cause: &ItemCause) -> Result<String, Mem>

@@ -1,10 +1,15 @@
-//! Whole calls over files and a sink in memory.
+//! Whole calls over files and a sink in memory, with lanes over a table, over a real shell, and over processes that don't start.
+
+mod tasks;
 
 use crate::{End, ItemCause, NfEnd, nf_main};
 use nf_host::{MemHost, MemSink};
+use nf_lane::Lane;
+use nf_value::{Value, text_of};
 use std::alloc::{AllocError, Global};
 use std::fmt::Write;
 use std::test::Fail;
+use tasks::idle_lanes;
 
 /// The words of most calls.
 const RUN: &[&str] = &["run", "a.nf"];
@@ -502,37 +507,62 @@ fn host_with(alloc: Global, script: Option<&[u8]>) -> Result<MemHost, Fail> {
     Ok(host)
 }
 
-/// Makes the call, and gives its status and end as text.
+/// Makes the call with lanes that know no job, and gives its status and end as text.
 fn called(
     alloc: Global,
     words: &[&str],
     host: &mut MemHost,
     sink: &mut MemSink,
 ) -> Result<String, Fail> {
+    let lanes = idle_lanes(alloc)?;
+    let list = listed(alloc, words)?;
+    let end = nf_main(alloc, &list, host, lanes, sink);
+    shown(alloc, &end)
+}
+
+fn listed(alloc: Global, words: &[&str]) -> Result<Vec<String>, AllocError> {
     let mut list = Vec::new(alloc);
     for word in words {
         list.push(String::from_str(alloc, word)?)?;
     }
-    let NfEnd { status, end } = nf_main(alloc, &list, host, sink);
+    Ok(list)
+}
+
+/// A call's status and end as text.
+fn shown<L: Lane>(alloc: Global, end: &NfEnd<L>) -> Result<String, Fail> {
     let mut out = String::new(alloc);
+    let status = end.status;
     write!(out, "{status} ")?;
-    show_end(&mut out, &end)?;
+    show_end(alloc, &mut out, &end.end)?;
     Ok(out)
 }
 
-fn show_end(out: &mut String, end: &End) -> Result<(), AllocError> {
+fn show_end(alloc: Global, out: &mut String, end: &End) -> Result<(), Fail> {
     match end {
-        End::Ok => write!(out, "Ok"),
+        End::Ok => write!(out, "Ok")?,
+        End::TaskFailed {
+            process,
+            inputs,
+            n,
+            fault,
+        } => {
+            let inputs = text_of(alloc, &Value::List(inputs.copy()?))?;
+            let process = process.as_str();
+            let inputs = inputs.as_str();
+            write!(out, "TaskFailed {process} {inputs} {n}: {fault}")?;
+        }
         End::ItemFault {
             place,
             fault: ItemCause::Eval { .. },
-        } => write!(out, "ItemFault at {place}"),
-        End::Usage(fault) => write!(out, "Usage {fault}"),
-        End::NoScript => write!(out, "NoScript"),
-        End::Lex(fault) => write!(out, "Lex {fault}"),
-        End::Unbuilt { place } => write!(out, "Unbuilt at {place}"),
-        End::HostFault => write!(out, "HostFault"),
-        End::SinkFault => write!(out, "SinkFault"),
-        End::Mem => write!(out, "Mem"),
+        } => write!(out, "ItemFault at {place}")?,
+        End::Usage(fault) => write!(out, "Usage {fault}")?,
+        End::NoScript => write!(out, "NoScript")?,
+        End::Lex(fault) => write!(out, "Lex {fault}")?,
+        End::Unbuilt { place } => write!(out, "Unbuilt at {place}")?,
+        End::HostFault => write!(out, "HostFault")?,
+        End::LaneFault => write!(out, "LaneFault")?,
+        End::SinkFault => write!(out, "SinkFault")?,
+        End::Mem => write!(out, "Mem")?,
     }
+    Ok(())
 }

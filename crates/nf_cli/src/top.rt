@@ -1,64 +1,81 @@
 //! The call that the program makes.
 
-ghost use Rattle.std.specs.Prelude.{◌≡◌, ◌≤◌, ◌↔◌, IsSome, IfSome, map, string_bytes};
+ghost use Rattle.std.specs.Prelude.{◌≡◌, ℕ, ◌+◌, ◌<◌, ◌≤◌, ◌^◌, ◌↔◌, All, IsSome, IfSome, length, map, sum_by, string_bytes};
 ghost use Rattle.nf_host.specs.Faults.{Rose};
 ghost use Rattle.nf_host.specs.Files.{Files};
-ghost use Rattle.nf_words.specs.Words.{command_of};
+ghost use Rattle.nf_core.specs.Machine.{starts};
+ghost use Rattle.nf_run.specs.Run.{NoneFell, OneRose};
 ghost use Rattle.nf_cli.specs.Ends.{status_of};
-ghost use Rattle.nf_cli.specs.Outcome.{Outcome};
-ghost use Rattle.nf_cli.specs.Means.{Means};
-ghost use Rattle.nf_cli.specs.Due.{Ended, EndsOver, IsUsageEnd, MayEnd, OnHostFault, OnSinkFault, OutputStands, WroteLine};
+ghost use Rattle.nf_cli.specs.Due.{EndsOver, OnHostFault, OnLaneFault, OnSinkFault, Tells, WroteLine};
 
-use crate::ends::{End, NfEnd};
-use crate::run::report_of_words;
+use crate::ends::NfEnd;
+use crate::works::{Work, work_of_words};
 use crate::writes::write;
 use nf_host::{Host, Sink};
+use nf_lane::Lane;
 use std::alloc::Global;
 
-/// Does what a command line asks for: reads the script by the host, runs it, and writes to the sink the report and
-/// the summary line, or one error line. Words are those after the program's name.
+/// How many lanes a call takes (own).
+pub const LANES: usize = 16;
+
+/// Does what a command line asks for: reads the script by the host, runs its tasks on the lanes, and writes to the sink the
+/// report and the summary line, or one error line. Words are those after the program's name. There are 16 lanes, which come
+/// back whatever happens; tasks run on the first of them, one after another in the order of the items.
 ///
-/// What is said of a script stands where the host tells its files, and of some files where it tells none; what is said
-/// of written bytes stands where the sink tells them. Want of memory may end any call (`End::Mem`); then nothing was
-/// written.
-pub fn nf_main<H: Host, O: Sink>(
+/// What is said of a script stands over the files that the host tells, and over some files where it tells none; what is said
+/// of written bytes stands where the sink tells them, and that a report is the lane's world's where the lane tells it. Want
+/// of memory may end any call (`End::Mem`); then nothing was written.
+pub fn nf_main<H: Host, L: Lane, O: Sink>(
     alloc: Global,
     words: &[String],
     host: &mut H,
+    lanes: Vec<L>,
     out: &mut O,
-) -> NfEnd
+) -> NfEnd<L>
+    requires lanes { length lanes.items ≡ 16 }
+    requires room { All (λ l. L.runs l < 2 ^ 62) lanes.items }
+
     // The status is that of the end.
     ensures status { result.status ≡ status_of result.end }
 
-    // The end is that of the words over the host's files: a run that ended well, the fault of the words, a script that
-    // isn't there, the place where it isn't of the form, the first item that has a fault, or an outside fault.
-    ensures ended { IfSome (H.files host.old) (λ f. Ended (map string_bytes words.now) f result.end) }
-    // What the words and files come to is how the call ends, unless something outside of the program failed or memory ran out.
-    ensures complete { IfSome (H.files host.old) (λ f. (outcome : Outcome) → Means (map string_bytes words.now) f outcome → MayEnd outcome result.end) }
-    ensures usage { IsUsageEnd (command_of (map string_bytes words.now)) result.end }
-
-    // Where the end is Ok the report and the summary line were written, and where it is SinkFault a front of them.
-    ensures output { OutputStands (map string_bytes words.now) (H.files host.old) (O.written out.old) (O.written out.new) result.end }
-    // After each other end its error line was written, or a front of it where the sink failed; after Mem nothing.
+    // There are files, those of the host where it tells them, over which the call ends, runs and writes as is due:
+    // the end is that of the words over the files and of the history's outcomes, and has its cause; whatever they come to is
+    // how the call ends, unless the host failed or memory ran out; the history is lawful, each Start has one run of a lane and
+    // each Finish a job of its own that was run, with its report; a stop of the history is the end; and what was written is
+    // the report of what the script means under the history's outcomes, with the count of its Start events.
+    ensures over { (f : Files) × Tells (H.files host.old) f × EndsOver L.Done.genuine L.Done.job L.Done.told L.Done.number L.runs L.world (map string_bytes words.now) f result.history.items result.kept.dones.items lanes.items result.lanes.items (O.written out.old) (O.written out.new) result.end }
+    // After each end but Ok, SinkFault and Mem its error line was written, or a front of it where the sink failed; after Mem
+    // nothing.
     ensures line { IfSome (O.written out.old) (λ before. IfSome (O.written out.new) (λ after. WroteLine result.end (Rose (O.faults out.old) (O.faults out.new)) before after)) }
 
-    // Whatever the host tells, there are files over which the call ends and writes as is due.
-    ensures some_files { (f : Files) × EndsOver (map string_bytes words.now) f (O.written out.old) (O.written out.new) result.end }
+    // The lanes ran as often as tasks were started, and tell what they told.
+    ensures runs { sum_by L.runs result.lanes.items ≡ sum_by L.runs lanes.items + starts result.history.items }
+    ensures worlds { map L.world result.lanes.items ≡ map L.world lanes.items }
 
     // Outside faults are counted.
     ensures host_fault { OnHostFault result.end (Rose (H.faults host.old) (H.faults host.new)) }
+    ensures lane_fault { OnLaneFault result.end (OneRose L.faults lanes.items result.lanes.items) }
     ensures sink_fault { OnSinkFault result.end (Rose (O.faults out.old) (O.faults out.new)) }
     ensures host_later { H.faults host.old ≤ H.faults host.new }
+    ensures lanes_later { NoneFell L.faults lanes.items result.lanes.items }
     ensures sink_later { O.faults out.old ≤ O.faults out.new }
 
     // The host keeps its files, and the sink tells what it told.
     ensures files { H.files host.new ≡ H.files host.old }
     ensures told { IsSome (O.written out.new) ↔ IsSome (O.written out.old) }
 {
-    let outcome = report_of_words(alloc, words, host);
+    let mut lanes = lanes;
+    let Work {
+        history,
+        kept,
+        outcome,
+    } = work_of_words(alloc, words, host, &mut lanes);
     let end = write(alloc, out, outcome);
     NfEnd {
         status: end.status(),
         end,
+        history,
+        kept,
+        lanes,
     }
 }

@@ -8,17 +8,17 @@ use Rattle.nf_lexer.specs.declared.token.Mark.TheVariants as m
 use Rattle.nf_lexer.specs.declared.token.Token.{Token}
 use Rattle.nf_lexer.specs.declared.token.Token.TheVariants as t
 use Rattle.nf_lexer.specs.declared.token.Lexeme.{Lexeme}
-use Rattle.nf_parser.specs.Gram.{Level, Gram, token, many, rule, Script, Chain, Mapped, Source, Numbers, Closure, Sum, Term, Operand}
+use Rattle.nf_parser.specs.Gram.{Level, Gram, token, many, rule, ChainTop, Chain, Mapped, Source, Numbers, Closure, Sum, Term, Operand}
 use Rattle.nf_parser.specs.Rules.{rules, word_at, word_of, number_at, number_of, within, sum_mark_at, sum_mark, term_mark_at, term_mark, joined, snoc, number_next, operand_next, operands, most_numbers, most_operands}
-use Rattle.nf_parser.specs.Spells.{Reads, reads_token, reads_end, reads_more, Spells}
+use Rattle.nf_parser.specs.Spells.{Reads, reads_token, reads_end, reads_more}
 use Rattle.nf_parser.proofs.Outcomes.{un_bind, un_either, un_rule, un_gives}
 
 -- what holds of what a token stands for
-abbrev Holds : (Tree → Type 0) → Option Tree → Type 0
+abbrev pub Holds : (Tree → Type 0) → Option Tree → Type 0
 Holds P None = Unit {0}
 Holds P (Some v) = P v
 
-token_holds : (P : Tree → Type 0) (p : Lexeme → Option Tree) → ((x : Lexeme) → Holds P (p x)) → {ts r : List Lexeme} {v : Tree} → Reads (token p) ts v r → P v
+pub token_holds : (P : Tree → Type 0) (p : Lexeme → Option Tree) → ((x : Lexeme) → Holds P (p x)) → {ts r : List Lexeme} {v : Tree} → Reads (token p) ts v r → P v
 token_holds P p h (reads_token {t = x} e) = subst (λ o. Holds P o) e (h x)
 
 within_holds : (P : Tree → Type 0) (limit n : ℕ) (p : Lexeme → Option Tree) → ((x : Lexeme) → Holds P (p x)) → (x : Lexeme) → Holds P (within limit n p x)
@@ -35,10 +35,10 @@ many_keeps P c f step h (reads_more {n = n} {a = a} {b = b} {ts = ts} {mid = mid
 -- ---- words and numbers
 
 -- a word's tree has its place and the word
-abbrev IsWord : List ℕ → Tree → Type 0
+abbrev pub IsWord : List ℕ → Tree → Type 0
 IsWord w v = v ≡ name (place_of v) w
 
-word_is : (w : List ℕ) (x : Lexeme) → Holds (IsWord w) (word_of w x)
+pub word_is : (w : List ℕ) (x : Lexeme) → Holds (IsWord w) (word_of w x)
 word_is w x = at_token x.token x.place
   where
     at_any : (b : Bool) (p : Place) → Holds (IsWord w) (if b then Some (name p w) else None)
@@ -226,7 +226,7 @@ record ScriptTree (v : Tree) : Type 0 where
   is_chain : ChainTree chain
   is : v ≡ cons (workflow place (cons chain empty)) empty
 
-script_tree : {ts r : List Lexeme} {v : Tree} → Reads (rule Script) ts v r → ScriptTree v
+script_tree : {ts r : List Lexeme} {v : Tree} → Reads (rule ChainTop) ts v r → ScriptTree v
 unfolding rules
 script_tree q =
     let a = un_bind (un_rule q) in
@@ -234,16 +234,14 @@ script_tree q =
     let c = un_bind b.second in
     let d = un_bind c.second in
     let e = un_bind d.second in
-    let f = un_bind e.second in
-    let g = un_bind f.second in
-    record { place = place_of b.a; chain = d.a; is_chain = chain_tree d.first; is = (un_gives g.second).0 }
+    record { place = place_of a.a; chain = c.a; is_chain = chain_tree c.first; is = (un_gives e.second).0 }
 
 found : (p q w x y z u n : Place) (numbers sum : Tree) → are_numbers numbers ≡ true → is_sum sum ≡ true → IsSome (chain_of (cons (workflow p (cons (call q (property w (call_with (property x (call y (property z (name u (codes "channel")) (codes "of")) numbers) (codes "map")) (closure n (cons sum empty))) (codes "view")) empty) empty)) empty))
 unfolding chain_of
 found p q w x y z u n numbers sum a b = rw (a, b) refl
 
-pub chains : (ts : List Lexeme) (v : Tree) → Spells ts v → IsSome (chain_of v)
-chains ts v q =
+pub chains : {ts r : List Lexeme} {v : Tree} → Reads (rule ChainTop) ts v r → IsSome (chain_of v)
+chains {v = v} q =
     let s = script_tree q in
     let c = s.is_chain in
     let k = c.is_mapped in

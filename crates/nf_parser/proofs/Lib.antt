@@ -4,4 +4,5 @@ pub mod Parts
 pub mod Rest
 pub mod Whole
 pub mod Chains
+pub mod TaskForms
 pub mod Decided

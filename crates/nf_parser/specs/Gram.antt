@@ -6,6 +6,8 @@ use Rattle.nf_lexer.specs.declared.token.Lexeme.{Lexeme}
 -- the rules
 pub data Level : Type 0 where
   Script : Level
+  -- the first form
+  ChainTop : Level
   Chain : Level
   Mapped : Level
   Source : Level
@@ -14,6 +16,17 @@ pub data Level : Type 0 where
   Sum : Level
   Term : Level
   Operand : Level
+  -- the second form
+  TaskTops : Level
+  Process : Level
+  Inputs : Level
+  Outputs : Level
+  -- a call of this name
+  Call : List ℕ → Level
+  ItemSource : Level
+  Items : Level
+  -- a template whose holes are of this name
+  Template : List ℕ → Level
 
 pub data Gram : Type 0 where
   -- one token, and what it stands for

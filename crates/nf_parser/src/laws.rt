@@ -5,6 +5,7 @@ ghost use Rattle.nf_value.specs.declared.place.Place.{Place};
 ghost use Rattle.nf_lexer.specs.declared.token.Lexeme.{Lexeme};
 ghost use Rattle.nf_ast.specs.Tree.{Tree};
 ghost use Rattle.nf_ast.specs.Chain.{chain_of};
+ghost use Rattle.nf_ast.specs.Tasks.{tasks_of};
 ghost use Rattle.nf_parser.specs.Spells.{Spells};
 ghost use Rattle.nf_parser.specs.Unbuilt.{IsUnbuilt};
 
@@ -28,7 +29,7 @@ pub fn some_answer()
     ensures { (ts : List Lexeme) (end : Place) → ((v : Tree) × Spells ts v) ⊎ ((p : Place) × IsUnbuilt ts end p) }
 {}
 
-/// A script that tokens spell is a chain, whose parts are found on its tree.
-pub fn some_chain()
-    ensures { (ts : List Lexeme) (v : Tree) → Spells ts v → IsSome (chain_of v) }
+/// A script that tokens spell is of one of the two forms, whose parts are found on its tree.
+pub fn some_form()
+    ensures { (ts : List Lexeme) (v : Tree) → Spells ts v → IsSome (chain_of v) ⊎ IsSome (tasks_of v) }
 {}

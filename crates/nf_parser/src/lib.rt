@@ -8,6 +8,7 @@ pub mod laws;
 mod parser;
 mod peek;
 mod rows;
+mod tasks;
 #[cfg(test)]
 mod tests;
 

@@ -1,8 +1,9 @@
 //! A whole script.
 
-ghost use Rattle.std.specs.Prelude.{◌≡◌, ◌-◌, ◌≤◌, IfOk, IfErr, IsSome, length, drop};
+ghost use Rattle.std.specs.Prelude.{◌≡◌, ◌⊎◌, ◌-◌, ◌≤◌, IfOk, IfErr, IsSome, length, drop};
 ghost use Rattle.nf_ast.specs.Tree.{Tree};
 ghost use Rattle.nf_ast.specs.Chain.{chain_of};
+ghost use Rattle.nf_ast.specs.Tasks.{tasks_of};
 ghost use Rattle.nf_ast.specs.View.{view_script};
 ghost use Rattle.nf_parser.specs.Parses.{Answers};
 ghost use Rattle.nf_parser.specs.Spells.{Spells};
@@ -17,10 +18,12 @@ use std::alloc::Global;
 
 /// The script that the tokens spell, all of the tokens. Takes time linear in their number.
 ///
-/// This version reads `workflow { channel.of(NUMBER {, NUMBER}).map { SUM }.view() }` (Nextflow reference: "Workflows"; "Channel
-/// factories", `of`; "Operators", `map` and `view`; "Syntax", closures). SUM has numbers, `it`, `+`, `-` and `*`, which binds tighter;
+/// This version reads two forms: `workflow { channel.of(NUMBER {, NUMBER}).map { SUM }.view() }`, and `process NAME { input: val NAME;
+/// output: stdout; script: "TEXT" }` with `workflow { NAME(channel.of(ITEM {, ITEM})).view() }`, where an ITEM is a number or a `'..'` string,
+/// and the holes of TEXT are of the input (Nextflow reference: "Workflows"; "Process"; "Channel factories", `of`; "Operators", `map` and
+/// `view`; "Syntax", closures). SUM has numbers, `it`, `+`, `-` and `*`, which binds tighter;
 /// each of them is read from the left. A separator may stand before and after `workflow { .. }` and before each `}`.
-/// Limits (own): 10,000 numbers, 256 terms in a sum, 256 operands in a term.
+/// Limits (own): 10,000 numbers or items, 256 terms in a sum, 256 operands in a term.
 ///
 /// # Errors
 ///
@@ -28,7 +31,7 @@ use std::alloc::Global;
 pub fn script(alloc: Global, tokens: &Tokens) -> Result<Script, ParseFault>
     ensures spelled { IfOk result (λ s. Spells tokens.now.0 (view_script s)) }
     ensures only { IfOk result (λ s. (v : Tree) → Spells tokens.now.0 v → v ≡ view_script s) }
-    ensures chain { IfOk result (λ s. IsSome (chain_of (view_script s))) }
+    ensures form { IfOk result (λ s. IsSome (chain_of (view_script s)) ⊎ IsSome (tasks_of (view_script s))) }
     ensures unbuilt { IfErr result (Refuses tokens.now.0 tokens.now.1) }
 {
     match whole(alloc, tokens.items()) {

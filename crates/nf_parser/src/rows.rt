@@ -3,13 +3,13 @@
 ghost use Rattle.std.specs.Prelude.{length};
 ghost use Rattle.nf_ast.specs.Tree.{empty, number};
 ghost use Rattle.nf_ast.specs.View.{view, views, view_closure, view_script};
-ghost use Rattle.nf_parser.specs.Gram.{rule, token, Script as ScriptRule, Chain, Mapped, Source, Numbers, Closure as ClosureRule, Sum, Term, Operand};
+ghost use Rattle.nf_parser.specs.Gram.{rule, token, either, Script as ScriptRule, ChainTop, TaskTops, Chain, Mapped, Source, Numbers, Closure as ClosureRule, Sum, Term, Operand};
 ghost use Rattle.nf_parser.specs.Rules.{maybe_separator, within, most_numbers, number_of};
 ghost use Rattle.nf_parser.specs.Outcome.{Outcome, got};
 ghost use Rattle.nf_parser.specs.Parses.{Parses};
 
 use crate::fault::Fault;
-use crate::{build, expect, peek};
+use crate::{build, expect, peek, tasks};
 use nf_ast::{Closure, Expr, Script};
 use nf_lexer::{Lexeme, Mark};
 use nf_value::Place;
@@ -25,17 +25,34 @@ pub fn script(alloc: Global, tokens: &[Lexeme]) -> Result<(Script, &[Lexeme]), F
     ensures { Parses (λ x. view_script x.0) (λ x. x.1.now) (rule ScriptRule) tokens.now result }
 {
     let rest = past_separator(tokens);
-    let (place, rest) = expect::word(rest, "workflow")?;
+    let (script, rest) = tops(alloc, rest)?;
+    let rest = past_separator(rest);
+    Ok((script, rest))
+}
+
+/// The one form or the other.
+fn tops(alloc: Global, tokens: &[Lexeme]) -> Result<(Script, &[Lexeme]), Fault>
+    ensures { Parses (λ x. view_script x.0) (λ x. x.1.now) (either (rule ChainTop) (rule TaskTops)) tokens.now result }
+{
+    match peek::word(tokens, "process") {
+        Some(_) => tasks::tops(alloc, tokens),
+        None => chain_top(alloc, tokens),
+    }
+}
+
+fn chain_top(alloc: Global, tokens: &[Lexeme]) -> Result<(Script, &[Lexeme]), Fault>
+    ensures { Parses (λ x. view_script x.0) (λ x. x.1.now) (rule ChainTop) tokens.now result }
+{
+    let (place, rest) = expect::word(tokens, "workflow")?;
     let (_, rest) = expect::mark(rest, Mark::OpenBrace)?;
     let (expr, rest) = chain(alloc, rest)?;
     let rest = past_separator(rest);
     let (_, rest) = expect::mark(rest, Mark::CloseBrace)?;
-    let rest = past_separator(rest);
     let script = build::script(alloc, place, expr)?;
     Ok((script, rest))
 }
 
-fn past_separator(tokens: &[Lexeme]) -> &[Lexeme]
+pub fn past_separator(tokens: &[Lexeme]) -> &[Lexeme]
     ensures { Outcome maybe_separator tokens.now (got empty result.now (length result.now)) }
 {
     match peek::separator(tokens) {

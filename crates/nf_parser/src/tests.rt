@@ -15,7 +15,7 @@ fn reads_worked_scripts(rt: HostRuntime) -> Result<(), Fail> {
     laws::one_place();
     laws::not_both();
     laws::some_answer();
-    laws::some_chain();
+    laws::some_form();
     for (text, want) in [
         (WORKED, "3 numbers, Times at 1:41"),
         (
@@ -142,4 +142,85 @@ fn mark_text(mark: BinaryMark) -> &'static str {
         BinaryMark::Minus => "Minus",
         BinaryMark::Times => "Times",
     }
+}
+
+const TASKS: &str =
+    "process P {\n  input:\n  val x\n  output:\n  stdout\n  script:\n  \"printf $x\"\n}\nworkflow {\n  P(channel.of('a', 7)).view()\n}\n";
+
+/// A text, and the process's name, its input, and how many pieces and items there are; or where it isn't of a form.
+const TASK_ROWS: &[(&str, &str)] = &[
+    (TASKS, "P of x: 2 pieces, 2 items"),
+    (
+        "process P { input: val x; output: stdout; script: \"a$x b${x}\"; }\nworkflow { P(channel.of('a')).view(); }",
+        "P of x: 4 pieces, 1 items",
+    ),
+    (
+        "process P { input: val x; output: stdout; script: \"\" }; workflow { P(channel.of(1)).view() }",
+        "P of x: 0 pieces, 1 items",
+    ),
+    ("process println { input: val x", "Unbuilt at 1:9"),
+    ("process P { input: path x", "Unbuilt at 1:20"),
+    (
+        "process P { input: val x; output: stdout; script: \"$y\" }",
+        "Unbuilt at 1:53",
+    ),
+    (
+        "process P { input: val x; output: stdout; script: \"$x.y\" }",
+        "Unbuilt at 1:54",
+    ),
+    (
+        "process P { input: val x; output: stdout; script: 'a' }",
+        "Unbuilt at 1:51",
+    ),
+    (
+        "process P { input: val x; output: stdout; script: \"a\" } workflow",
+        "Unbuilt at 1:57",
+    ),
+    (
+        "process P { input: val x; output: stdout; script: \"a\" }\nworkflow { Q(channel.of(1)).view() }",
+        "Unbuilt at 2:12",
+    ),
+    (
+        "process P { input: val x; output: stdout; script: \"a\" }\nworkflow { P(channel.of(1, \"b\")).view() }",
+        "Unbuilt at 2:28",
+    ),
+];
+
+#[test]
+fn reads_tasks(rt: HostRuntime) -> Result<(), Fail> {
+    for (text, want) in TASK_ROWS.iter().copied() {
+        let found = shown_tasks(rt.alloc(), text)?;
+        assert_eq!(rt; found.as_str(), want, "at {text:?}");
+    }
+    Ok(())
+}
+
+fn shown_tasks(alloc: Global, text: &str) -> Result<String, Fail> {
+    let mut out = String::new(alloc);
+    let list = tokens(alloc, text.as_bytes())?;
+    let script = match script(alloc, &list) {
+        Ok(script) => script,
+        Err(fault) => {
+            show_fault(&mut out, fault)?;
+            return Ok(out);
+        }
+    };
+    let Some(tasks) = script.tasks() else {
+        write!(out, "no tasks")?;
+        return Ok(out);
+    };
+    let name = tasks.process.name.as_str();
+    let input = tasks.process.input.as_str();
+    let pieces = tasks.pieces.len();
+    let items = tasks.items.len();
+    write!(out, "{name} of {input}: {pieces} pieces, {items} items")?;
+    Ok(out)
+}
+
+fn show_fault(out: &mut String, fault: ParseFault) -> Result<(), Fail> {
+    match fault {
+        ParseFault::Unbuilt { place } => write!(out, "Unbuilt at {place}")?,
+        ParseFault::Mem => write!(out, "Mem")?,
+    }
+    Ok(())
 }

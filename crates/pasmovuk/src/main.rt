@@ -1,10 +1,14 @@
-//! The program: its words, the real files and standard output, and the status of the call.
+//! The program: its words, the real files, child processes and standard output, and the status of the call.
 #![tactic(auto)]
 
-use nf_cli::nf_main;
-use nf_host::{FsHost, Sink, StdSink};
+ghost use Rattle.std.specs.Prelude.{◌≡◌, ◌<◌, ◌^◌, All, IfOk, length};
+ghost use Rattle.nf_lane.specs.ChildLane.{runs_of};
+
+use nf_cli::{LANES, nf_main};
+use nf_host::{FsHost, Host, Sink, StdSink};
+use nf_lane::{ChildLane, Lane};
 use std::alloc::{AllocError, Global};
-use std::process::ExitCode;
+use std::process::{ExitCode, Processes};
 use std::{env, io};
 
 /// What `--help` prints.
@@ -18,7 +22,7 @@ const HELP: &str = "pasmovuk: runs pipelines written in a subset of Nextflow DSL
 /// What `--version` prints.
 const VERSION: &str = "pasmovuk 0.1.0\n";
 
-/// The status where there is no memory for the words.
+/// The status where there is no memory for the words or the lanes.
 const NO_MEMORY: u8 = 5;
 
 /// The status where standard output fails.
@@ -33,9 +37,37 @@ fn main(rt: HostRuntime) -> ExitCode {
     if let Some(text) = own_text(&words) {
         return ExitCode::from(print(&mut out, text));
     }
+    let Ok(lanes) = lanes(alloc, &rt) else {
+        return ExitCode::from(NO_MEMORY);
+    };
     let mut host = FsHost::new(&rt);
-    let end = nf_main(alloc, &words, &mut host, &mut out);
-    ExitCode::from(end.status)
+    ExitCode::from(status(alloc, &words, &mut host, lanes, &mut out))
+}
+
+/// Makes the call, and gives its status.
+fn status<H: Host, L: Lane + Drop, O: Sink>(
+    alloc: Global,
+    words: &[String],
+    host: &mut H,
+    lanes: Vec<L>,
+    out: &mut O,
+) -> u8
+    requires count { length lanes.items ≡ 16 }
+    requires room { All (λ l. L.runs l < 2 ^ 62) lanes.items }
+{
+    nf_main(alloc, words, host, lanes, out).status
+}
+
+/// The lanes of a call, each over the system's processes.
+fn lanes<R: Processes + Copy>(alloc: Global, rt: R) -> Result<Vec<ChildLane<R>>, AllocError>
+    ensures count { IfOk result (λ v. length v.items ≡ 16) }
+    ensures room { IfOk result (λ v. All (λ l. runs_of l < 2 ^ 62) v.items) }
+{
+    let mut lanes = Vec::with_capacity(alloc, LANES)?;
+    for _ in 0..LANES {
+        lanes.push(ChildLane::new(rt))?;
+    }
+    Ok(lanes)
 }
 
 /// The words after the program's name. Where one of them isn't UTF-8, one empty word stands for them.

@@ -1,12 +1,12 @@
 use Rattle.std.proofs.Common.{◌-◌, length, drop, sym, ◌∙◌}
 use Rattle.nf_ast.specs.View.{view_script}
 use Rattle.nf_parser.specs.Unbuilt.{first_place}
-use Rattle.nf_parser.proofs.Chains.{chains}
+use Rattle.nf_parser.proofs.TaskForms.{forms}
 use Rattle.nf_parser.proofs.Whole.{farthest_of, left_le, unbuilt}
 use Rattle.nf_parser.proofs.parser.script.Goals as goal
 
-pub returns-in-Ok-clause-chain : goal.returns-in-Ok-clause-chain
-returns-in-Ok-clause-chain c = chains c.items.result.now (view_script c.in-Ok.script) c.in-Ok.ensures.0
+pub returns-in-Ok-clause-form : goal.returns-in-Ok-clause-form
+returns-in-Ok-clause-form c = forms c.items.result.now (view_script c.in-Ok.script) c.in-Ok.ensures.0
 
 pub place_at-requires : goal.place_at-requires
 place_at-requires c = left_le _ _ (farthest_of c.items.result.now c.items-in-Err-Unexpected.result.now c.in-Err-Unexpected.field-0 c.in-Err-Unexpected.left (c.items.ensures ∙ sym c.items-in-Err-Unexpected.ensures) c.in-Err-Unexpected.field-0-is c.in-Err-Unexpected.ensures)

@@ -1,0 +1,169 @@
+//! All that comes before the writing: the script, its run, and the text of its report.
+
+ghost use Rattle.std.specs.Prelude.{◌≡◌, ◌⊎◌, ℕ, ◌+◌, ◌<◌, ◌≤◌, ◌^◌, [], length, map, sum_by, string_bytes, All, IfOk, IfErr, IsSome, Err, Some};
+ghost use Rattle.nf_host.specs.Faults.{Rose};
+ghost use Rattle.nf_host.specs.Files.{Files};
+ghost use Rattle.nf_ast.specs.View.{view_script};
+ghost use Rattle.nf_ast.specs.Chain.{chain_of};
+ghost use Rattle.nf_ast.specs.Tasks.{tasks_of};
+ghost use Rattle.nf_core.specs.Machine.{starts as starts_of};
+ghost use Rattle.nf_run.specs.Form.{Form, form_of};
+ghost use Rattle.nf_run.specs.Run.{NoneFell, OneRose};
+ghost use Rattle.nf_cli.specs.Report.{report_of, summary as summary_of};
+ghost use Rattle.nf_cli.specs.Due.{OnHostFault, OnLaneFault, Tells};
+ghost use Rattle.nf_cli.specs.Work.{HasRun, HasWorked, IsEarly, IsOutputOrEnd, IsOutputOf, IsRefusal, end_of_run};
+
+use crate::ends::{End, ItemCause};
+use crate::report::report;
+use crate::scripts::script_of_words;
+use nf_ast::Script;
+use nf_core::Event;
+use nf_host::Host;
+use nf_lane::{Kept, Lane};
+use nf_run::{Ran, RunFault, laws, plan_of, run_plan, starts};
+use nf_value::{Mem, Txt, Vals};
+use std::alloc::Global;
+
+/// What a run that went well writes.
+#[derive(Drop)]
+pub struct Output {
+    /// The report.
+    pub report: Txt,
+    /// The line after it, with its line end.
+    pub summary: Txt,
+}
+
+/// What a call comes to before it writes.
+#[derive(Drop)]
+pub struct Work<L: Lane> {
+    /// All events, in their order.
+    pub history: Vec<Event>,
+    /// The jobs that were run, in the order of their Finish events.
+    pub kept: Kept<L>,
+    /// What is to be written, or how the call ends.
+    pub outcome: Result<Output, End>,
+}
+
+/// Reads the script that the words name, runs it over the lanes, and makes the texts to be written.
+pub fn work_of_words<H: Host, L: Lane>(
+    alloc: Global,
+    words: &[String],
+    host: &mut H,
+    lanes: &mut Vec<L>,
+) -> Work<L>
+    requires some { 1 ≤ length lanes.old.items }
+    requires room { All (λ l. L.runs l < 2 ^ 62) lanes.old.items }
+    ensures worked { (f : Files) × Tells (H.files host.old) f × HasWorked L.Done.genuine L.Done.job L.Done.told L.Done.number L.runs L.world (map string_bytes words.now) f result.history.items result.kept.dones.items lanes.old.items lanes.new.items result.outcome }
+    ensures refusal { IfErr result.outcome IsRefusal }
+    ensures runs { sum_by L.runs lanes.new.items ≡ sum_by L.runs lanes.old.items + starts_of result.history.items }
+    ensures worlds { map L.world lanes.new.items ≡ map L.world lanes.old.items }
+    ensures lane_fault { IfErr result.outcome (λ e. OnLaneFault e (OneRose L.faults lanes.old.items lanes.new.items)) }
+    ensures lanes_later { NoneFell L.faults lanes.old.items lanes.new.items }
+    ensures host_fault { IfErr result.outcome (λ e. OnHostFault e (Rose (H.faults host.old) (H.faults host.new))) }
+    ensures host_later { H.faults host.old ≤ H.faults host.new }
+    ensures files { H.files host.new ≡ H.files host.old }
+{
+    laws::nothing_is_booked(lanes.as_slice());
+    match script_of_words(alloc, words, host) {
+        Ok(script) => run_script(alloc, &script, lanes),
+        Err(end) => nothing_ran(alloc, end),
+    }
+}
+
+/// Nothing was run, and the call ends so.
+fn nothing_ran<L: Lane>(alloc: Global, end: End) -> Work<L>
+    ensures history { result.history.items ≡ [] }
+    ensures kept { result.kept.dones.items ≡ [] }
+    ensures outcome { result.outcome ≡ Err end }
+{
+    Work {
+        history: Vec::new(alloc),
+        kept: Kept {
+            dones: Vec::new(alloc),
+        },
+        outcome: Err(end),
+    }
+}
+
+/// Runs a script.
+fn run_script<L: Lane>(alloc: Global, script: &Script, lanes: &mut Vec<L>) -> Work<L>
+    requires form { IsSome (chain_of (view_script script.now)) ⊎ IsSome (tasks_of (view_script script.now)) }
+    requires some { 1 ≤ length lanes.old.items }
+    requires room { All (λ l. L.runs l < 2 ^ 62) lanes.old.items }
+    ensures ran { (form : Form) → form_of (view_script script.now) ≡ Some form → HasRun L.Done.genuine L.Done.job L.Done.told L.Done.number L.runs L.world form result.history.items result.kept.dones.items lanes.old.items lanes.new.items result.outcome }
+    ensures refusal { IfErr result.outcome IsRefusal }
+    ensures no_host { IfErr result.outcome (λ e. OnHostFault e ⊥) }
+    ensures runs { sum_by L.runs lanes.new.items ≡ sum_by L.runs lanes.old.items + starts_of result.history.items }
+    ensures worlds { map L.world lanes.new.items ≡ map L.world lanes.old.items }
+    ensures lane_fault { IfErr result.outcome (λ e. OnLaneFault e (OneRose L.faults lanes.old.items lanes.new.items)) }
+    ensures lanes_later { NoneFell L.faults lanes.old.items lanes.new.items }
+{
+    laws::nothing_is_booked(lanes.as_slice());
+    let Ok(plan) = plan_of(alloc, script) else {
+        return nothing_ran(alloc, End::Mem);
+    };
+    let Ran {
+        history,
+        kept,
+        outcome,
+    } = run_plan(alloc, &plan, lanes);
+    let outcome = output_or_end(alloc, outcome, &history);
+    Work {
+        history,
+        kept,
+        outcome,
+    }
+}
+
+/// What a run writes, or how it ends.
+fn output_or_end(
+    alloc: Global,
+    outcome: Result<Vals, RunFault>,
+    history: &[Event],
+) -> Result<Output, End>
+    ensures { IsOutputOrEnd outcome history.now result }
+{
+    match outcome {
+        Ok(items) => match output_of(alloc, items, starts(history)) {
+            Ok(output) => Ok(output),
+            Err(Mem) => Err(End::Mem),
+        },
+        Err(fault) => Err(run_end(fault)),
+    }
+}
+
+fn run_end(fault: RunFault) -> End
+    ensures { result ≡ end_of_run fault }
+{
+    match fault {
+        RunFault::Item { item, fault } => End::ItemFault {
+            place: fault.place,
+            fault: ItemCause::Eval { item, fault },
+        },
+        RunFault::Task {
+            process,
+            inputs,
+            n,
+            fault,
+        } => End::TaskFailed {
+            process,
+            inputs,
+            n,
+            fault,
+        },
+        RunFault::Lane => End::LaneFault,
+        RunFault::Mem => End::Mem,
+    }
+}
+
+fn output_of(alloc: Global, items: Vals, started: usize) -> Result<Output, Mem>
+    ensures report { IfOk result (λ o. o.report ≡ report_of items) }
+    ensures summary { IfOk result (λ o. o.summary ≡ summary_of started) }
+{
+    let report = report(alloc, items)?;
+    let summary = format!(in alloc; "executed {started} cached 0\n")?;
+    Ok(Output {
+        report,
+        summary: Txt::of(summary),
+    })
+}

@@ -1,0 +1,4 @@
+pub mod Chains
+pub mod Few
+pub mod Nothing
+pub mod Tasks

@@ -1,0 +1,14 @@
+//! Laws of the definitions.
+
+ghost use Rattle.std.specs.Prelude.{◌≤◌, [], length};
+ghost use Rattle.nf_run.specs.Form.{Form};
+ghost use Rattle.nf_run.specs.Run.{AreBooked, NoneFell};
+
+use nf_lane::Lane;
+
+/// Where nothing was run, lanes owe nothing: whatever the form, they are booked with the empty history, and no count fell.
+pub fn nothing_is_booked<L: Lane>(lanes: &[L])
+    requires { 1 ≤ length lanes.now }
+    ensures booked { (form : Form) → AreBooked L.Done.genuine L.Done.job L.Done.told L.Done.number L.runs L.world form [] [] lanes.now lanes.now }
+    ensures none_fell { NoneFell L.faults lanes.now lanes.now }
+{}

@@ -1,0 +1,198 @@
+//! The run of a script.
+
+ghost use Rattle.std.specs.Prelude.{◌≡◌, ℕ, ◌+◌, ◌<◌, ◌≤◌, ◌^◌, [], true, length, map, sum_by, All, IfErr, Ok};
+ghost use Rattle.nf_ast.specs.View.{view, views};
+ghost use Rattle.nf_ast.specs.Chain.{is_sum, are_numbers};
+ghost use Rattle.nf_ast.specs.Tasks.{most_items};
+ghost use Rattle.nf_core.specs.Chain.{Answered};
+ghost use Rattle.nf_core.specs.Outcome.{Chained};
+ghost use Rattle.nf_core.specs.Machine.{starts as starts_of};
+ghost use Rattle.nf_run.specs.Form.{chain, tasks};
+ghost use Rattle.nf_run.specs.Meaning.{chain_images};
+ghost use Rattle.nf_run.specs.Run.{AreBooked, fault_of_chain, IsFaultBy, IsHistoryOf, IsRunnable, NoneFell, OneRose, OnLane, RunGives};
+ghost use Rattle.nf_run.specs.View.{view_plan};
+
+use crate::plans::Plan;
+use crate::rules::{ProcessRules, SumRules, numbers};
+use nf_ast::Chain;
+use nf_core::{ChainFault, Event, Stop, TasksEnd, serial};
+use nf_job::TaskFault;
+use nf_lane::{Kept, Lane};
+use nf_process::ProcessSpec;
+use nf_value::{EvalFault, Mem, Txt, Vals, Value};
+use std::alloc::Global;
+
+/// Why a run has no result (own).
+#[derive(Drop)]
+pub enum RunFault {
+    /// An item has a fault: the first item in the text that has one, with its first fault.
+    Item {
+        item: Value,
+        fault: EvalFault,
+    },
+    /// A task failed: that of these inputs at this call of a process. `n` counts from 0 those of equal inputs.
+    Task {
+        process: Txt,
+        inputs: Vals,
+        n: u32,
+        fault: TaskFault,
+    },
+    /// A lane failed.
+    Lane,
+    /// Want of memory.
+    Mem,
+}
+
+/// How the run of a script came out (own).
+#[derive(Drop)]
+pub struct Ran<L: Lane> {
+    /// All events, in their order. That of a chain is empty.
+    pub history: Vec<Event>,
+    /// The jobs that were run, in the order of their Finish events.
+    pub kept: Kept<L>,
+    /// What the script's view got, or why it got nothing.
+    pub outcome: Result<Vals, RunFault>,
+}
+
+/// Runs a plan. Its tasks run on the first of the lanes, one after another in the order of the items; after a failing task, or
+/// where the lane failed, no further item is taken (own).
+pub fn run_plan<L: Lane>(alloc: Global, plan: &Plan<'_>, lanes: &mut Vec<L>) -> Ran<L>
+    requires runnable { IsRunnable (view_plan plan.now) }
+    requires some { 1 ≤ length lanes.old.items }
+    requires room { All (λ l. L.runs l < 2 ^ 62) lanes.old.items }
+    // Each event is legal in the state before it.
+    ensures lawful { IsHistoryOf (view_plan plan.now) result.history.items }
+    // The view got what the script means under the outcomes of the history; or an item or a task has this fault in that
+    // meaning, or a lane failed; or memory ran out.
+    ensures gives { RunGives (view_plan plan.now) result.history.items result.outcome }
+    // A run of a lane for each Start, and for each Finish a job of its own that was run.
+    ensures booked { AreBooked L.Done.genuine L.Done.job L.Done.told L.Done.number L.runs L.world (view_plan plan.now) result.history.items result.kept.dones.items lanes.old.items lanes.new.items }
+    ensures runs { sum_by L.runs lanes.new.items ≡ sum_by L.runs lanes.old.items + starts_of result.history.items }
+    ensures worlds { map L.world lanes.new.items ≡ map L.world lanes.old.items }
+    // Where a lane stopped the run, its count rose.
+    ensures lane_fault { IfErr result.outcome (λ e. OnLane e (OneRose L.faults lanes.old.items lanes.new.items)) }
+    ensures later { NoneFell L.faults lanes.old.items lanes.new.items }
+{
+    match plan {
+        Plan::Chain(chain) => run_chain(alloc, chain),
+        Plan::Tasks(spec, items) => run_tasks(alloc, spec, items, lanes),
+    }
+}
+
+/// The images of a chain's numbers. It has no tasks.
+fn run_chain<L: Lane>(alloc: Global, parts: &Chain<'_>) -> Ran<L>
+    requires numbers { are_numbers (views parts.now.numbers.now) ≡ true }
+    requires sum { is_sum (view parts.now.sum.now) ≡ true }
+    ensures history { result.history.items ≡ [] }
+    ensures kept { result.kept.dones.items ≡ [] }
+    ensures gives { RunGives (chain (views parts.now.numbers.now) (view parts.now.sum.now)) [] result.outcome }
+    ensures no_lane { IfErr result.outcome (λ e. OnLane e ⊥) }
+{
+    Ran {
+        history: Vec::new(alloc),
+        kept: Kept {
+            dones: Vec::new(alloc),
+        },
+        outcome: chain_outcome(alloc, parts),
+    }
+}
+
+/// What the view of a chain gets.
+fn chain_outcome(alloc: Global, parts: &Chain<'_>) -> Result<Vals, RunFault>
+    requires numbers { are_numbers (views parts.now.numbers.now) ≡ true }
+    requires sum { is_sum (view parts.now.sum.now) ≡ true }
+    ensures gives { RunGives (chain (views parts.now.numbers.now) (view parts.now.sum.now)) [] result }
+    ensures no_lane { IfErr result (λ e. OnLane e ⊥) }
+{
+    match images(alloc, parts) {
+        Ok(items) => Ok(items),
+        Err(fault) => Err(item_fault(fault)),
+    }
+}
+
+/// The images of a chain's numbers.
+fn images(alloc: Global, parts: &Chain<'_>) -> Result<Vals, ChainFault>
+    requires numbers { are_numbers (views parts.now.numbers.now) ≡ true }
+    requires sum { is_sum (view parts.now.sum.now) ≡ true }
+    ensures { Chained (chain_images (views parts.now.numbers.now) (view parts.now.sum.now)) result }
+{
+    let items = numbers(alloc, parts.numbers)?;
+    nf_core::chain(alloc, &items, &SumRules { sum: parts.sum })
+}
+
+fn item_fault(fault: ChainFault) -> RunFault
+    ensures { result ≡ fault_of_chain fault }
+{
+    match fault {
+        ChainFault::Item { item, fault } => RunFault::Item { item, fault },
+        ChainFault::Mem => RunFault::Mem,
+    }
+}
+
+/// Runs the tasks of a process over some items, on the first of the lanes.
+fn run_tasks<L: Lane>(alloc: Global, spec: &ProcessSpec, items: &Vals, lanes: &mut Vec<L>) -> Ran<L>
+    requires small { length items.now ≤ most_items }
+    requires some { 1 ≤ length lanes.old.items }
+    requires room { All (λ l. L.runs l < 2 ^ 62) lanes.old.items }
+    ensures lawful { IsHistoryOf (tasks spec.now items.now) result.history.items }
+    ensures gives { RunGives (tasks spec.now items.now) result.history.items result.outcome }
+    ensures booked { AreBooked L.Done.genuine L.Done.job L.Done.told L.Done.number L.runs L.world (tasks spec.now items.now) result.history.items result.kept.dones.items lanes.old.items lanes.new.items }
+    ensures runs { sum_by L.runs lanes.new.items ≡ sum_by L.runs lanes.old.items + starts_of result.history.items }
+    ensures worlds { map L.world lanes.new.items ≡ map L.world lanes.old.items }
+    ensures lane_fault { IfErr result.outcome (λ e. OnLane e (OneRose L.faults lanes.old.items lanes.new.items)) }
+    ensures later { NoneFell L.faults lanes.old.items lanes.new.items }
+{
+    let rules = ProcessRules { spec };
+    let end = serial(alloc, items, &rules, &mut lanes[0]);
+    let TasksEnd {
+        history,
+        kept,
+        outcome,
+    } = end;
+    let outcome = match outcome {
+        Ok(items) => Ok(items),
+        Err(stop) => Err(task_fault(spec, stop)),
+    };
+    Ran {
+        history,
+        kept,
+        outcome,
+    }
+}
+
+/// A stop as the fault of a run.
+fn task_fault(spec: &ProcessSpec, stop: Stop) -> RunFault
+    ensures { IsFaultBy spec.now.name stop result }
+{
+    match stop {
+        Stop::Task {
+            inputs,
+            n,
+            fault,
+            ..
+        } => match spec.name.copy() {
+            Ok(process) => RunFault::Task {
+                process,
+                inputs,
+                n,
+                fault,
+            },
+            Err(Mem) => RunFault::Mem,
+        },
+        Stop::Outside(_) => RunFault::Lane,
+        Stop::Mem => RunFault::Mem,
+    }
+}
+
+/// How many tasks were started. Takes no memory.
+pub fn starts(history: &[Event]) -> usize
+    ensures { result ≡ starts_of history.now }
+{
+    let mut count = 0;
+    for event in history {
+        if let Event::Start { .. } = event {
+            count += 1;
+        }
+    }
+    count
+}

@@ -1,1 +1,0 @@
-workflow { channel.of(3, 1, 2).map { it * 10 }.view() }
