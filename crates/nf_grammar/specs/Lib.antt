@@ -1,0 +1,4 @@
+pub mod Gram
+pub mod Reads
+pub mod Outcome
+pub mod Parts
