@@ -115,12 +115,49 @@ fn children_end(rt: HostRuntime) -> Result<(), Fail> {
         ("head -c 1048576 /dev/zero", true, 0, 1_048_576),
         ("head -c 1048577 /dev/zero; exit 4", true, 4, BAD),
         ("cat", true, 0, 0),
+        (
+            "readlink /proc/$$/fd/0",
+            true,
+            0,
+            "/dev/null\n".len() as i64,
+        ),
+        (
+            "test \"$(readlink /proc/$$/fd/2)\" = \"$(readlink /proc/$PPID/fd/2)\"",
+            false,
+            0,
+            UNWANTED,
+        ),
+        ("printf \"$no_such_name\"", true, 2, 0),
         ("printf '\0'", true, FAILED.0, FAILED.1),
     ];
     for (script, wants_stdout, exit, kept) in rows {
         let ended = child_outcome(&rt, rt.alloc(), script, wants_stdout)?;
         assert_eq!(rt; ended, (exit, kept), "{script}");
     }
+    Ok(())
+}
+
+// What a job printed on a lane over children.
+fn printed(rt: &HostRuntime, alloc: Global, script: &str) -> Result<String, Fail> {
+    let job = job(alloc, script, true)?;
+    let mut lane = ChildLane::new(rt);
+    let Ok(done) = lane.run(alloc, &job) else {
+        return Err(Fail::from("no report"));
+    };
+    let Captured::Text(text) = &done.report().captured else {
+        return Err(Fail::from("no text"));
+    };
+    Ok(String::from_str(alloc, text.as_str().trim_end())?)
+}
+
+#[test]
+fn a_run_starts_one_child(rt: HostRuntime) -> Result<(), Fail> {
+    let alloc = rt.alloc();
+    let path = printed(&rt, alloc, "mktemp")?;
+    let append = format!(in alloc; "printf x >> {path}; printf y")?;
+    assert_eq!(rt; printed(&rt, alloc, append.as_str())?.as_str(), "y");
+    let read = format!(in alloc; "cat {path}; rm {path}")?;
+    assert_eq!(rt; printed(&rt, alloc, read.as_str())?.as_str(), "x");
     Ok(())
 }
 
