@@ -1,0 +1,15 @@
+// The second item's task fails, so the third isn't taken.
+process CHECK {
+    input:
+    val limit
+
+    output:
+    stdout
+
+    script:
+    "test 2 -gt $limit; printf 'within %s' $limit"
+}
+
+workflow {
+    CHECK(channel.of(1, 2, 0)).view()
+}
