@@ -1,0 +1,9 @@
+pub mod Tally
+pub mod Members
+pub mod Pushes
+pub mod Each
+pub mod Promised
+pub mod Deep
+pub mod Inner
+pub mod Distinct
+pub mod Recall

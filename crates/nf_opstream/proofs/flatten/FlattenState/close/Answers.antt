@@ -1,0 +1,8 @@
+use Rattle.std.proofs.Common.{refl}
+use Rattle.nf_opstream.specs.Rows.{flatten_row}
+use Rattle.nf_opstream.proofs.Each.{flatten_law}
+use Rattle.nf_opstream.proofs.Promised.{ends_silent}
+use Rattle.nf_opstream.proofs.flatten.FlattenState.close.Goals as goal
+
+pub returns : goal.returns
+returns c = λ p fine. ends_silent flatten_row flatten_law p fine c.new.result.items c.new.ensures.items refl

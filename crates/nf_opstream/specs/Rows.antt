@@ -1,0 +1,47 @@
+-- The operators of this crate.
+use Rattle.std.specs.Prelude.{◌==◌, ℕ, List, [], ◌∷◌, map, filter, cond, not, Ok, Err}
+use Rattle.nf_value.specs.Plain.{Plain}
+use Rattle.nf_value.specs.Truth.{truth_of}
+use Rattle.nf_bag.specs.Bag.{count}
+use Rattle.nf_bag.specs.Sorted.{distinct_of}
+use Rattle.nf_opstream.specs.Push.{Push}
+use Rattle.nf_opstream.specs.Fault.{too_deep}
+use Rattle.nf_opstream.specs.Operator.{Operator}
+use Rattle.nf_opstream.specs.Alone.{alone, is_too_deep}
+use Rattle.nf_opstream.specs.Nested.{opened, leaves}
+
+-- these values at the first output
+abbrev pub first_out : List Plain → List (ℕ × Plain)
+first_out vs = map (λ v. (0, v)) vs
+
+-- `view`, `set`, `mix` and `concat`: the items of all ports
+abbrev pub pass_row : Operator
+pass_row = alone (λ x. (0, x.item) ∷ [])
+
+-- `map`: the images
+abbrev pub map_row : Operator
+map_row = alone (λ x. (0, x.answer) ∷ [])
+
+-- `filter`: the items whose answer is true
+abbrev pub filter_row : Operator
+filter_row = alone (λ x. cond (truth_of x.answer) ((0, x.item) ∷ []) [])
+
+-- `flatMap`: what stands in each image
+abbrev pub flat_map_row : Operator
+flat_map_row = alone (λ x. first_out (opened x.answer))
+
+-- `flatten`: what stands in each item, at any depth
+abbrev pub flatten_row : Operator
+flatten_row = alone (λ x. first_out (leaves x.item))
+
+abbrev pub items_in : List Push → List Plain
+items_in q = map (λ x. x.item) q
+
+-- `unique`: each distinct item once
+abbrev pub unique_row : Operator
+unique_row = record {
+  items = λ q out. cond (out == 0) (distinct_of (filter (λ v. not (is_too_deep v)) (items_in q))) [];
+  faults = λ q. map too_deep (filter is_too_deep (items_in q));
+  gives = λ p x. cond (is_too_deep x.item) (Err (too_deep x.item)) (Ok (cond (count x.item (items_in p) == 0) ((0, x.item) ∷ []) []));
+  ends = λ p. Ok [];
+}

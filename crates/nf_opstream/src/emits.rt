@@ -1,0 +1,44 @@
+//! Emits: values with the numbers of their outputs, none too deep.
+
+ghost use Rattle.std.specs.Prelude.{◌≡◌, ◌∷◌, [], Ok, MatchResult};
+ghost use Rattle.nf_value.specs.View.{plain_of};
+ghost use Rattle.nf_opstream.specs.Promise.{emits_of, IsFault};
+ghost use Rattle.nf_opstream.specs.Alone.{is_too_deep as is_deep, judged};
+
+use nf_bag::OpFault;
+use nf_value::{Value, depth};
+use std::alloc::Global;
+
+/// How deep a value may be that is emitted.
+const DEEPEST: u64 = 64;
+
+pub(crate) fn is_too_deep(value: &Value) -> bool
+    ensures { result ≡ is_deep (plain_of value.now) }
+{
+    depth(value) > DEEPEST
+}
+
+/// A value to the first output.
+pub(crate) fn one(alloc: Global, value: Value) -> Result<Vec<(u32, Value)>, OpFault>
+    ensures { let due = judged ((0, plain_of value) ∷ []) in MatchResult result (λ es. due ≡ Ok (emits_of es.items)) (IsFault due) }
+{
+    if is_too_deep(&value) {
+        return Err(OpFault::TooDeep { item: value });
+    }
+    let mut emits = Vec::new(alloc);
+    emits.push((0, value))?;
+    Ok(emits)
+}
+
+/// The emits, or the first value among them that is too deep.
+pub(crate) fn judge(mut emits: Vec<(u32, Value)>) -> Result<Vec<(u32, Value)>, OpFault>
+    ensures { let due = judged (emits_of emits.items) in MatchResult result (λ es. due ≡ Ok (emits_of es.items)) (IsFault due) }
+{
+    for i in 0..emits.len() {
+        if is_too_deep(&emits[i].1) {
+            let (_, item) = emits.swap_remove(i);
+            return Err(OpFault::TooDeep { item });
+        }
+    }
+    Ok(emits)
+}

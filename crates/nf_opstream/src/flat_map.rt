@@ -1,0 +1,59 @@
+//! `flatMap`, which emits what stands in the images of its items.
+
+ghost use Rattle.std.specs.Prelude.{List, MatchResult};
+ghost use Rattle.nf_value.specs.View.{plain_of};
+ghost use Rattle.nf_opstream.specs.Push.{Push, push_of};
+ghost use Rattle.nf_opstream.specs.Operator.{AreFine};
+ghost use Rattle.nf_opstream.specs.Promise.{emits_of, HasEmitted, HasEnded, PushRefused, CloseRefused};
+ghost use Rattle.nf_opstream.specs.Rows.{flat_map_row};
+
+use crate::emits::judge;
+use crate::nested::opened;
+use nf_bag::{OpFault, OpOpts};
+use nf_value::{Mem, Value};
+use std::alloc::Global;
+
+/// The state of `flatMap`: of an answer that is a list its items are emitted, of a map its pairs as maps of `key` and `value` (own), and any other answer itself (Nextflow reference, "Operators: flatMap").
+#[derive(Drop)]
+pub struct FlatMapState {
+    alloc: Global,
+}
+
+impl FlatMapState {
+    /// The state before the first item. No option is read.
+    ///
+    /// # Errors
+    ///
+    /// `Mem`, which this operator doesn't answer.
+    pub fn begin(alloc: Global, _opts: &OpOpts) -> Result<FlatMapState, Mem> {
+        Ok(FlatMapState { alloc })
+    }
+
+    /// Takes an item with its answer, and gives what is emitted for it, each value with its output.
+    ///
+    /// # Errors
+    ///
+    /// `TooDeep` where a value that is to be emitted is deeper than 64, `Mem` where there is no memory. Nothing is to be pushed after that.
+    pub fn push(
+        &mut self,
+        port: u32,
+        item: Value,
+        answer: Value,
+    ) -> Result<Vec<(u32, Value)>, OpFault>
+        ensures { let x = push_of port (plain_of item) (plain_of answer) in (p : List Push) → AreFine flat_map_row p → MatchResult result (λ es. HasEmitted flat_map_row p x (emits_of es.items)) (PushRefused flat_map_row p x) }
+    {
+        let emits = opened(self.alloc, answer)?;
+        judge(emits)
+    }
+
+    /// Ends the input. Nothing is emitted then.
+    ///
+    /// # Errors
+    ///
+    /// `Mem`, which this operator doesn't answer.
+    pub fn close(&mut self) -> Result<Vec<(u32, Value)>, OpFault>
+        ensures { (p : List Push) → AreFine flat_map_row p → MatchResult result (λ es. HasEnded flat_map_row p (emits_of es.items)) (CloseRefused flat_map_row p) }
+    {
+        Ok(Vec::new(self.alloc))
+    }
+}

@@ -1,0 +1,57 @@
+//! `map`, which emits the images of its items.
+
+ghost use Rattle.std.specs.Prelude.{List, MatchResult};
+ghost use Rattle.nf_value.specs.View.{plain_of};
+ghost use Rattle.nf_opstream.specs.Push.{Push, push_of};
+ghost use Rattle.nf_opstream.specs.Operator.{AreFine};
+ghost use Rattle.nf_opstream.specs.Promise.{emits_of, HasEmitted, HasEnded, PushRefused, CloseRefused};
+ghost use Rattle.nf_opstream.specs.Rows.{map_row};
+
+use crate::emits::one;
+use nf_bag::{OpFault, OpOpts};
+use nf_value::{Mem, Value};
+use std::alloc::Global;
+
+/// The state of `map`: the answers of its closure are emitted (Nextflow reference, "Operators: map").
+#[derive(Drop)]
+pub struct MapState {
+    alloc: Global,
+}
+
+impl MapState {
+    /// The state before the first item. No option is read.
+    ///
+    /// # Errors
+    ///
+    /// `Mem`, which this operator doesn't answer.
+    pub fn begin(alloc: Global, _opts: &OpOpts) -> Result<MapState, Mem> {
+        Ok(MapState { alloc })
+    }
+
+    /// Takes an item with its answer, and gives what is emitted for it, each value with its output.
+    ///
+    /// # Errors
+    ///
+    /// `TooDeep` where a value that is to be emitted is deeper than 64, `Mem` where there is no memory. Nothing is to be pushed after that.
+    pub fn push(
+        &mut self,
+        port: u32,
+        item: Value,
+        answer: Value,
+    ) -> Result<Vec<(u32, Value)>, OpFault>
+        ensures { let x = push_of port (plain_of item) (plain_of answer) in (p : List Push) → AreFine map_row p → MatchResult result (λ es. HasEmitted map_row p x (emits_of es.items)) (PushRefused map_row p x) }
+    {
+        one(self.alloc, answer)
+    }
+
+    /// Ends the input. Nothing is emitted then.
+    ///
+    /// # Errors
+    ///
+    /// `Mem`, which this operator doesn't answer.
+    pub fn close(&mut self) -> Result<Vec<(u32, Value)>, OpFault>
+        ensures { (p : List Push) → AreFine map_row p → MatchResult result (λ es. HasEnded map_row p (emits_of es.items)) (CloseRefused map_row p) }
+    {
+        Ok(Vec::new(self.alloc))
+    }
+}
