@@ -5,5 +5,6 @@ pub mod Each
 pub mod Promised
 pub mod Deep
 pub mod Inner
+pub mod Places
 pub mod Distinct
 pub mod Recall

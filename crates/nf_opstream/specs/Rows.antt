@@ -1,6 +1,7 @@
 -- The operators of this crate.
-use Rattle.std.specs.Prelude.{◌==◌, ℕ, List, [], ◌∷◌, map, filter, cond, not, Ok, Err}
-use Rattle.nf_value.specs.Plain.{Plain}
+use Rattle.std.specs.Prelude.{◌==◌, ℕ, nat_lt, pos, negsuc, take, List, [], ◌∷◌, map, filter, cond, not, Ok, Err}
+use Rattle.std.specs.List.{enumerate_from}
+use Rattle.nf_value.specs.Plain.{Plain, null, truth, int, text, file, list, table}
 use Rattle.nf_value.specs.Truth.{truth_of}
 use Rattle.nf_bag.specs.Bag.{count}
 use Rattle.nf_bag.specs.Sorted.{distinct_of}
@@ -8,7 +9,7 @@ use Rattle.nf_opstream.specs.Push.{Push}
 use Rattle.nf_opstream.specs.Fault.{too_deep}
 use Rattle.nf_opstream.specs.Operator.{Operator}
 use Rattle.nf_opstream.specs.Alone.{alone, is_too_deep}
-use Rattle.nf_opstream.specs.Nested.{opened, leaves}
+use Rattle.nf_opstream.specs.Nested.{opened, leaves, items_of}
 
 -- these values at the first output
 abbrev pub first_out : List Plain → List (ℕ × Plain)
@@ -33,6 +34,35 @@ flat_map_row = alone (λ x. first_out (opened x.answer))
 -- `flatten`: what stands in each item, at any depth
 abbrev pub flatten_row : Operator
 flatten_row = alone (λ x. first_out (leaves x.item))
+
+-- an item goes to the output that its answer names, if there is one
+abbrev pub branched : ℕ → Plain → Plain → List (ℕ × Plain)
+branched outs (int (pos i)) v = cond (nat_lt i outs) ((i, v) ∷ []) []
+branched outs (int (negsuc i)) v = []
+branched outs null v = []
+branched outs (truth b) v = []
+branched outs (text t) v = []
+branched outs (file n d l) v = []
+branched outs (list vs) v = []
+branched outs (table ps) v = []
+
+-- `branch` with this many labels: each item to the output of its first true label
+abbrev pub branch_row : ℕ → Operator
+branch_row outs = alone (λ x. branched outs x.answer x.item)
+
+-- the items of a list go each to the output of its place, as far as there are outputs
+abbrev pub labelled : ℕ → Plain → List (ℕ × Plain)
+labelled outs (list vs) = enumerate_from 0 (take outs (items_of vs))
+labelled outs null = []
+labelled outs (truth b) = []
+labelled outs (int i) = []
+labelled outs (text t) = []
+labelled outs (file n d l) = []
+labelled outs (table ps) = []
+
+-- `multiMap` with this many labels: the images by each label to its output
+abbrev pub multi_map_row : ℕ → Operator
+multi_map_row outs = alone (λ x. labelled outs x.answer)
 
 abbrev pub items_in : List Push → List Plain
 items_in q = map (λ x. x.item) q

@@ -18,15 +18,15 @@ pub(crate) fn is_too_deep(value: &Value) -> bool
     depth(value) > DEEPEST
 }
 
-/// A value to the first output.
-pub(crate) fn one(alloc: Global, value: Value) -> Result<Vec<(u32, Value)>, OpFault>
-    ensures { let due = judged ((0, plain_of value) ∷ []) in MatchResult result (λ es. due ≡ Ok (emits_of es.items)) (IsFault due) }
+/// A value to an output.
+pub(crate) fn one(alloc: Global, out: u32, value: Value) -> Result<Vec<(u32, Value)>, OpFault>
+    ensures { let due = judged ((out, plain_of value) ∷ []) in MatchResult result (λ es. due ≡ Ok (emits_of es.items)) (IsFault due) }
 {
     if is_too_deep(&value) {
         return Err(OpFault::TooDeep { item: value });
     }
     let mut emits = Vec::new(alloc);
-    emits.push((0, value))?;
+    emits.push((out, value))?;
     Ok(emits)
 }
 

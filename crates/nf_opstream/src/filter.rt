@@ -44,7 +44,7 @@ impl FilterState {
         if !truth(&answer) {
             return Ok(Vec::new(self.alloc));
         }
-        one(self.alloc, item)
+        one(self.alloc, 0, item)
     }
 
     /// Ends the input. Nothing is emitted then.

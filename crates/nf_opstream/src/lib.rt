@@ -1,19 +1,26 @@
 //! Operators that emit as their items come: each with its meaning over whole inputs, and the promise that the order of its items doesn't matter.
 #![tactic(auto)]
 
+mod branch;
 mod emits;
 mod filter;
 mod flat_map;
 mod flatten;
 pub mod laws;
 mod map;
+mod multi_map;
 mod nested;
 mod pass;
 mod unique;
 
+pub use branch::BranchState;
 pub use filter::FilterState;
 pub use flat_map::FlatMapState;
 pub use flatten::FlattenState;
 pub use map::MapState;
+pub use multi_map::MultiMapState;
 pub use pass::PassState;
 pub use unique::UniqueState;
+
+#[cfg(test)]
+mod tests;

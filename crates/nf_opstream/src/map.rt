@@ -41,7 +41,7 @@ impl MapState {
     ) -> Result<Vec<(u32, Value)>, OpFault>
         ensures { let x = push_of port (plain_of item) (plain_of answer) in (p : List Push) → AreFine map_row p → MatchResult result (λ es. HasEmitted map_row p x (emits_of es.items)) (PushRefused map_row p x) }
     {
-        one(self.alloc, answer)
+        one(self.alloc, 0, answer)
     }
 
     /// Ends the input. Nothing is emitted then.

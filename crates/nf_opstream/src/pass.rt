@@ -41,7 +41,7 @@ impl PassState {
     ) -> Result<Vec<(u32, Value)>, OpFault>
         ensures { let x = push_of port (plain_of item) (plain_of answer) in (p : List Push) → AreFine pass_row p → MatchResult result (λ es. HasEmitted pass_row p x (emits_of es.items)) (PushRefused pass_row p x) }
     {
-        one(self.alloc, item)
+        one(self.alloc, 0, item)
     }
 
     /// Ends the input. Nothing is emitted then.
