@@ -9,8 +9,9 @@ use Rattle.nf_opstream.specs.Fault.{Fault}
 use Rattle.nf_opstream.specs.Operator.{to_out, oks, errs, emitted, AreFine, IsOperator}
 use Rattle.nf_value.specs.Truth.{truth_of}
 use Rattle.nf_opstream.specs.Alone.{judged, each, alone}
+use Rattle.nf_opstream.specs.Columns.{transposed}
 use Rattle.nf_opstream.specs.Nested.{opened, leaves}
-use Rattle.nf_opstream.specs.Rows.{first_out, pass_row, map_row, filter_row, flat_map_row, flatten_row, branched, branch_row, labelled, multi_map_row}
+use Rattle.nf_opstream.specs.Rows.{first_out, pass_row, map_row, filter_row, flat_map_row, flatten_row, branched, branch_row, labelled, multi_map_row, transpose_row}
 use Rattle.nf_opstream.proofs.Tally.{one_if, Same, tally-append, sub_flat_map, same_flat_map, sub_trans, sub_of_same, same_refl, same_trans, same_of_eq, count_is_passes}
 use Rattle.nf_opstream.proofs.Members.{In, contains, in_flat_map}
 use Rattle.nf_opstream.proofs.Pushes.{within_sub, input_same, in_input, sub_bag, same_bag, none_of_same}
@@ -83,3 +84,6 @@ branch_law outs = alone_law (λ x. branched outs x.answer x.item)
 
 pub multi_map_law : (outs : ℕ) → IsOperator (multi_map_row outs)
 multi_map_law outs = alone_law (λ x. labelled outs x.answer)
+
+pub transpose_law : IsOperator transpose_row
+transpose_law = each_law (λ x. transposed x.item)

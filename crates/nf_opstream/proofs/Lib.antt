@@ -6,5 +6,6 @@ pub mod Promised
 pub mod Deep
 pub mod Inner
 pub mod Places
+pub mod Tuples
 pub mod Distinct
 pub mod Recall

@@ -4,5 +4,6 @@ pub mod Operator
 pub mod Promise
 pub mod Alone
 pub mod Nested
+pub mod Columns
 pub mod Rows
 pub mod Seen

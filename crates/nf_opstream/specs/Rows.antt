@@ -8,7 +8,8 @@ use Rattle.nf_bag.specs.Sorted.{distinct_of}
 use Rattle.nf_opstream.specs.Push.{Push}
 use Rattle.nf_opstream.specs.Fault.{too_deep}
 use Rattle.nf_opstream.specs.Operator.{Operator}
-use Rattle.nf_opstream.specs.Alone.{alone, is_too_deep}
+use Rattle.nf_opstream.specs.Alone.{each, alone, is_too_deep}
+use Rattle.nf_opstream.specs.Columns.{transposed}
 use Rattle.nf_opstream.specs.Nested.{opened, leaves, items_of}
 
 -- these values at the first output
@@ -63,6 +64,10 @@ labelled outs (table ps) = []
 -- `multiMap` with this many labels: the images by each label to its output
 abbrev pub multi_map_row : ℕ → Operator
 multi_map_row outs = alone (λ x. labelled outs x.answer)
+
+-- `transpose`: of each tuple the tuples of its columns
+abbrev pub transpose_row : Operator
+transpose_row = each (λ x. transposed x.item)
 
 abbrev pub items_in : List Push → List Plain
 items_in q = map (λ x. x.item) q

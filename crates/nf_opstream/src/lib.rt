@@ -2,6 +2,7 @@
 #![tactic(auto)]
 
 mod branch;
+mod columns;
 mod emits;
 mod filter;
 mod flat_map;
@@ -11,6 +12,7 @@ mod map;
 mod multi_map;
 mod nested;
 mod pass;
+mod transpose;
 mod unique;
 
 pub use branch::BranchState;
@@ -20,6 +22,7 @@ pub use flatten::FlattenState;
 pub use map::MapState;
 pub use multi_map::MultiMapState;
 pub use pass::PassState;
+pub use transpose::TransposeState;
 pub use unique::UniqueState;
 
 #[cfg(test)]

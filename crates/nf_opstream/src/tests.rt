@@ -2,7 +2,7 @@
 
 use crate::{
     BranchState, FilterState, FlatMapState, FlattenState, MapState, MultiMapState, PassState,
-    UniqueState,
+    TransposeState, UniqueState,
 };
 use nf_bag::{OpFault, OpOpts, Total, sorted};
 use nf_value::{Mem, Pairs, Txt, Vals, Value, text_of};
@@ -256,5 +256,56 @@ fn multi_map_sends_an_image_to_each_output(rt: HostRuntime) -> Result<(), Fail> 
         let second = at_output(alloc, emits.as_slice(), 1)?;
         assert_eq!(rt; second.as_str(), "[3, [1, [3, 2]], [k:4]]");
     }
+    Ok(())
+}
+
+/// The tuples [1, [2, 3], [4, 5, 6]], [7, 8] and [9, []].
+fn tuple(alloc: Global, place: usize) -> Result<Value, Mem> {
+    let mut columns = Vec::new(alloc);
+    match place {
+        0 => {
+            columns.push(Value::Int(1))?;
+            columns.push(pair(alloc, Value::Int(2), Value::Int(3))?)?;
+            let longer = vec![in alloc; Value::Int(4), Value::Int(5), Value::Int(6)]?;
+            columns.push(Value::List(Vals::of(longer)))?;
+        }
+        1 => {
+            columns.push(Value::Int(7))?;
+            columns.push(Value::Int(8))?;
+        }
+        _ => {
+            columns.push(Value::Int(9))?;
+            columns.push(Value::List(Vals::of(Vec::new(alloc))))?;
+        }
+    }
+    Ok(Value::List(Vals::of(columns)))
+}
+
+#[test]
+fn transpose_goes_to_the_shortest_column(rt: HostRuntime) -> Result<(), Fail> {
+    let alloc = rt.alloc();
+    for order in ORDERS {
+        let mut state = TransposeState::begin(alloc, &options(0))?;
+        let mut emits = Vec::new(alloc);
+        for place in order {
+            add(
+                &mut emits,
+                state.push(0, tuple(alloc, *place)?, Value::Null),
+            )?;
+        }
+        add(&mut emits, state.close())?;
+        let found = at_output(alloc, emits.as_slice(), 0)?;
+        assert_eq!(rt; found.as_str(), "[[1, 2, 4], [1, 3, 5], [7, 8]]");
+    }
+    let mut state = TransposeState::begin(alloc, &options(0))?;
+    let answer = state.push(0, Value::Int(7), Value::Null);
+    assert!(rt;
+        matches!(
+            &answer,
+            Err(OpFault::NotATuple {
+                item: Value::Int(7)
+            })
+        )
+    );
     Ok(())
 }

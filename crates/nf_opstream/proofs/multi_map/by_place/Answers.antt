@@ -1,7 +1,5 @@
-use Rattle.std.proofs.Common.{◌<◌, arith, ap, map}
-use Rattle.nf_value.specs.View.{plain_of}
-use Rattle.nf_opstream.specs.Promise.{emits_of}
-use Rattle.nf_opstream.proofs.Places.{place_more, place_full, place_end}
+use Rattle.std.proofs.Common.{◌<◌, arith}
+use Rattle.nf_opstream.proofs.Places.{place_more}
 use Rattle.nf_opstream.proofs.multi_map.by_place.Goals as goal
 
 pub loop-value-preserved : goal.loop-value-preserved

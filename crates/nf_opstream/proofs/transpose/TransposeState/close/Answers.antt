@@ -1,0 +1,8 @@
+use Rattle.std.proofs.Common.{refl}
+use Rattle.nf_opstream.specs.Rows.{transpose_row}
+use Rattle.nf_opstream.proofs.Each.{transpose_law}
+use Rattle.nf_opstream.proofs.Promised.{ends_silent}
+use Rattle.nf_opstream.proofs.transpose.TransposeState.close.Goals as goal
+
+pub returns : goal.returns
+returns c = λ p fine. ends_silent transpose_row transpose_law p fine c.new.result.items c.new.ensures.items refl
