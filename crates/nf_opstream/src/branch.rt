@@ -1,6 +1,6 @@
 //! `branch`, which emits each item to the output of its first true label.
 
-ghost use Rattle.std.specs.Prelude.{◌≡◌, ◌∷◌, [], List, IfOk, MatchResult, MatchOption};
+ghost use Rattle.std.specs.Prelude.{◌≡◌, ◌∷◌, [], List, IfOk, IsOk, MatchResult, MatchOption};
 ghost use Rattle.nf_value.specs.Plain.{Plain};
 ghost use Rattle.nf_value.specs.View.{plain_of};
 ghost use Rattle.nf_opstream.specs.Push.{Push, push_of};
@@ -28,7 +28,8 @@ impl BranchState {
     ///
     /// `Mem`, which this operator doesn't answer.
     pub fn begin(alloc: Global, opts: &OpOpts) -> Result<BranchState, Mem>
-        ensures { IfOk result (λ s. s.outs ≡ opts.now.outs) }
+        ensures outs { IfOk result (λ s. s.outs ≡ opts.now.outs) }
+        ensures begun { IsOk result }
     {
         Ok(BranchState {
             alloc,
@@ -62,7 +63,8 @@ impl BranchState {
     ///
     /// `Mem`, which this operator doesn't answer.
     pub fn close(&mut self) -> Result<Vec<(u32, Value)>, OpFault>
-        ensures { (p : List Push) → AreFine (branch_row self.old.outs) p → MatchResult result (λ es. HasEnded (branch_row self.old.outs) p (emits_of es.items)) (CloseRefused (branch_row self.old.outs) p) }
+        ensures ends { (p : List Push) → AreFine (branch_row self.old.outs) p → MatchResult result (λ es. HasEnded (branch_row self.old.outs) p (emits_of es.items)) (CloseRefused (branch_row self.old.outs) p) }
+        ensures ended { IsOk result }
     {
         Ok(Vec::new(self.alloc))
     }

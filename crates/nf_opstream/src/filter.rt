@@ -1,6 +1,6 @@
 //! `filter`, which emits the items that pass its test.
 
-ghost use Rattle.std.specs.Prelude.{List, MatchResult};
+ghost use Rattle.std.specs.Prelude.{List, IsOk, MatchResult};
 ghost use Rattle.nf_value.specs.View.{plain_of};
 ghost use Rattle.nf_opstream.specs.Push.{Push, push_of};
 ghost use Rattle.nf_opstream.specs.Operator.{AreFine};
@@ -24,7 +24,9 @@ impl FilterState {
     /// # Errors
     ///
     /// `Mem`, which this operator doesn't answer.
-    pub fn begin(alloc: Global, _opts: &OpOpts) -> Result<FilterState, Mem> {
+    pub fn begin(alloc: Global, _opts: &OpOpts) -> Result<FilterState, Mem>
+        ensures { IsOk result }
+    {
         Ok(FilterState { alloc })
     }
 
@@ -53,7 +55,8 @@ impl FilterState {
     ///
     /// `Mem`, which this operator doesn't answer.
     pub fn close(&mut self) -> Result<Vec<(u32, Value)>, OpFault>
-        ensures { (p : List Push) → AreFine filter_row p → MatchResult result (λ es. HasEnded filter_row p (emits_of es.items)) (CloseRefused filter_row p) }
+        ensures ends { (p : List Push) → AreFine filter_row p → MatchResult result (λ es. HasEnded filter_row p (emits_of es.items)) (CloseRefused filter_row p) }
+        ensures ended { IsOk result }
     {
         Ok(Vec::new(self.alloc))
     }

@@ -1,6 +1,6 @@
 //! `flatMap`, which emits what stands in the images of its items.
 
-ghost use Rattle.std.specs.Prelude.{List, MatchResult};
+ghost use Rattle.std.specs.Prelude.{List, IsOk, MatchResult};
 ghost use Rattle.nf_value.specs.View.{plain_of};
 ghost use Rattle.nf_opstream.specs.Push.{Push, push_of};
 ghost use Rattle.nf_opstream.specs.Operator.{AreFine};
@@ -25,7 +25,9 @@ impl FlatMapState {
     /// # Errors
     ///
     /// `Mem`, which this operator doesn't answer.
-    pub fn begin(alloc: Global, _opts: &OpOpts) -> Result<FlatMapState, Mem> {
+    pub fn begin(alloc: Global, _opts: &OpOpts) -> Result<FlatMapState, Mem>
+        ensures { IsOk result }
+    {
         Ok(FlatMapState { alloc })
     }
 
@@ -52,7 +54,8 @@ impl FlatMapState {
     ///
     /// `Mem`, which this operator doesn't answer.
     pub fn close(&mut self) -> Result<Vec<(u32, Value)>, OpFault>
-        ensures { (p : List Push) → AreFine flat_map_row p → MatchResult result (λ es. HasEnded flat_map_row p (emits_of es.items)) (CloseRefused flat_map_row p) }
+        ensures ends { (p : List Push) → AreFine flat_map_row p → MatchResult result (λ es. HasEnded flat_map_row p (emits_of es.items)) (CloseRefused flat_map_row p) }
+        ensures ended { IsOk result }
     {
         Ok(Vec::new(self.alloc))
     }

@@ -1,6 +1,6 @@
 //! `flatten`, which emits what stands in its items.
 
-ghost use Rattle.std.specs.Prelude.{List, MatchResult};
+ghost use Rattle.std.specs.Prelude.{List, IsOk, MatchResult};
 ghost use Rattle.nf_value.specs.View.{plain_of};
 ghost use Rattle.nf_opstream.specs.Push.{Push, push_of};
 ghost use Rattle.nf_opstream.specs.Operator.{AreFine};
@@ -25,7 +25,9 @@ impl FlattenState {
     /// # Errors
     ///
     /// `Mem`, which this operator doesn't answer.
-    pub fn begin(alloc: Global, _opts: &OpOpts) -> Result<FlattenState, Mem> {
+    pub fn begin(alloc: Global, _opts: &OpOpts) -> Result<FlattenState, Mem>
+        ensures { IsOk result }
+    {
         Ok(FlattenState { alloc })
     }
 
@@ -54,7 +56,8 @@ impl FlattenState {
     ///
     /// `Mem`, which this operator doesn't answer.
     pub fn close(&mut self) -> Result<Vec<(u32, Value)>, OpFault>
-        ensures { (p : List Push) → AreFine flatten_row p → MatchResult result (λ es. HasEnded flatten_row p (emits_of es.items)) (CloseRefused flatten_row p) }
+        ensures ends { (p : List Push) → AreFine flatten_row p → MatchResult result (λ es. HasEnded flatten_row p (emits_of es.items)) (CloseRefused flatten_row p) }
+        ensures ended { IsOk result }
     {
         Ok(Vec::new(self.alloc))
     }

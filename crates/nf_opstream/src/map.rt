@@ -1,6 +1,6 @@
 //! `map`, which emits the images of its items.
 
-ghost use Rattle.std.specs.Prelude.{List, MatchResult};
+ghost use Rattle.std.specs.Prelude.{List, IsOk, MatchResult};
 ghost use Rattle.nf_value.specs.View.{plain_of};
 ghost use Rattle.nf_opstream.specs.Push.{Push, push_of};
 ghost use Rattle.nf_opstream.specs.Operator.{AreFine};
@@ -24,7 +24,9 @@ impl MapState {
     /// # Errors
     ///
     /// `Mem`, which this operator doesn't answer.
-    pub fn begin(alloc: Global, _opts: &OpOpts) -> Result<MapState, Mem> {
+    pub fn begin(alloc: Global, _opts: &OpOpts) -> Result<MapState, Mem>
+        ensures { IsOk result }
+    {
         Ok(MapState { alloc })
     }
 
@@ -50,7 +52,8 @@ impl MapState {
     ///
     /// `Mem`, which this operator doesn't answer.
     pub fn close(&mut self) -> Result<Vec<(u32, Value)>, OpFault>
-        ensures { (p : List Push) → AreFine map_row p → MatchResult result (λ es. HasEnded map_row p (emits_of es.items)) (CloseRefused map_row p) }
+        ensures ends { (p : List Push) → AreFine map_row p → MatchResult result (λ es. HasEnded map_row p (emits_of es.items)) (CloseRefused map_row p) }
+        ensures ended { IsOk result }
     {
         Ok(Vec::new(self.alloc))
     }

@@ -1,6 +1,6 @@
 //! `multiMap`, which emits an image of each item to each of its outputs.
 
-ghost use Rattle.std.specs.Prelude.{◌≡◌, List, IfOk, MatchResult, take};
+ghost use Rattle.std.specs.Prelude.{◌≡◌, List, IfOk, IsOk, MatchResult, take};
 ghost use Rattle.std.specs.List.{enumerate_from};
 ghost use Rattle.nf_value.specs.View.{plain_of};
 ghost use Rattle.nf_opstream.specs.Push.{Push, push_of};
@@ -28,7 +28,8 @@ impl MultiMapState {
     ///
     /// `Mem`, which this operator doesn't answer.
     pub fn begin(alloc: Global, opts: &OpOpts) -> Result<MultiMapState, Mem>
-        ensures { IfOk result (λ s. s.outs ≡ opts.now.outs) }
+        ensures outs { IfOk result (λ s. s.outs ≡ opts.now.outs) }
+        ensures begun { IsOk result }
     {
         Ok(MultiMapState {
             alloc,
@@ -63,7 +64,8 @@ impl MultiMapState {
     ///
     /// `Mem`, which this operator doesn't answer.
     pub fn close(&mut self) -> Result<Vec<(u32, Value)>, OpFault>
-        ensures { (p : List Push) → AreFine (multi_map_row self.old.outs) p → MatchResult result (λ es. HasEnded (multi_map_row self.old.outs) p (emits_of es.items)) (CloseRefused (multi_map_row self.old.outs) p) }
+        ensures ends { (p : List Push) → AreFine (multi_map_row self.old.outs) p → MatchResult result (λ es. HasEnded (multi_map_row self.old.outs) p (emits_of es.items)) (CloseRefused (multi_map_row self.old.outs) p) }
+        ensures ended { IsOk result }
     {
         Ok(Vec::new(self.alloc))
     }

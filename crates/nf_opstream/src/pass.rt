@@ -1,6 +1,6 @@
 //! `view`, `set`, `mix` and `concat`, which emit their items.
 
-ghost use Rattle.std.specs.Prelude.{List, MatchResult};
+ghost use Rattle.std.specs.Prelude.{List, IsOk, MatchResult};
 ghost use Rattle.nf_value.specs.View.{plain_of};
 ghost use Rattle.nf_opstream.specs.Push.{Push, push_of};
 ghost use Rattle.nf_opstream.specs.Operator.{AreFine};
@@ -24,7 +24,9 @@ impl PassState {
     /// # Errors
     ///
     /// `Mem`, which this operator doesn't answer.
-    pub fn begin(alloc: Global, _opts: &OpOpts) -> Result<PassState, Mem> {
+    pub fn begin(alloc: Global, _opts: &OpOpts) -> Result<PassState, Mem>
+        ensures { IsOk result }
+    {
         Ok(PassState { alloc })
     }
 
@@ -50,7 +52,8 @@ impl PassState {
     ///
     /// `Mem`, which this operator doesn't answer.
     pub fn close(&mut self) -> Result<Vec<(u32, Value)>, OpFault>
-        ensures { (p : List Push) → AreFine pass_row p → MatchResult result (λ es. HasEnded pass_row p (emits_of es.items)) (CloseRefused pass_row p) }
+        ensures ends { (p : List Push) → AreFine pass_row p → MatchResult result (λ es. HasEnded pass_row p (emits_of es.items)) (CloseRefused pass_row p) }
+        ensures ended { IsOk result }
     {
         Ok(Vec::new(self.alloc))
     }

@@ -1,6 +1,6 @@
 //! `transpose`, which emits a tuple for each place of its items' columns.
 
-ghost use Rattle.std.specs.Prelude.{List, MatchResult};
+ghost use Rattle.std.specs.Prelude.{List, IsOk, MatchResult};
 ghost use Rattle.nf_value.specs.View.{plain_of};
 ghost use Rattle.nf_opstream.specs.Push.{Push, push_of};
 ghost use Rattle.nf_opstream.specs.Operator.{AreFine};
@@ -26,7 +26,9 @@ impl TransposeState {
     /// # Errors
     ///
     /// `Mem`, which this operator doesn't answer.
-    pub fn begin(alloc: Global, _opts: &OpOpts) -> Result<TransposeState, Mem> {
+    pub fn begin(alloc: Global, _opts: &OpOpts) -> Result<TransposeState, Mem>
+        ensures { IsOk result }
+    {
         Ok(TransposeState { alloc })
     }
 
@@ -55,7 +57,8 @@ impl TransposeState {
     ///
     /// `Mem`, which this operator doesn't answer.
     pub fn close(&mut self) -> Result<Vec<(u32, Value)>, OpFault>
-        ensures { (p : List Push) → AreFine transpose_row p → MatchResult result (λ es. HasEnded transpose_row p (emits_of es.items)) (CloseRefused transpose_row p) }
+        ensures ends { (p : List Push) → AreFine transpose_row p → MatchResult result (λ es. HasEnded transpose_row p (emits_of es.items)) (CloseRefused transpose_row p) }
+        ensures ended { IsOk result }
     {
         Ok(Vec::new(self.alloc))
     }

@@ -1,6 +1,6 @@
 //! `unique`, which emits each distinct item once.
 
-ghost use Rattle.std.specs.Prelude.{List, [], ◌∷◌, IfOk, MatchResult};
+ghost use Rattle.std.specs.Prelude.{List, [], ◌∷◌, IfOk, IsOk, MatchResult};
 ghost use Rattle.nf_value.specs.View.{plain_of};
 ghost use Rattle.nf_opstream.specs.Push.{Push, push_of};
 ghost use Rattle.nf_opstream.specs.Promise.{emits_of, HasEmitted, HasEnded, PushRefused, CloseRefused};
@@ -30,7 +30,8 @@ impl UniqueState {
     ///
     /// `Mem`, which this operator doesn't answer.
     pub fn begin(alloc: Global, _opts: &OpOpts) -> Result<UniqueState, Mem>
-        ensures { IfOk result (λ s. IsUniqueAfter [] s) }
+        ensures after { IfOk result (λ s. IsUniqueAfter [] s) }
+        ensures begun { IsOk result }
     {
         Ok(UniqueState {
             alloc,
@@ -71,7 +72,8 @@ impl UniqueState {
     ///
     /// `Mem`, which this operator doesn't answer.
     pub fn close(&mut self) -> Result<Vec<(u32, Value)>, OpFault>
-        ensures { (p : List Push) → IsUniqueAfter p self.old → MatchResult result (λ es. HasEnded unique_row p (emits_of es.items)) (CloseRefused unique_row p) }
+        ensures ends { (p : List Push) → IsUniqueAfter p self.old → MatchResult result (λ es. HasEnded unique_row p (emits_of es.items)) (CloseRefused unique_row p) }
+        ensures ended { IsOk result }
     {
         laws::each_once();
         Ok(Vec::new(self.alloc))
