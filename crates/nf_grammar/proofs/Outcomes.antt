@@ -1,5 +1,5 @@
 -- How reading each kind of part ends.
-use Rattle.std.proofs.Common.{◌≡◌, ℕ, suc, ◌≤◌, Bool, true, false, List, [], ◌∷◌, length, Option, Some, None, refl, subst, arith, ◌⊎◌, inl, inr}
+use Rattle.std.proofs.Common.{◌≡◌, ℕ, suc, ◌≤◌, Bool, true, false, List, [], ◌∷◌, length, Option, Some, None, refl, sym, subst, arith, ◌⊎◌, inl, inr, ◌∙◌}
 use Rattle.nf_grammar.specs.Gram.{Gram, token, gives, bind, either, only_where, many, rule}
 use Rattle.nf_grammar.specs.Parts.{no_next, none_of}
 use Rattle.nf_grammar.specs.Reads.{Reads, reads_token, reads_gives, reads_bind, reads_left, reads_right, reads_where, reads_end, reads_more, reads_rule, Stands, stands_before, stands_after, stands_gives, stands_first, stands_second, stands_left, stands_right, stands_where, stands_end, stands_part, stands_more, stands_rule, Deep, deep_here, deep_first, deep_second, deep_left, deep_right, deep_where, deep_part, deep_more, deep_rule}
@@ -573,3 +573,67 @@ module _ {T V L : Type 0} {rules : L → Gram T V L} where
     where
       same : (P : V → List T → Type 0) (b : V) (m : List T) → Reads rules g ts b m → P b m → P a mid
       same P b m r h = let e = one.ends.only b m r in subst (λ x. P x mid) e.0 (subst (λ y. P b y) e.1 h)
+
+  -- ---- a rule, nothing after a part, and an arm that is off, before what follows
+
+  in_rule_reads : {l : L} {k : V → Gram T V L} {ts rest : List T} {v : V} → Reads rules (bind (rules l) k) ts v rest → Reads rules (bind (rule l) k) ts v rest
+  in_rule_reads (reads_bind q s) = reads_bind (reads_rule q) s
+
+  of_rule_reads : {l : L} {k : V → Gram T V L} {ts rest : List T} {v : V} → Reads rules (bind (rule l) k) ts v rest → Reads rules (bind (rules l) k) ts v rest
+  of_rule_reads (reads_bind (reads_rule q) s) = reads_bind q s
+
+  in_rule_stands : {l : L} {k : V → Gram T V L} {ts r : List T} → Stands rules (bind (rules l) k) ts r → Stands rules (bind (rule l) k) ts r
+  in_rule_stands (stands_first s) = stands_first (stands_rule s)
+  in_rule_stands (stands_second q s) = stands_second (reads_rule q) s
+
+  of_rule_stands : {l : L} {k : V → Gram T V L} {ts r : List T} → Stands rules (bind (rule l) k) ts r → Stands rules (bind (rules l) k) ts r
+  of_rule_stands (stands_first (stands_rule s)) = stands_first s
+  of_rule_stands (stands_second (reads_rule q) s) = stands_second q s
+
+  in_rule_deep : {l : L} {k : V → Gram T V L} {ts r : List T} → Deep rules (bind (rules l) k) ts r → Deep rules (bind (rule l) k) ts r
+  in_rule_deep (deep_first s) = deep_first (deep_rule s)
+  in_rule_deep (deep_second q s) = deep_second (reads_rule q) s
+
+  of_rule_deep : {l : L} {k : V → Gram T V L} {ts r : List T} → Deep rules (bind (rule l) k) ts r → Deep rules (bind (rules l) k) ts r
+  of_rule_deep (deep_first (deep_rule s)) = deep_first s
+  of_rule_deep (deep_second (reads_rule q) s) = deep_second q s
+
+  pub ruled_first : {l : L} {k : V → Gram T V L} {ts : List T} {o : Out T V} → Outcome rules (bind (rules l) k) ts o → Outcome rules (bind (rule l) k) ts o
+  ruled_first {l} {k} {ts} {o} = same_outcome (bind (rules l) k) (bind (rule l) k) ts o (record { reads = in_rule_reads; reads_back = of_rule_reads; stands = in_rule_stands; stands_back = of_rule_stands; deep = in_rule_deep; deep_back = of_rule_deep })
+
+  alone_reads : {g : Gram T V L} {ts rest : List T} {v : V} → Reads rules (bind g gives) ts v rest → Reads rules g ts v rest
+  alone_reads (reads_bind q reads_gives) = q
+
+  then_reads : {g : Gram T V L} {ts rest : List T} {v : V} → Reads rules g ts v rest → Reads rules (bind g gives) ts v rest
+  then_reads q = reads_bind q reads_gives
+
+  alone_stands : {g : Gram T V L} {ts r : List T} → Stands rules (bind g gives) ts r → Stands rules g ts r
+  alone_stands (stands_first s) = s
+  alone_stands (stands_second q stands_gives) = reads_stands q
+
+  alone_deep : {g : Gram T V L} {ts r : List T} → Deep rules (bind g gives) ts r → Deep rules g ts r
+  alone_deep (deep_first s) = s
+  alone_deep (deep_second q s) = elim s [ ]
+
+  -- what is read isn't changed
+  pub alone : {g : Gram T V L} {ts : List T} {o : Out T V} → Outcome rules (bind g gives) ts o → Outcome rules g ts o
+  alone {g} {ts} {o} = same_outcome (bind g gives) g ts o (record { reads = alone_reads; reads_back = then_reads; stands = alone_stands; stands_back = λ s. stands_first s; deep = alone_deep; deep_back = λ s. deep_first s })
+
+  off_reads : {c : List T → Bool} {h : Gram T V L} {k : V → Gram T V L} {ts rest : List T} {v : V} → c ts ≡ false → Reads rules (bind (only_where c h) k) ts v rest → ⊥
+  off_reads e (reads_bind (reads_where d q) s) = absurd (let f : true ≡ false = sym d ∙ e in cc)
+
+  off_stands : {c : List T → Bool} {h : Gram T V L} {k : V → Gram T V L} {ts r : List T} → c ts ≡ false → Stands rules (bind (only_where c h) k) ts r → ⊥
+  off_stands e (stands_first (stands_where d q)) = absurd (let f : true ≡ false = sym d ∙ e in cc)
+  off_stands e (stands_second (reads_where d q) s) = absurd (let f : true ≡ false = sym d ∙ e in cc)
+
+  -- an arm that is off by its test, before what follows
+  pub maybe_is_then : {g h : Gram T V L} {c : List T → Bool} {k : V → Gram T V L} {ts : List T} {o : Out T V} → c ts ≡ false → Outcome rules (bind g k) ts o → Outcome rules (bind (either g (only_where c h)) k) ts o
+  maybe_is_then {g} {h} {c} {k} {ts} {o} e p = arms_first g (only_where c h) k ts o (either_left (bind g k) (bind (only_where c h) k) ts o (length ts) p (record { none = λ w r q. off_reads e q; farthest = λ r s. absurd (off_stands e s); shallow = λ r d. off_stands e (deep_stands d) }) (reaches_all (bind g k) ts o p))
+
+  -- arms that add nothing
+  pub adds_either : {g h : Gram T V L} {ts : List T} {far : ℕ} → Adds rules g ts far → Adds rules h ts far → Adds rules (either g h) ts far
+  adds_either a b = record { none = λ w r q. elim (un_either q) [ inl x ↦ a.none w r x | inr x ↦ b.none w r x ]; farthest = λ r s. elim (un_stands_either s) [ inl x ↦ a.farthest r x | inr x ↦ b.farthest r x ]; shallow = λ r s. elim (un_deep_either s) [ inl x ↦ a.shallow r x | inr x ↦ b.shallow r x ] }
+
+  -- an arm that is off by its test, before the other
+  pub not_where : {g h : Gram T V L} {c : List T → Bool} {ts : List T} {o : Out T V} → c ts ≡ false → Outcome rules h ts o → Outcome rules (either (only_where c g) h) ts o
+  not_where {g} {h} {c} {ts} {o} e p = either_right (only_where c g) h ts o (length ts) p (adds_where c g ts (length ts) e) (reaches_all h ts o p)
