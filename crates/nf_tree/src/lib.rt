@@ -1,0 +1,16 @@
+//! The tree of a script.
+#![tactic(auto)]
+
+mod expr;
+mod marks;
+mod tops;
+
+pub use expr::{
+    Arg, Arm, Branch, Closure, ClosureBody, Expr, Key, Label, Operand, Pair, Piece, Postfix,
+    Prefix, Stmt,
+};
+pub use marks::{BranchMark, InfixMark, PrefixMark};
+pub use tops::{
+    Directive, Emit, Emits, Function, Input, InputPart, Inputs, Output, OutputPart, OutputValue,
+    Outputs, Parameter, Parts, Process, Script, Section, Take, Task, Top, Workflow, WorkflowBody,
+};
