@@ -1,0 +1,82 @@
+-- What a function of the parser answers.
+use Rattle.std.specs.Prelude.{◌≡◌, ℕ, Bool, true, List, ◌∷◌, length, Some, Result, Ok, Err, if◌then◌else◌}
+use Rattle.nf_lexer.specs.declared.token.Lexeme.{Lexeme}
+use Rattle.nf_grammar.specs.Gram.{gives, ◌>>=◌}
+use Rattle.nf_grammar.specs.Outcome as grammar
+use Rattle.nf_grammar.specs.Outcome.{Out, got, unexpected, too_deep}
+use Rattle.nf_tree.specs.Tree as tree
+use Rattle.nf_tree.specs.Tree.{Tree, point}
+use Rattle.nf_value.specs.declared.place.Place.{Place}
+use Rattle.nf_grammar.specs.Parts.{no_next}
+use Rattle.nf_tree.specs.View.{ArmTree}
+use Rattle.nf_exprs.specs.declared.fault.Fault.{Fault}
+use Rattle.nf_exprs.specs.declared.fault.Fault.TheVariants.{Unexpected, TooDeep, Mem}
+use Rattle.nf_exprs.specs.Level.{Gram}
+use Rattle.nf_exprs.specs.Rules.{rules}
+use Rattle.nf_tree.specs.declared.marks.BranchMark.{BranchMark}
+use Rattle.nf_tree.specs.declared.marks.BranchMark.TheVariants as branch
+use Rattle.nf_lexer.specs.declared.token.Mark.TheVariants as m
+use Rattle.nf_exprs.specs.Tokens.{Kind, mark_of, labels, after}
+
+-- how a part of this grammar ends
+abbrev pub Outcome : Gram → List Lexeme → Out Lexeme Tree → Type 0
+Outcome = grammar.Outcome rules
+
+abbrev pub Fails : Gram → List Lexeme → Fault → Type 0
+Fails g ts Mem = Unit {0}
+Fails g ts (Unexpected left) = Outcome g ts (unexpected left)
+Fails g ts (TooDeep left) = Outcome g ts (too_deep left)
+
+-- the tree and the rest that the part spells, and how it ends otherwise; a reading stands before so many tokens, and none further on
+abbrev pub ParsesTo : {X : Type 0} → (List Lexeme → ℕ) → (X → Tree) → (X → List Lexeme) → Gram → List Lexeme → Result X Fault → Type 0
+ParsesTo left tree rest g ts (Ok x) = Outcome g ts (got (tree x) (rest x) (left (rest x)))
+ParsesTo left tree rest g ts (Err e) = Fails g ts e
+
+-- where no reading stands further on than the rest
+abbrev pub Parses : {X : Type 0} → (X → Tree) → (X → List Lexeme) → Gram → List Lexeme → Result X Fault → Type 0
+Parses = ParsesTo length
+
+-- where a part that ends before a name with a colon would go on with the name
+abbrev pub past_label : List Lexeme → ℕ
+past_label ts = if labels ts then length (after ts) else length ts
+
+-- the same of a part that ends before a label
+abbrev pub ParsesToLabel : {X : Type 0} → (X → Tree) → (X → List Lexeme) → Gram → List Lexeme → Result X Fault → Type 0
+ParsesToLabel = ParsesTo past_label
+
+-- the same of a part that isn't whole without what must come after it
+abbrev pub ParsesThen : {X : Type 0} → (X → Tree) → (X → List Lexeme) → Gram → Gram → List Lexeme → Result X Fault → Type 0
+ParsesThen tree rest k g ts (Ok x) = (o : Out Lexeme Tree) → Outcome (k >>= λ s. gives (tree x)) (rest x) o → Outcome (g >>= λ a. k >>= λ s. gives a) ts o
+ParsesThen tree rest k g ts (Err e) = Fails (g >>= λ a. k >>= λ s. gives a) ts e
+
+-- an arm that nothing follows
+abbrev pub arm_tree : ArmTree → Tree
+arm_tree a = tree.choice a.place a.condition (tree.statements a.body) tree.empty
+
+-- one token of a kind, and the rest
+abbrev pub Takes : Kind → List Lexeme → Tree → List Lexeme → Type 0
+Takes p ts v rest = (x : Lexeme) × (p x ≡ Some v) × (ts ≡ x ∷ rest)
+
+-- two tokens, of which the first stands for something, and the rest
+abbrev pub TakesTwo : Kind → Kind → List Lexeme → Tree → List Lexeme → Type 0
+TakesTwo p q ts v rest = (x : Lexeme) × (y : Lexeme) × (w : Tree) × (p x ≡ Some v) × (q y ≡ Some w) × (ts ≡ x ∷ y ∷ rest)
+
+-- a label comes, with so many tokens from its colon on
+abbrev pub LabelAt : List Lexeme → ℕ → Type 0
+LabelAt ts n = (labels ts ≡ true) × (n ≡ length (after ts))
+
+abbrev pub branch_mark : BranchMark → Kind
+branch_mark branch.Then = mark_of m.Question
+branch_mark branch.Else = mark_of m.Colon
+branch_mark branch.Elvis = mark_of m.Elvis
+
+abbrev pub IsDue : BranchMark → Bool → Type 0
+IsDue branch.Else due = due ≡ true
+IsDue _ due = Unit {0}
+
+-- a mark of a conditional expression, a `:` only where one is due
+abbrev pub TakesBranch : Bool → BranchMark → List Lexeme → Place → List Lexeme → Type 0
+TakesBranch due mark ts p rest = Takes (branch_mark mark) ts (point p) rest × IsDue mark due
+
+abbrev pub NoBranch : Bool → List Lexeme → Type 0
+NoBranch due ts = (no_next (mark_of m.Question) ts ≡ true) × (no_next (mark_of m.Elvis) ts ≡ true) × (due ≡ true → no_next (mark_of m.Colon) ts ≡ true)

@@ -1,0 +1,23 @@
+//! The bands of marks that bind equally.
+
+/// The marks that bind equally, from the loosest on (Nextflow reference documentation, "Syntax", "Precedence"; the order is this
+/// project's own).
+#[derive(Debug, Clone, Copy, PartialEq, Eq)]
+pub enum Band {
+    /// `||`
+    Or,
+    /// `&&`
+    And,
+    /// `|`
+    Pipe,
+    /// `==`, `!=`, `==~`: one at most
+    Same,
+    /// `<`, `<=`, `>`, `>=`, `in`: one at most
+    Compare,
+    /// `..`: one at most
+    Range,
+    /// `+`, `-`
+    Sum,
+    /// `*`, `%`
+    Term,
+}
