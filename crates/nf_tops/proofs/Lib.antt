@@ -1,0 +1,13 @@
+pub mod Words
+pub mod Parts
+pub mod Stray
+pub mod Names
+pub mod Tuples
+pub mod Inside
+pub mod Whole
+pub mod Det
+pub mod Choices
+pub mod Statements
+pub mod Headings
+pub mod Decisions
+pub mod Once
