@@ -1,0 +1,7 @@
+pub mod Characters
+pub mod Spelling
+pub mod Taking
+pub mod Literals
+pub mod Choosing
+pub mod Wholes
+pub mod Selves

@@ -1,0 +1,49 @@
+//! Texts and their characters, and parts of texts that are read as if they were one.
+
+ghost use Rattle.std.specs.Prelude.{◌≡◌, ◌<◌, [], ◌∷◌, false, MatchOption};
+ghost use Rattle.std.specs.Str.{chars};
+ghost use Rattle.nf_pattern.specs.Parting.{has, IsParted};
+ghost use Rattle.nf_pattern.specs.Parts.{characters};
+
+/// Some parts of patterns in a row. They stand on the stack of the calls that chose them, so they take no memory.
+#[derive(Clone, Copy)]
+pub(crate) enum Parts<'a> {
+    /// No parts.
+    End,
+    /// A part, and the others.
+    Part(&'a str, &'a Parts<'a>),
+}
+
+/// The first character of a text, and what follows it.
+pub(crate) fn first_char(text: &str) -> Option<(char, &str)>
+    ensures { MatchOption result (chars text.now ≡ []) (λ first. chars text.now ≡ first.0 ∷ chars first.1.now) }
+{
+    let mut characters = text.chars();
+    match characters.next() {
+        Some(first) => Some((first, characters.as_str())),
+        None => None,
+    }
+}
+
+/// What stands before the first mark of a text, and what stands after it.
+pub(crate) fn parted(text: &str, mark: char) -> Option<(&str, &str)>
+    requires { mark < 128 }
+    ensures { MatchOption result (has mark (chars text.now) ≡ false)
+        (λ found. IsParted mark (chars text.now) (chars found.0.now) (chars found.1.now)) }
+{
+    text.split_once(mark)
+}
+
+/// The first character of some parts in a row, and what follows it.
+pub(crate) fn first_of<'a>(parts: &Parts<'a>) -> Option<(char, Parts<'a>)>
+    ensures { MatchOption result (characters parts.now ≡ []) (λ first. characters parts.now ≡ first.0 ∷ characters first.1) }
+{
+    let mut left = *parts;
+    while let Parts::Part(part, others) = left {
+        if let Some((first, rest)) = first_char(part) {
+            return Some((first, Parts::Part(rest, others)));
+        }
+        left = *others;
+    }
+    None
+}

@@ -1,0 +1,133 @@
+//! Plain patterns: they have no alternatives.
+
+ghost use Rattle.std.specs.Prelude.{◌≡◌, ◌<◌, ◌≤◌, ◌+◌, [], ◌∷◌, length, IsSome, IfSome, MatchOption};
+ghost use Rattle.std.specs.Str.{chars};
+ghost use Rattle.nf_pattern.specs.Glob.{takes, takes_dotted, is_plain_match as is_match_of, takes_one};
+ghost use Rattle.nf_pattern.specs.Parts.{characters};
+ghost use Rattle.nf_pattern.specs.Reach.{Reaches, takes_some, AfterDot};
+
+use crate::parts::{Parts, first_char, first_of};
+
+/// What is left of a plain pattern and of a name.
+#[derive(Clone, Copy)]
+pub(crate) struct Place<'a> {
+    pub(crate) pattern: Parts<'a>,
+    pub(crate) name: &'a str,
+}
+
+/// How far a plain pattern goes until its next `*`.
+#[derive(Clone, Copy)]
+pub(crate) enum Reach<'a> {
+    /// It has no `*`, and takes all the characters.
+    Whole,
+    /// It doesn't take the characters that stand there.
+    Nothing,
+    /// It comes to a `*`. What follows the `*` is left, and the characters from there on.
+    Star(Place<'a>),
+}
+
+/// Whether a plain pattern matches a name.
+pub(crate) fn is_plain_match(pattern: &Parts<'_>, name: &str) -> bool
+    ensures { result ≡ is_match_of (characters pattern.now) (chars name.now) }
+{
+    match first_char(name) {
+        Some(('.', rest)) => match after_dot(pattern) {
+            Some(pattern) => is_taken(&Place {
+                pattern,
+                name: rest,
+            }),
+            None => false,
+        },
+        _ => is_taken(&Place {
+            pattern: *pattern,
+            name,
+        }),
+    }
+}
+
+/// What follows the dot that takes a leading dot.
+fn after_dot<'a>(pattern: &Parts<'a>) -> Option<Parts<'a>>
+    ensures { AfterDot (characters pattern.now) result }
+{
+    let mut left = *pattern;
+    while let Some((mark, rest)) = first_of(&left) {
+        match mark {
+            '*' => left = rest,
+            '.' => return Some(rest),
+            _ => return None,
+        }
+    }
+    None
+}
+
+/// Whether a plain pattern takes all the characters.
+fn is_taken(place: &Place<'_>) -> bool
+    ensures { result ≡ takes (characters place.now.pattern) (chars place.now.name.now) }
+{
+    match next_star(place) {
+        Reach::Whole => true,
+        Reach::Nothing => false,
+        Reach::Star(next) => is_taken_later(&next),
+    }
+}
+
+/// Whether a plain pattern takes some end of the characters. A start of the pattern up to a `*` is tried at each place
+/// until it fits; from there on only what follows that `*` is tried.
+fn is_taken_later(place: &Place<'_>) -> bool
+    ensures { result ≡ takes_some (characters place.now.pattern) (chars place.now.name.now) }
+{
+    let mut place = *place;
+    loop {
+        match next_star(&place) {
+            Reach::Whole => return true,
+            Reach::Star(next) => place = next,
+            Reach::Nothing => match first_char(place.name) {
+                Some((_, rest)) => place.name = rest,
+                None => return false,
+            },
+        }
+    }
+}
+
+/// Goes through a plain pattern up to its next `*`.
+fn next_star<'a>(place: &Place<'a>) -> Reach<'a>
+    ensures { Reaches (characters place.now.pattern) (chars place.now.name.now) result }
+{
+    let mut pattern = place.pattern;
+    let mut name = place.name;
+    loop {
+        let Some((mark, others)) = first_of(&pattern) else {
+            return at_end(name);
+        };
+        if mark == '*' {
+            return Reach::Star(Place {
+                pattern: others,
+                name,
+            });
+        }
+        match first_char(name) {
+            Some((first, rest)) if accepts(mark, first) => {
+                pattern = others;
+                name = rest;
+            }
+            _ => return Reach::Nothing,
+        }
+    }
+}
+
+/// How far an empty pattern goes.
+fn at_end(name: &str) -> Reach<'_>
+    ensures { Reaches [] (chars name.now) result }
+{
+    match first_char(name) {
+        None => Reach::Whole,
+        Some(_) => Reach::Nothing,
+    }
+}
+
+/// Whether a character of a pattern but `*` takes a character of a name.
+fn accepts(mark: char, first: char) -> bool
+    ensures { result ≡ takes_one mark first }
+{
+    mark == '?' || mark == first
+}
