@@ -1,0 +1,17 @@
+//! What the values of a script can do: the methods of texts, numbers, lists, maps and files, and functions that a program adds.
+#![tactic(auto)]
+
+mod args;
+mod fault;
+mod limits;
+mod method;
+mod numbers;
+mod rows;
+mod table;
+#[cfg(test)]
+mod tests;
+
+pub use fault::CallFault;
+pub use method::Method;
+pub use rows::{Builtin, Form, On, builtins};
+pub use table::{Named, Table};

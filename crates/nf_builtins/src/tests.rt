@@ -1,0 +1,4 @@
+//! Worked calls.
+
+use crate::{Named, Table, builtins};
+use std::test::Fail;
