@@ -1,3 +1,5 @@
 pub mod Items
 pub mod Names
 pub mod Integers
+pub mod Reversing
+pub mod Places

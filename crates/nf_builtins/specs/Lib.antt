@@ -4,3 +4,4 @@ pub mod Args
 pub mod Method
 pub mod Rows
 pub mod Numbers
+pub mod Texts

@@ -3,6 +3,7 @@
 ghost use Rattle.std.specs.Prelude.{◌≡◌, ◌∷◌, [], Ok, Err, MatchResult};
 ghost use Rattle.nf_value.specs.View.{plain_of};
 ghost use Rattle.nf_value.specs.Plain.{plain_pairs_of};
+ghost use Rattle.nf_builtins.specs.Texts.{count_arg as count_arg_of, count_of as count_of_int, count_or_fault};
 ghost use Rattle.nf_builtins.specs.Args.{on_text as on_text_of, on_list as on_list_of, on_file as on_file_of, on_table as on_table_of, no_args as no_args_of, one_arg as one_arg_of, text_arg as text_arg_of, int_arg as int_arg_of, int_args as int_args_of, text_or, int_or};
 ghost use Rattle.nf_value.specs.declared.fault.EvalKind.TheVariants.{WrongKind, NoMethod};
 
@@ -128,4 +129,28 @@ pub(crate) fn on_int(recv: &Value) -> Result<i64, EvalKind>
         Value::Int(number) => Ok(*number),
         _ => Err(EvalKind::NoMethod),
     }
+}
+
+/// The only argument, a count.
+pub(crate) fn count_arg(args: &Vals) -> Result<u64, EvalKind>
+    ensures { result ≡ count_arg_of args.now }
+{
+    count_of(int_arg(args)?)
+}
+
+/// A number that isn't negative.
+pub(crate) fn count_of(number: i64) -> Result<u64, EvalKind>
+    ensures { result ≡ count_of_int number }
+{
+    match u64::try_from(number) {
+        Ok(count) => Ok(count),
+        Err(_) => Err(EvalKind::WrongKind),
+    }
+}
+
+/// An argument that has to be a number that isn't negative.
+pub(crate) fn as_count(value: &Value) -> Result<u64, EvalKind>
+    ensures { result ≡ count_or_fault (plain_of value.now) }
+{
+    count_of(as_int(value)?)
 }

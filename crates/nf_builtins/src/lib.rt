@@ -2,12 +2,14 @@
 #![tactic(auto)]
 
 mod args;
+mod characters;
 mod fault;
 mod limits;
 mod method;
 mod numbers;
 mod rows;
 mod table;
+mod texts;
 #[cfg(test)]
 mod tests;
 

@@ -1,6 +1,7 @@
 //! Values within the limits.
 
-ghost use Rattle.std.specs.Prelude.{◌≡◌, Ok, Err, MatchResult};
+ghost use Rattle.std.specs.Prelude.{◌≡◌, Ok, Err, MatchResult, pos, ◌<◌, ◌^◌};
+ghost use Rattle.nf_value.specs.Plain.{int};
 ghost use Rattle.nf_value.specs.View.{plain_of};
 ghost use Rattle.nf_builtins.specs.Outcome.{Gives, limited};
 
@@ -40,4 +41,12 @@ pub(crate) fn copied(value: &Value) -> Result<Value, CallFault>
 {
     fault_of(value)?;
     Ok(value.copy()?)
+}
+
+/// A count as a number. No count in memory is larger than a number can be.
+pub(crate) fn count_value(count: usize) -> Result<Value, CallFault>
+    requires { count < 2 ^ 63 }
+    ensures { Gives (Ok (int (pos count))) result }
+{
+    judged(Value::Int(count as i64))
 }
