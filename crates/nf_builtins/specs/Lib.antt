@@ -5,3 +5,6 @@ pub mod Method
 pub mod Rows
 pub mod Numbers
 pub mod Texts
+pub mod Lists
+pub mod Maps
+pub mod Files

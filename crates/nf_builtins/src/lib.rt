@@ -4,7 +4,11 @@
 mod args;
 mod characters;
 mod fault;
+mod files;
+mod items;
 mod limits;
+mod lists;
+mod maps;
 mod method;
 mod numbers;
 mod rows;

@@ -1,12 +1,15 @@
 //! Values within the limits.
 
-ghost use Rattle.std.specs.Prelude.{◌≡◌, Ok, Err, MatchResult, pos, ◌<◌, ◌^◌};
-ghost use Rattle.nf_value.specs.Plain.{int};
+ghost use Rattle.std.specs.Prelude.{◌≡◌, Ok, Err, MatchResult, pos, ◌<◌, ◌≤◌, ◌^◌, ℕ, List, length, codes};
+ghost use Rattle.nf_value.specs.Plain.{int, text as text_plain};
+ghost use Rattle.nf_value.specs.Code.{head_code};
 ghost use Rattle.nf_value.specs.View.{plain_of};
 ghost use Rattle.nf_builtins.specs.Outcome.{Gives, limited};
 
 use crate::fault::CallFault;
-use nf_value::{EvalKind, Value, depth, weight};
+use itoa::Buffer;
+use nf_value::{EvalKind, Txt, Value, depth, weight};
+use std::alloc::Global;
 
 /// How much the value of a call may weigh.
 const MOST_WEIGHT: u64 = 16_777_216;
@@ -49,4 +52,32 @@ pub(crate) fn count_value(count: usize) -> Result<Value, CallFault>
     ensures { Gives (Ok (int (pos count))) result }
 {
     judged(Value::Int(count as i64))
+}
+
+/// A text as a value, unless it passes a limit, which is told before it is copied.
+pub(crate) fn text_value(alloc: Global, text: &str) -> Result<Value, CallFault>
+    ensures { Gives (Ok (text_plain text.now)) result }
+{
+    text_fault(text.len())?;
+    Ok(Value::Text(Txt::of(String::from_str(alloc, text)?)))
+}
+
+/// The fault of a text of this many bytes, if it passes a limit.
+pub(crate) fn text_fault(len: usize) -> Result<(), EvalKind>
+    requires { len < 2 ^ 63 }
+    ensures { (t : List ℕ) → length t ≡ len → MatchResult result (λ _. limited (text_plain t) ≡ Ok (text_plain t)) (λ k. limited (text_plain t) ≡ Err k) }
+{
+    if head_len(len) + len as u64 > MOST_WEIGHT {
+        return Err(EvalKind::TooLarge);
+    }
+    Ok(())
+}
+
+/// How many bytes the head of a text's code has.
+fn head_len(len: usize) -> u64
+    ensures len { result ≡ length (head_code (codes "s") len) }
+    ensures small { result ≤ 1024 }
+{
+    let mut buffer = Buffer::new();
+    buffer.format(len).len() as u64 + 2
 }

@@ -1,5 +1,5 @@
 use Rattle.std.proofs.Common.{ap, Ok}
-use Rattle.nf_builtins.proofs.Items.{items_of-plains_of}
+use Rattle.nf_builtins.proofs.Inside.{items_of-plains_of}
 use Rattle.nf_builtins.proofs.args.on_list.Goals as goal
 
 pub returns-in-List : goal.returns-in-List
