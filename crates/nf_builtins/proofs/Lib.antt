@@ -6,3 +6,9 @@ pub mod Places
 pub mod Dots
 pub mod Values
 pub mod Entries
+pub mod Weighing
+pub mod Rewriting
+pub mod Ends
+pub mod Sums
+pub mod Spelt
+pub mod Leading

@@ -8,3 +8,4 @@ pub mod Texts
 pub mod Lists
 pub mod Maps
 pub mod Files
+pub mod Joined

@@ -10,6 +10,7 @@ use Rattle.nf_bag.specs.Sorted.{sorted_of}
 use Rattle.nf_builtins.specs.Outcome.{Outcome, ◌>>=◌}
 use Rattle.nf_builtins.specs.Args.{on_list, no_args, one_arg, int_or}
 use Rattle.nf_builtins.specs.Texts.{count_arg, place_number}
+use Rattle.nf_builtins.specs.Numbers.{number}
 
 -- the list of these values
 abbrev pub list_of : List Plain → Plain
@@ -108,3 +109,20 @@ list_max recv args = on_list recv >>= λ vs. no_args args >>= λ _. Ok (greatest
 
 abbrev pub list_min : Plain → List Plain → Outcome
 list_min recv args = on_list recv >>= λ vs. no_args args >>= λ _. Ok (least vs)
+
+-- the total of numbers
+abbrev pub total_of : List Plain → Result ℤ EvalKind
+total_of [] = Ok (pos 0)
+total_of (v ∷ vs) = int_or WrongKind v >>= λ n. total_of vs >>= λ m. Ok (n +ℤ m)
+
+-- a total with one more number
+abbrev pub total_with_one : ℤ → Plain → Result ℤ EvalKind
+total_with_one total v = int_or WrongKind v >>= λ n. Ok (total +ℤ n)
+
+abbrev pub sum_of : List Plain → Outcome
+sum_of [] = Ok null
+sum_of (v ∷ vs) = total_of (v ∷ vs) >>= number
+
+-- `sum()`, where the total alone is judged
+abbrev pub list_sum : Plain → List Plain → Outcome
+list_sum recv args = on_list recv >>= λ vs. no_args args >>= λ _. sum_of vs

@@ -1,12 +1,12 @@
 -- What texts can do. They are counted in characters.
-use Rattle.std.specs.Prelude.{ℕ, zero, suc, ℤ, pos, negsuc, nat_lt, nat_eq, nat_le, ◌+◌, ◌-◌, ◌==◌, Bool, true, false, ◌||◌, List, [], ◌∷◌, ◌++◌, length, take, drop, map, reverse, Result, Ok, Err, Option, Some, None, is_some, if◌then◌else◌}
-use Rattle.std.specs.List.{starts_with, ends_with}
+use Rattle.std.specs.Prelude.{ℕ, zero, suc, ℤ, pos, negsuc, nat_lt, nat_eq, nat_le, ◌+◌, ◌-◌, ◌==◌, Bool, true, false, ◌||◌, List, [], ◌∷◌, ◌++◌, length, take, drop, map, reverse, Result, Ok, Err, Option, Some, None, is_some, not, filter, codes, if◌then◌else◌}
+use Rattle.std.specs.List.{starts_with, ends_with, list_any, slice_split}
 use Rattle.std.specs.Str.{chars, encode_utf8_all, str_to_ascii_lowercase, str_to_ascii_uppercase}
-use Rattle.nf_value.specs.Plain.{Plain, null, truth, int, text, file, list, table}
+use Rattle.nf_value.specs.Plain.{Plain, null, truth, int, text, file, list, table, Plains, no_items, item}
 use Rattle.nf_value.specs.declared.fault.EvalKind.{EvalKind}
 use Rattle.nf_value.specs.declared.fault.EvalKind.TheVariants.{WrongKind, Arity}
 use Rattle.nf_builtins.specs.Outcome.{Outcome, ◌>>=◌}
-use Rattle.nf_builtins.specs.Args.{on_text, no_args, one_arg, text_arg, text_args, int_arg, int_or}
+use Rattle.nf_builtins.specs.Args.{on_text, no_args, one_arg, text_arg, text_args, int_arg, int_or, text_or}
 
 -- the text of these characters
 abbrev pub text_of : List ℕ → Plain
@@ -107,15 +107,51 @@ replaced_after a b zero (c ∷ cs) = if starts_with nat_eq (c ∷ cs) a then b +
 abbrev pub replaced : List ℕ → List ℕ → List ℕ → List ℕ
 replaced a b t = replaced_after a b 0 t
 
+abbrev pub replaced_or_fault : List ℕ → List ℕ → List ℕ → Outcome
+replaced_or_fault t a b = if length a == 0 then Err WrongKind else Ok (text (replaced a b t))
+
 -- `replace(a, b)`
 abbrev pub replace : Plain → List Plain → Outcome
-replace recv args = on_text recv >>= λ t. text_args args >>= λ (a, b). if length a == 0 then Err WrongKind else Ok (text (replaced a b t))
+replace recv args = on_text recv >>= λ t. text_args args >>= λ (a, b). replaced_or_fault t a b
 
 -- without characters up to U+0020 at the front
 abbrev pub without_blanks : List ℕ → List ℕ
 without_blanks [] = []
 without_blanks (c ∷ cs) = if nat_le c 32 then without_blanks cs else c ∷ cs
 
+-- the same at both ends
+abbrev pub trimmed : List ℕ → List ℕ
+trimmed cs = reverse (without_blanks (reverse (without_blanks cs)))
+
 -- `trim()`
 abbrev pub trim : Plain → List Plain → Outcome
-trim recv args = on_text recv >>= λ t. no_args args >>= λ _. Ok (text_of (reverse (without_blanks (reverse (without_blanks (chars t))))))
+trim recv args = on_text recv >>= λ t. no_args args >>= λ _. Ok (text_of (trimmed (chars t)))
+
+-- the parts between separators, without empty ones
+abbrev pub tokens_of : (ℕ → Bool) → List ℕ → List (List ℕ)
+tokens_of p cs = filter (λ part. not (length part == 0)) (slice_split p cs)
+
+-- whether it is one of these characters
+abbrev pub is_one_of : List ℕ → ℕ → Bool
+is_one_of cs c = list_any (λ d. d == c) cs
+
+-- the separators, where none are given: blank, tab and line end
+abbrev pub blanks : List ℕ
+blanks = codes " \t\n"
+
+-- the texts of these parts
+abbrev pub texts_of : List (List ℕ) → Plains
+texts_of [] = no_items
+texts_of (p ∷ ps) = item (text_of p) (texts_of ps)
+
+abbrev pub tokens_by : List ℕ → List ℕ → Plain
+tokens_by separators t = list (texts_of (tokens_of (is_one_of (chars separators)) (chars t)))
+
+-- `tokenize()` and `tokenize(t)`
+abbrev pub tokenize_of : List ℕ → List Plain → Outcome
+tokenize_of t [] = Ok (tokens_by blanks t)
+tokenize_of t (a ∷ []) = text_or WrongKind a >>= λ separators. Ok (tokens_by separators t)
+tokenize_of t (a ∷ b ∷ more) = Err Arity
+
+abbrev pub tokenize : Plain → List Plain → Outcome
+tokenize recv args = on_text recv >>= λ t. tokenize_of t args

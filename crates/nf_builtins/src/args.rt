@@ -4,7 +4,7 @@ ghost use Rattle.std.specs.Prelude.{◌≡◌, ◌∷◌, [], Ok, Err, MatchResu
 ghost use Rattle.nf_value.specs.View.{plain_of};
 ghost use Rattle.nf_value.specs.Plain.{plain_pairs_of};
 ghost use Rattle.nf_builtins.specs.Texts.{count_arg as count_arg_of, count_of as count_of_int, count_or_fault};
-ghost use Rattle.nf_builtins.specs.Args.{on_text as on_text_of, on_list as on_list_of, on_file as on_file_of, on_table as on_table_of, no_args as no_args_of, one_arg as one_arg_of, text_arg as text_arg_of, int_arg as int_arg_of, int_args as int_args_of, text_or, int_or};
+ghost use Rattle.nf_builtins.specs.Args.{on_text as on_text_of, on_list as on_list_of, on_file as on_file_of, on_table as on_table_of, no_args as no_args_of, one_arg as one_arg_of, text_arg as text_arg_of, int_arg as int_arg_of, text_args as text_args_of, int_args as int_args_of, text_or, int_or};
 ghost use Rattle.nf_value.specs.declared.fault.EvalKind.TheVariants.{WrongKind, NoMethod};
 
 use nf_value::{EvalKind, FileRef, Pairs, Txt, Vals, Value};
@@ -80,7 +80,7 @@ fn as_text(value: &Value) -> Result<&Txt, EvalKind>
 }
 
 /// An argument that has to be a number.
-fn as_int(value: &Value) -> Result<i64, EvalKind>
+pub(crate) fn as_int(value: &Value) -> Result<i64, EvalKind>
     ensures { result ≡ int_or WrongKind (plain_of value.now) }
 {
     match value {
@@ -153,4 +153,22 @@ pub(crate) fn as_count(value: &Value) -> Result<u64, EvalKind>
     ensures { result ≡ count_or_fault (plain_of value.now) }
 {
     count_of(as_int(value)?)
+}
+
+/// Both arguments, texts.
+pub(crate) fn text_args(args: &Vals) -> Result<(&Txt, &Txt), EvalKind>
+    ensures { MatchResult result (λ r. text_args_of args.now ≡ Ok (r.0.now, r.1.now)) (λ k. text_args_of args.now ≡ Err k) }
+{
+    match args.items() {
+        [first, second] => text_pair(first, second),
+        _ => Err(EvalKind::Arity),
+    }
+}
+
+fn text_pair<'a>(first: &'a Value, second: &'a Value) -> Result<(&'a Txt, &'a Txt), EvalKind>
+    ensures { MatchResult result (λ r. text_args_of (plain_of first.now ∷ plain_of second.now ∷ []) ≡ Ok (r.0.now, r.1.now)) (λ k. text_args_of (plain_of first.now ∷ plain_of second.now ∷ []) ≡ Err k) }
+{
+    let first = as_text(first)?;
+    let second = as_text(second)?;
+    Ok((first, second))
 }

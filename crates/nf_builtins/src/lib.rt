@@ -6,14 +6,19 @@ mod characters;
 mod fault;
 mod files;
 mod items;
+mod joining;
+mod lengths;
 mod limits;
 mod lists;
 mod maps;
 mod method;
 mod numbers;
+mod replacing;
 mod rows;
 mod table;
 mod texts;
+mod totals;
+mod trimming;
 #[cfg(test)]
 mod tests;
 

@@ -1,6 +1,6 @@
 //! Values within the limits.
 
-ghost use Rattle.std.specs.Prelude.{◌≡◌, Ok, Err, MatchResult, pos, ◌<◌, ◌≤◌, ◌^◌, ℕ, List, length, codes};
+ghost use Rattle.std.specs.Prelude.{◌≡◌, Ok, Err, MatchResult, pos, min, ◌+◌, ◌<◌, ◌≤◌, ◌^◌, ℕ, List, length, codes};
 ghost use Rattle.nf_value.specs.Plain.{int, text as text_plain};
 ghost use Rattle.nf_value.specs.Code.{head_code};
 ghost use Rattle.nf_value.specs.View.{plain_of};
@@ -58,23 +58,35 @@ pub(crate) fn count_value(count: usize) -> Result<Value, CallFault>
 pub(crate) fn text_value(alloc: Global, text: &str) -> Result<Value, CallFault>
     ensures { Gives (Ok (text_plain text.now)) result }
 {
-    text_fault(text.len())?;
+    text_fault(capped_len(0, text.len()))?;
     Ok(Value::Text(Txt::of(String::from_str(alloc, text)?)))
 }
 
-/// The fault of a text of this many bytes, if it passes a limit.
-pub(crate) fn text_fault(len: usize) -> Result<(), EvalKind>
-    requires { len < 2 ^ 63 }
-    ensures { (t : List ℕ) → length t ≡ len → MatchResult result (λ _. limited (text_plain t) ≡ Ok (text_plain t)) (λ k. limited (text_plain t) ≡ Err k) }
+/// Where the lengths of texts stop: far above what a text within the limits can have.
+pub(crate) const LONGEST: u64 = 1 << 32;
+
+/// The sum of two lengths, or where they stop.
+pub(crate) fn capped_len(len: u64, more: usize) -> u64
+    requires { len ≤ 2 ^ 32 }
+    ensures { result ≡ min (len + more) (2 ^ 32) }
 {
-    if head_len(len) + len as u64 > MOST_WEIGHT {
+    let room = LONGEST - len;
+    len + (more as u64).min(room)
+}
+
+/// The fault of a text of this many bytes, if it passes a limit.
+pub(crate) fn text_fault(len: u64) -> Result<(), EvalKind>
+    requires { len ≤ 2 ^ 32 }
+    ensures { (t : List ℕ) → min (length t) (2 ^ 32) ≡ len → MatchResult result (λ _. limited (text_plain t) ≡ Ok (text_plain t)) (λ k. limited (text_plain t) ≡ Err k) }
+{
+    if head_len(len) + len > MOST_WEIGHT {
         return Err(EvalKind::TooLarge);
     }
     Ok(())
 }
 
 /// How many bytes the head of a text's code has.
-fn head_len(len: usize) -> u64
+fn head_len(len: u64) -> u64
     ensures len { result ≡ length (head_code (codes "s") len) }
     ensures small { result ≤ 1024 }
 {

@@ -3,12 +3,14 @@
 ghost use Rattle.std.specs.Str.{chars};
 ghost use Rattle.nf_value.specs.View.{plain_of};
 ghost use Rattle.nf_builtins.specs.Outcome.{Gives};
-ghost use Rattle.nf_builtins.specs.Texts.{text_take, text_drop, text_starts_with, text_ends_with, text_is_empty, text_size, text_length, text_reverse, to_lower_case as to_lower_case_of, to_upper_case as to_upper_case_of, substring as substring_of, part_from as part_from_of, part_between as part_between_of, text_contains, text_index_of};
+ghost use Rattle.nf_builtins.specs.Texts.{text_take, text_drop, text_starts_with, text_ends_with, text_is_empty, text_size, text_length, text_reverse, to_lower_case as to_lower_case_of, to_upper_case as to_upper_case_of, substring as substring_of, part_from as part_from_of, part_between as part_between_of, text_contains, text_index_of, replace as replace_of, replaced_or_fault, trim as trim_of};
 
-use crate::args::{as_count, count_arg, no_args, on_text, text_arg};
+use crate::args::{as_count, count_arg, no_args, on_text, text_arg, text_args};
 use crate::characters::{char_count, first_chars, inner_chars, is_end, is_front, later_chars, place_of, reversed};
 use crate::fault::CallFault;
-use crate::limits::{count_value, judged};
+use crate::limits::{count_value, judged, text_fault, text_value};
+use crate::replacing::{replaced, replaced_len};
+use crate::trimming::without_blanks;
 use nf_value::{EvalKind, Txt, Vals, Value};
 use std::alloc::Global;
 
@@ -162,4 +164,32 @@ fn part_between(alloc: Global, text: &Txt, from: u64, to: u64) -> Result<Value, 
     }
     let part = inner_chars(alloc, text.as_str(), from, to - from)?;
     judged(Value::Text(Txt::of(part)))
+}
+
+/// `replace(a, b)`: the text with each a replaced by b, from left to right.
+pub(crate) fn replace(alloc: Global, recv: &Value, args: &Vals) -> Result<Value, CallFault>
+    ensures { Gives (replace_of (plain_of recv.now) args.now) result }
+{
+    let text = on_text(recv)?;
+    let (from, to) = text_args(args)?;
+    replace_each(alloc, text.as_str(), from.as_str(), to.as_str())
+}
+
+fn replace_each(alloc: Global, text: &str, from: &str, to: &str) -> Result<Value, CallFault>
+    ensures { Gives (replaced_or_fault text.now from.now to.now) result }
+{
+    if from.is_empty() {
+        return Err(CallFault::Kind(EvalKind::WrongKind));
+    }
+    text_fault(replaced_len(text, from, to))?;
+    Ok(Value::Text(Txt::of(replaced(alloc, text, from, to)?)))
+}
+
+/// `trim()`: the text without characters up to U+0020 at both ends.
+pub(crate) fn trim(alloc: Global, recv: &Value, args: &Vals) -> Result<Value, CallFault>
+    ensures { Gives (trim_of (plain_of recv.now) args.now) result }
+{
+    let text = on_text(recv)?;
+    no_args(args)?;
+    text_value(alloc, without_blanks(text.as_str()))
 }
