@@ -12,3 +12,6 @@ pub mod Ends
 pub mod Sums
 pub mod Spelt
 pub mod Leading
+pub mod Cutting
+pub mod Parts
+pub mod Lines

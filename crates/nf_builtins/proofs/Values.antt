@@ -9,11 +9,12 @@ use Rattle.std.proofs.lemmas.List.{nil_from_length, length-drop, map-append, tak
 use Rattle.std.proofs.lemmas.Bool.{cases_lt}
 use Rattle.std.proofs.Math.Seq.{take-length}
 use mathlib.Core.List.{reverse, reverse-cons}
-use Rattle.nf_value.specs.Plain.{Plain}
+use Rattle.nf_value.specs.Plain.{Plain, text}
 use Rattle.nf_value.specs.View.{plain_of}
 use Rattle.nf_value.specs.Order.{value_cmp}
 use Rattle.nf_value.specs.Identity.{value_cmp_exact}
 use Rattle.nf_value.specs.declared.value.Value.{Value}
+use Rattle.nf_value.specs.declared.value.Value.TheVariants as v
 use Rattle.nf_builtins.specs.Lists.{is_same, firsts_of, greater_of, smaller_of}
 
 drop_all : (xs : List Value) (i : ℕ) → length xs ≤ i → drop i xs ≡ []
@@ -132,3 +133,6 @@ map-reverse f (x ∷ xs) = ap (map f) (reverse-cons x xs) ∙ map-append f (reve
 pub reversed_of : (xs ys zs : List Value) (vs out : List Plain) → map plain_of xs ≡ vs → map plain_of ys ≡ map plain_of xs → zs ≡ reverse ys → out ≡ map plain_of zs → out ≡ reverse vs
 reversed_of xs ys zs vs out is copied turned e = e ∙ ap (map plain_of) turned ∙ map-reverse plain_of ys ∙ ap reverse (copied ∙ is)
 
+
+pub pushed_text : (old new : List Value) (t s : List ℕ) (all : List Plain) → new ≡ old ++ v.Text t ∷ [] → t ≡ s → all ≡ text s ∷ [] → map plain_of new ≡ map plain_of old ++ all
+pushed_text old new t s all e same is = ap (map plain_of) e ∙ map-append plain_of old (v.Text t ∷ []) ∙ ap (λ y. map plain_of old ++ text y ∷ []) same ∙ ap (λ l. map plain_of old ++ l) (sym is)

@@ -9,3 +9,4 @@ pub mod Lists
 pub mod Maps
 pub mod Files
 pub mod Joined
+pub mod Call

@@ -1,6 +1,6 @@
 -- What a call gives: a value or the kind of its fault.
-use Rattle.std.specs.Prelude.{◌≡◌, ℕ, nat_lt, ◌^◌, length, List, if◌then◌else◌, Result, Ok, Err}
-use Rattle.nf_value.specs.Plain.{Plain}
+use Rattle.std.specs.Prelude.{◌≡◌, ℕ, nat_lt, ◌^◌, length, List, [], ◌∷◌, if◌then◌else◌, Result, Ok, Err}
+use Rattle.nf_value.specs.Plain.{Plain, text}
 use Rattle.nf_value.specs.View.{plain_of}
 use Rattle.nf_value.specs.Code.{code}
 use Rattle.nf_value.specs.Depth.{depth_of}
@@ -32,3 +32,8 @@ Answers o (Err fault.Mem) = Unit {0}
 -- the same of a value before it is limited
 abbrev pub Gives : Outcome → Result Value CallFault → Type 0
 Gives o r = Answers (o >>= limited) r
+
+-- each of these is a text
+abbrev pub AreTexts : List Plain → Type 0
+AreTexts [] = Unit {0}
+AreTexts (v ∷ vs) = ((t : List ℕ) × (v ≡ text t)) × AreTexts vs

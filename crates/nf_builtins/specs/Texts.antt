@@ -1,8 +1,8 @@
 -- What texts can do. They are counted in characters.
-use Rattle.std.specs.Prelude.{ℕ, zero, suc, ℤ, pos, negsuc, nat_lt, nat_eq, nat_le, ◌+◌, ◌-◌, ◌==◌, Bool, true, false, ◌||◌, List, [], ◌∷◌, ◌++◌, length, take, drop, map, reverse, Result, Ok, Err, Option, Some, None, is_some, not, filter, codes, if◌then◌else◌}
-use Rattle.std.specs.List.{starts_with, ends_with, list_any, slice_split}
+use Rattle.std.specs.Prelude.{ℕ, zero, suc, ℤ, pos, negsuc, nat_lt, nat_eq, nat_le, ◌+◌, ◌-◌, ◌==◌, Bool, true, false, ◌||◌, List, [], ◌∷◌, ◌++◌, length, take, drop, map, reverse, Result, Ok, Err, Option, Some, None, is_some, if◌then◌else◌}
+use Rattle.std.specs.List.{starts_with, ends_with, list_any, slice_split, flat_map}
 use Rattle.std.specs.Str.{chars, encode_utf8_all, str_to_ascii_lowercase, str_to_ascii_uppercase}
-use Rattle.nf_value.specs.Plain.{Plain, null, truth, int, text, file, list, table, Plains, no_items, item}
+use Rattle.nf_value.specs.Plain.{Plain, null, truth, int, text, file, list, table, plains_of}
 use Rattle.nf_value.specs.declared.fault.EvalKind.{EvalKind}
 use Rattle.nf_value.specs.declared.fault.EvalKind.TheVariants.{WrongKind, Arity}
 use Rattle.nf_builtins.specs.Outcome.{Outcome, ◌>>=◌}
@@ -127,25 +127,24 @@ trimmed cs = reverse (without_blanks (reverse (without_blanks cs)))
 abbrev pub trim : Plain → List Plain → Outcome
 trim recv args = on_text recv >>= λ t. no_args args >>= λ _. Ok (text_of (trimmed (chars t)))
 
--- the parts between separators, without empty ones
-abbrev pub tokens_of : (ℕ → Bool) → List ℕ → List (List ℕ)
-tokens_of p cs = filter (λ part. not (length part == 0)) (slice_split p cs)
-
 -- whether it is one of these characters
 abbrev pub is_one_of : List ℕ → ℕ → Bool
 is_one_of cs c = list_any (λ d. d == c) cs
 
 -- the separators, where none are given: blank, tab and line end
 abbrev pub blanks : List ℕ
-blanks = codes " \t\n"
+blanks = 32 ∷ 9 ∷ 10 ∷ []
 
--- the texts of these parts
-abbrev pub texts_of : List (List ℕ) → Plains
-texts_of [] = no_items
-texts_of (p ∷ ps) = item (text_of p) (texts_of ps)
+-- a part as a text, but no empty one
+abbrev pub token_of : List ℕ → List Plain
+token_of part = if length part == 0 then [] else text_of part ∷ []
+
+-- the parts between separators as texts, without empty ones
+abbrev pub token_texts : (ℕ → Bool) → List ℕ → List Plain
+token_texts p cs = flat_map token_of (slice_split p cs)
 
 abbrev pub tokens_by : List ℕ → List ℕ → Plain
-tokens_by separators t = list (texts_of (tokens_of (is_one_of (chars separators)) (chars t)))
+tokens_by separators t = list (plains_of (token_texts (is_one_of (chars separators)) (chars t)))
 
 -- `tokenize()` and `tokenize(t)`
 abbrev pub tokenize_of : List ℕ → List Plain → Outcome

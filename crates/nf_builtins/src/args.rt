@@ -70,7 +70,7 @@ pub(crate) fn one_arg(args: &Vals) -> Result<&Value, EvalKind>
 }
 
 /// An argument that has to be a text.
-fn as_text(value: &Value) -> Result<&Txt, EvalKind>
+pub(crate) fn as_text(value: &Value) -> Result<&Txt, EvalKind>
     ensures { MatchResult result (λ t. text_or WrongKind (plain_of value.now) ≡ Ok t.now) (λ k. text_or WrongKind (plain_of value.now) ≡ Err k) }
 {
     match value {

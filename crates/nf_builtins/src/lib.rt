@@ -2,6 +2,7 @@
 #![tactic(auto)]
 
 mod args;
+mod calls;
 mod characters;
 mod fault;
 mod files;
@@ -17,11 +18,13 @@ mod replacing;
 mod rows;
 mod table;
 mod texts;
+mod tokens;
 mod totals;
 mod trimming;
 #[cfg(test)]
 mod tests;
 
+pub use calls::call;
 pub use fault::CallFault;
 pub use method::Method;
 pub use rows::{Builtin, Form, On, builtins};

@@ -1,10 +1,10 @@
 //! Values within the limits.
 
 ghost use Rattle.std.specs.Prelude.{◌≡◌, Ok, Err, MatchResult, pos, min, ◌+◌, ◌<◌, ◌≤◌, ◌^◌, ℕ, List, length, codes};
-ghost use Rattle.nf_value.specs.Plain.{int, text as text_plain};
-ghost use Rattle.nf_value.specs.Code.{head_code};
+ghost use Rattle.nf_value.specs.Plain.{Plain, int, text as text_plain, list, plains_of};
+ghost use Rattle.nf_value.specs.Code.{head_code, code, all_code};
 ghost use Rattle.nf_value.specs.View.{plain_of};
-ghost use Rattle.nf_builtins.specs.Outcome.{Gives, limited};
+ghost use Rattle.nf_builtins.specs.Outcome.{Gives, limited, AreTexts};
 
 use crate::fault::CallFault;
 use itoa::Buffer;
@@ -92,4 +92,24 @@ fn head_len(len: u64) -> u64
 {
     let mut buffer = Buffer::new();
     buffer.format(len).len() as u64 + 2
+}
+
+/// What a text weighs, or where lengths stop.
+pub(crate) fn text_weight(text: &str) -> u64
+    ensures { result ≡ min (length (code (text_plain text.now))) (2 ^ 32) }
+{
+    let len = capped_len(0, text.len());
+    (head_len(len) + len).min(LONGEST)
+}
+
+/// The fault of a list of this many texts that weigh so much, if it passes a limit.
+pub(crate) fn list_fault(count: u64, weight: u64) -> Result<(), EvalKind>
+    requires count { count ≤ 2 ^ 32 }
+    requires weight { weight ≤ 2 ^ 32 }
+    ensures { (vs : List Plain) → AreTexts vs → min (length vs) (2 ^ 32) ≡ count → min (length (all_code (plains_of vs))) (2 ^ 32) ≡ weight → MatchResult result (λ _. limited (list (plains_of vs)) ≡ Ok (list (plains_of vs))) (λ k. limited (list (plains_of vs)) ≡ Err k) }
+{
+    if head_len(count) + weight > MOST_WEIGHT {
+        return Err(EvalKind::TooLarge);
+    }
+    Ok(())
 }

@@ -1,7 +1,7 @@
 //! The rows of all methods.
 
 ghost use Rattle.std.specs.Prelude.{◌≡◌, IfOk};
-ghost use Rattle.nf_builtins.specs.declared.rows.TheConstants.{ROWS};
+ghost use Rattle.nf_builtins.specs.Call.{builtin_rows};
 ghost use Rattle.nf_builtins.specs.Method.{method_name};
 ghost use Rattle.nf_value.specs.View.{plain_of};
 ghost use Rattle.nf_builtins.specs.Rows.{is_on, is_closure};
@@ -94,7 +94,7 @@ impl Builtin {
 }
 
 /// The rows, in the order of their names. This is the only table of methods.
-const ROWS: &[Builtin] = &[
+pub(crate) const ROWS: &[Builtin] = &[
     Builtin { method: Method::MathAbs, on: On::Nothing, form: Form::Call },
     Builtin { method: Method::MathMax, on: On::Nothing, form: Form::Call },
     Builtin { method: Method::MathMin, on: On::Nothing, form: Form::Call },
@@ -151,7 +151,7 @@ const ROWS: &[Builtin] = &[
 ///
 /// `Mem` where there is no memory for it.
 pub fn builtins(alloc: Global) -> Result<Table<Builtin, 48>, Mem>
-    ensures { IfOk result (λ t. t ≡ ROWS.now) }
+    ensures { IfOk result (λ t. t ≡ builtin_rows) }
 {
     let rows = Vec::from_slice(alloc, ROWS)?;
     Ok(Table::new(rows))
