@@ -10,3 +10,4 @@ pub mod Maps
 pub mod Files
 pub mod Joined
 pub mod Call
+pub mod Natives
