@@ -64,4 +64,3 @@ list_counted xs vs i sum r is h e small inv =
 pub map_counted : (xs : List (List ℕ × Value)) (ps : List (List ℕ × Plain)) (i sum r : ℕ) → map pair_of xs ≡ ps → length xs ≤ i → r ≡ max sum 3 → sum ≤ 2 ^ 32 → min (sum + total_len 2 (entries_from xs i)) (2 ^ 32) ≡ min (total_len 2 (entries_from xs 0)) (2 ^ 32) → r ≡ min (length (bracketed (entries_text (pair_texts (plain_pairs_of ps))))) (2 ^ 32)
 map_counted xs ps i sum r is h e small inv =
     omega (arith, no_pairs_left xs i h, map_text_len (plain_pairs_of ps), ap (λ l. total_len 2 (pair_texts (plain_pairs_of l))) is)
-

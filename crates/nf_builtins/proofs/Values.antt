@@ -114,7 +114,6 @@ best_more f xs i x best next all h is e inv = ap (λ b. fold f b (map plain_of (
 pub best_last : (f : Plain → Plain → Plain) (xs : List Value) (i : ℕ) (best all : Plain) → length xs ≤ i → fold f best (map plain_of (drop i xs)) ≡ all → all ≡ best
 best_last f xs i best all h inv = sym (sym (ap (λ l. fold f best (map plain_of l)) (drop_all xs i h)) ∙ inv)
 
-
 -- fronts and ends of lists
 pub front_of : (xs : List Value) (vs out : List Plain) (n m : ℕ) → map plain_of xs ≡ vs → m ≡ min n (length xs) → out ≡ map plain_of (take m xs) → out ≡ take n vs
 front_of xs vs out n m is least e =
@@ -126,13 +125,13 @@ whole_rest xs n m least = (ap (λ k. take k (drop m xs)) (sym (length-drop m xs)
 pub rest_of : (xs : List Value) (vs out : List Plain) (n m : ℕ) → map plain_of xs ≡ vs → m ≡ min n (length xs) → out ≡ map plain_of (slice_range xs m (length xs)) → out ≡ drop n vs
 rest_of xs vs out n m is least e =
     e ∙ ap (map plain_of) (whole_rest xs n m least) ∙ sym (drop-map plain_of n xs) ∙ ap (drop n) is
+
 map-reverse : (f : Value → Plain) (xs : List Value) → map f (reverse xs) ≡ reverse (map f xs)
 map-reverse f [] = refl
 map-reverse f (x ∷ xs) = ap (map f) (reverse-cons x xs) ∙ map-append f (reverse xs) (x ∷ []) ∙ ap (λ l. l ++ f x ∷ []) (map-reverse f xs) ∙ sym (reverse-cons (f x) (map f xs))
 
 pub reversed_of : (xs ys zs : List Value) (vs out : List Plain) → map plain_of xs ≡ vs → map plain_of ys ≡ map plain_of xs → zs ≡ reverse ys → out ≡ map plain_of zs → out ≡ reverse vs
 reversed_of xs ys zs vs out is copied turned e = e ∙ ap (map plain_of) turned ∙ map-reverse plain_of ys ∙ ap reverse (copied ∙ is)
-
 
 pub pushed_text : (old new : List Value) (t s : List ℕ) (all : List Plain) → new ≡ old ++ v.Text t ∷ [] → t ≡ s → all ≡ text s ∷ [] → map plain_of new ≡ map plain_of old ++ all
 pushed_text old new t s all e same is = ap (map plain_of) e ∙ map-append plain_of old (v.Text t ∷ []) ∙ ap (λ y. map plain_of old ++ text y ∷ []) same ∙ ap (λ l. map plain_of old ++ l) (sym is)

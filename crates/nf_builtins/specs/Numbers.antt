@@ -50,9 +50,9 @@ are_digits ds = not (length ds == 0) && all_ascii_digits ds
 abbrev pub integer_in : List ℕ → Option ℤ
 integer_in t =
     if slice_index t 0 == 45 then
-        (if are_digits (drop 1 t) && nat_le (digits_value 10 (drop 1 t)) (2 ^ 63) then Some (neg_ℤ (pos (digits_value 10 (drop 1 t)))) else None)
+    (if are_digits (drop 1 t) && nat_le (digits_value 10 (drop 1 t)) (2 ^ 63) then Some (neg_ℤ (pos (digits_value 10 (drop 1 t)))) else None)
     else
-        (if are_digits t && nat_lt (digits_value 10 t) (2 ^ 63) then Some (pos (digits_value 10 t)) else None)
+    (if are_digits t && nat_lt (digits_value 10 t) (2 ^ 63) then Some (pos (digits_value 10 t)) else None)
 
 -- `isInteger()`
 abbrev pub is_integer : Plain → List Plain → Outcome

@@ -61,12 +61,7 @@ fn joined(alloc: Global, list: &Vals, between: &str) -> Result<Txt, Mem>
     Ok(Txt::of(out))
 }
 
-fn push_item(
-    alloc: Global,
-    out: &mut String,
-    separator: &str,
-    item: &Value,
-) -> Result<(), Mem>
+fn push_item(alloc: Global, out: &mut String, separator: &str, item: &Value) -> Result<(), Mem>
     ensures { OnOk result (string_bytes out.new ≡ string_bytes out.old ++ (separator.now ++ value_text (plain_of item.now))) }
 {
     let text = text_of(alloc, item)?;

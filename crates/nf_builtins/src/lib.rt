@@ -19,12 +19,12 @@ mod program;
 mod replacing;
 mod rows;
 mod table;
+#[cfg(test)]
+mod tests;
 mod texts;
 mod tokens;
 mod totals;
 mod trimming;
-#[cfg(test)]
-mod tests;
 
 pub use calls::call;
 pub use fault::CallFault;

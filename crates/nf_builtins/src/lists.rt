@@ -1,7 +1,5 @@
 //! Rows on lists.
 
-
-
 ghost use Rattle.nf_value.specs.View.{plain_of};
 ghost use Rattle.nf_builtins.specs.Outcome.{Gives};
 ghost use Rattle.nf_builtins.specs.Lists.{list_contains, list_index_of, list_take, list_drop, list_is_empty, list_size, list_reverse, list_first, list_last, list_sort, list_unique, list_max, list_min};

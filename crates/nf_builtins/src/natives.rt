@@ -115,8 +115,7 @@ impl<B: NativeBook, F: Fn(Global, u32, &Vals) -> Result<Value, CallFault>> Store
 }
 
 impl<B: NativeBook, F: Fn(Global, u32, &Vals) -> Result<Value, CallFault>> Natives
-    for StoredNatives<B, F>
-{
+    for StoredNatives<B, F> {
     ghost use Rattle.std.specs.Prelude.{ℕ, length, ◌<◌};
     ghost use Rattle.nf_builtins.specs.Natives.{AnswersNative};
 

@@ -6,7 +6,9 @@ ghost use Rattle.nf_builtins.specs.Outcome.{Gives};
 ghost use Rattle.nf_builtins.specs.Texts.{text_take, text_drop, text_starts_with, text_ends_with, text_is_empty, text_size, text_length, text_reverse, to_lower_case as to_lower_case_of, to_upper_case as to_upper_case_of, substring as substring_of, part_from as part_from_of, part_between as part_between_of, text_contains, text_index_of, replace as replace_of, replaced_or_fault, trim as trim_of};
 
 use crate::args::{as_count, count_arg, no_args, on_text, text_arg, text_args};
-use crate::characters::{char_count, first_chars, inner_chars, is_end, is_front, later_chars, place_of, reversed};
+use crate::characters::{
+    char_count, first_chars, inner_chars, is_end, is_front, later_chars, place_of, reversed,
+};
 use crate::fault::CallFault;
 use crate::limits::{count_value, judged, text_fault, text_value};
 use crate::replacing::{replaced, replaced_len};

@@ -131,7 +131,9 @@ fn cut<'a>(text: &'a str, separators: &str) -> Option<(&'a str, &'a str)>
         (λ r. slice_split (is_one_of (chars separators.now)) (chars text.now) ≡ chars r.0.now ∷ slice_split (is_one_of (chars separators.now)) (chars r.1.now)) }
     ensures shorter { IfSome result (λ r. length r.1.now < length text.now) }
 {
-    text.split_once(|mark: char| -> bool
-        ensures { result ≡ is_one_of (chars separators.entry.now) mark }
-    { is_separator(separators, mark) })
+    text.split_once(
+        |mark: char| -> bool
+            ensures { result ≡ is_one_of (chars separators.entry.now) mark }
+        { is_separator(separators, mark) },
+    )
 }
