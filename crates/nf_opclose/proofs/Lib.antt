@@ -1,0 +1,5 @@
+pub mod AtClose
+pub mod Bags
+pub mod Inputs
+pub mod Kept
+pub mod Promised

@@ -1,0 +1,57 @@
+-- Lists of all items, in rising order.
+use Rattle.std.specs.Prelude.{ℕ, List, [], ◌∷◌, Bool, cond, Result, Ok, Option, Some, None}
+use Rattle.std.specs.List.{flat_map}
+use Rattle.nf_value.specs.Plain.{Plain, null, truth, int, text, file, list, table, plains_of}
+use Rattle.nf_bag.specs.Sorted.{sorted_of}
+use Rattle.nf_opstream.specs.Push.{Push}
+use Rattle.nf_opstream.specs.Fault.{Fault}
+use Rattle.nf_opstream.specs.Nested.{items_of}
+use Rattle.nf_opclose.specs.Closing.{single}
+
+-- the items of a list, or the value itself
+abbrev pub unlisted : Plain → List Plain
+unlisted (list vs) = items_of vs
+unlisted null = null ∷ []
+unlisted (truth b) = truth b ∷ []
+unlisted (int i) = int i ∷ []
+unlisted (text t) = text t ∷ []
+unlisted (file n d l) = file n d l ∷ []
+unlisted (table ps) = table ps ∷ []
+
+-- an image, opened where it is a list and this is asked for
+abbrev pub parts_of : Bool → Push → List Plain
+parts_of flat x = cond flat (unlisted x.answer) (x.answer ∷ [])
+
+-- what is collected of all images
+abbrev pub collected : Bool → List Push → List Plain
+collected flat q = flat_map (parts_of flat) q
+
+-- the list of these values in rising order
+abbrev pub sorted_list : List Plain → Result (List (ℕ × Plain)) Fault
+sorted_list vs = single (list (plains_of (sorted_of vs)))
+
+abbrev pub if_any : List Push → Result (List (ℕ × Plain)) Fault → Result (List (ℕ × Plain)) Fault
+if_any [] due = Ok []
+if_any (x ∷ q) due = due
+
+-- this value, if there is one
+abbrev pub if_some : Option Plain → Result (List (ℕ × Plain)) Fault
+if_some None = Ok []
+if_some (Some v) = single v
+
+abbrev pub first_of : List Plain → Option Plain
+first_of [] = None
+first_of (v ∷ vs) = Some v
+
+abbrev pub last_of : List Plain → Option Plain
+last_of [] = None
+last_of (v ∷ []) = Some v
+last_of (v ∷ w ∷ vs) = last_of (w ∷ vs)
+
+-- none of these values is below it
+abbrev pub least_of : List Plain → Option Plain
+least_of vs = first_of (sorted_of vs)
+
+-- none of these values is above it
+abbrev pub greatest_of : List Plain → Option Plain
+greatest_of vs = last_of (sorted_of vs)

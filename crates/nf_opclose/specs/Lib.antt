@@ -1,0 +1,4 @@
+pub mod Closing
+pub mod Gathered
+pub mod Rows
+pub mod Kept

@@ -1,0 +1,79 @@
+//! `count`, which emits how many items there were.
+
+ghost use Rattle.std.specs.Prelude.{List, [], ◌∷◌, ◌<◌, ◌≤◌, ◌^◌, IfOk, IsOk, MatchResult};
+ghost use Rattle.nf_value.specs.View.{plain_of};
+ghost use Rattle.nf_opstream.specs.Push.{Push, push_of};
+ghost use Rattle.nf_opstream.specs.Promise.{emits_of, HasEmitted, HasEnded, PushRefused, CloseRefused};
+ghost use Rattle.nf_opclose.specs.Rows.{count_row};
+
+use crate::emits::emit;
+use crate::laws;
+use nf_bag::{OpFault, OpOpts};
+use nf_opstream::PassState;
+use nf_opstream::laws::promises;
+use nf_value::{Mem, Value};
+use std::alloc::Global;
+
+/// The state of `count`: the number of items is emitted when the input ends (Nextflow reference, "Operators: count").
+#[derive(Drop)]
+pub struct CountState {
+    alloc: Global,
+    out: PassState,
+    count: u64,
+    ghost few: { count ≤ 2 ^ 32 },
+}
+
+impl CountState {
+    ghost use Rattle.nf_opclose.specs.Kept.{IsCountAfter};
+
+    /// The state before the first item. No option is read.
+    ///
+    /// # Errors
+    ///
+    /// `Mem`, which this operator doesn't answer.
+    pub fn begin(alloc: Global, opts: &OpOpts) -> Result<CountState, Mem>
+        ensures after { IfOk result (λ s. IsCountAfter [] s) }
+        ensures begun { IsOk result }
+    {
+        let out = PassState::begin(alloc, opts)?;
+        Ok(CountState {
+            alloc,
+            out,
+            count: 0,
+        })
+    }
+
+    /// Takes an item. Nothing is emitted for it. Fewer than 2^32 items may have come before.
+    ///
+    /// # Errors
+    ///
+    /// `Mem`, which this operator doesn't answer.
+    pub fn push(
+        &mut self,
+        port: u32,
+        item: Value,
+        answer: Value,
+    ) -> Result<Vec<(u32, Value)>, OpFault>
+        requires { self.old.count < 2 ^ 32 }
+        ensures emits { let x = push_of port (plain_of item) (plain_of answer) in (p : List Push) → IsCountAfter p self.old → MatchResult result (λ es. HasEmitted count_row p x (emits_of es.items)) (PushRefused count_row p x) }
+        ensures after { let x = push_of port (plain_of item) (plain_of answer) in (p : List Push) → IsCountAfter p self.old → IfOk result (λ _. IsCountAfter (x ∷ p) self.new) }
+    {
+        laws::count();
+        promises();
+        self.count += 1;
+        Ok(Vec::new(self.alloc))
+    }
+
+    /// Ends the input, and gives the number of items.
+    ///
+    /// # Errors
+    ///
+    /// `Mem` where there is no memory.
+    pub fn close(&mut self) -> Result<Vec<(u32, Value)>, OpFault>
+        ensures { (p : List Push) → IsCountAfter p self.old → MatchResult result (λ es. HasEnded count_row p (emits_of es.items)) (CloseRefused count_row p) }
+    {
+        laws::count();
+        promises();
+        emit(&mut self.out, Value::Int(self.count as i64))
+    }
+}

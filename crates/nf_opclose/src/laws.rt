@@ -1,0 +1,34 @@
+//! Laws of the operators, each as a contract over the definitions alone.
+
+ghost use Rattle.std.specs.Prelude.{◌≡◌, ◌∷◌, List, ℕ, Result};
+ghost use Rattle.nf_value.specs.Plain.{Plain};
+ghost use Rattle.nf_opstream.specs.Push.{Push, IsSameInput};
+ghost use Rattle.nf_opstream.specs.Fault.{Fault};
+ghost use Rattle.nf_opstream.specs.Operator.{IsOperator};
+ghost use Rattle.nf_opclose.specs.Closing.{closing};
+ghost use Rattle.nf_opclose.specs.Rows.{count_row, if_empty_row};
+
+use nf_opstream::laws::{inputs, item_by_item};
+
+/// An operator that answers each item by itself, and the close by the bag of its input alone, emits its bag, whatever the order of its items.
+pub fn at_the_close()
+    ensures { (f : Push → Result (List (ℕ × Plain)) Fault) → (g : List Push → Result (List (ℕ × Plain)) Fault) → ((p : List Push) → (q : List Push) → IsSameInput p q → g p ≡ g q) → IsOperator (closing f g) }
+{
+    item_by_item();
+}
+
+/// `count` emits its bag, whatever the order of its items.
+pub fn count()
+    ensures { IsOperator count_row }
+{
+    at_the_close();
+    inputs();
+}
+
+/// `ifEmpty` emits its bag, whatever the order of its items.
+pub fn if_empty()
+    ensures { (v : Plain) → IsOperator (if_empty_row v) }
+{
+    at_the_close();
+    inputs();
+}

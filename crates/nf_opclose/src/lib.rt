@@ -1,0 +1,12 @@
+//! Operators that answer when their input ends: each with its meaning over whole inputs, and the promise that the order of its items doesn't matter.
+#![tactic(auto)]
+
+mod count;
+mod emits;
+mod if_empty;
+pub mod laws;
+mod value;
+
+pub use count::CountState;
+pub use if_empty::IfEmptyState;
+pub use value::ValueState;
