@@ -18,3 +18,7 @@ same_both a b c d s e = record { at = λ v. omega (arith, count-append v a c, co
 
 pub sub_more : (a b c : List Plain) → IsSubBag a b → IsSubBag a (b ++ c)
 sub_more a b c s = record { at = λ v. omega (arith, count-append v b c, s.at v) }
+
+-- these values after the others, or before them
+pub same_turned : (a b c d e : List Plain) → a ≡ b ++ c → IsSameBag b d → e ≡ c ++ d → IsSameBag a e
+same_turned a b c d e is s other = record { at = λ v. omega (arith, ap (count v) is, ap (count v) other, count-append v b c, count-append v c d, s.at v) }

@@ -1,15 +1,18 @@
 -- What depends on the bag of an input alone.
 use Rattle.std.proofs.Common.{◌≡◌, ℕ, ◌+◌, List, [], ◌∷◌, ◌++◌, map, length, cond, refl, ap, sym, ◌∙◌, arith}
-use Rattle.std.specs.Prelude.{sum_by, count_by}
+use Rattle.std.specs.Prelude.{sum_by, count_by, Result}
 use Rattle.std.specs.List.{flat_map}
 use Rattle.std.specs.Ordering.{eq_by_cmp}
 use Rattle.std.proofs.lemmas.List.Sums.{sum_by-cons}
-use Rattle.nf_value.specs.Plain.{Plain}
+use Rattle.nf_value.specs.Plain.{Plain, list, plains_of}
 use Rattle.nf_value.specs.Order.{value_cmp}
 use Rattle.nf_bag.specs.Bag.{count, IsSameBag}
+use Rattle.nf_bag.specs.Sorted.{sorted_of}
 use Rattle.nf_opstream.specs.Push.{Push, IsSameInput}
+use Rattle.nf_opstream.specs.Fault.{Fault}
 use Rattle.nf_opstream.specs.Rows.{items_in}
 use Rattle.nf_opclose.specs.Closing.{single}
+use Rattle.nf_opclose.specs.Gathered.{sorted_list, if_any}
 use Rattle.nf_opclose.specs.Rows.{if_none}
 use Rattle.nf_opclose.proofs.Bags.{count_by-append}
 
@@ -44,3 +47,16 @@ if_none_alike v [] [] e = refl
 if_none_alike v [] (y ∷ q) e = absurd (omega arith)
 if_none_alike v (x ∷ p) [] e = absurd (omega arith)
 if_none_alike v (x ∷ p) (y ∷ q) e = refl
+
+-- what the laws of bags say of sorting
+abbrev pub Sorts : Type 0
+Sorts = (a : List Plain) → (b : List Plain) → IsSameBag a b → sorted_of a ≡ sorted_of b
+
+pub sorted_alike : Sorts → {a b : List Plain} → IsSameBag a b → sorted_list a ≡ sorted_list b
+sorted_alike sorts {a} {b} s = ap (λ vs. single (list (plains_of vs))) (sorts a b s)
+
+pub if_any_alike : {r s : Result (List (ℕ × Plain)) Fault} (p q : List Push) → length p ≡ length q → r ≡ s → if_any p r ≡ if_any q s
+if_any_alike [] [] e same = refl
+if_any_alike [] (y ∷ q) e same = absurd (omega arith)
+if_any_alike (x ∷ p) [] e same = absurd (omega arith)
+if_any_alike (x ∷ p) (y ∷ q) e same = same

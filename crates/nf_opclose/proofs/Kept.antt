@@ -1,17 +1,25 @@
 -- What the states keep.
-use Rattle.std.proofs.Common.{◌≡◌, ℕ, suc, ◌+◌, ◌≤◌, ◌^◌, w64, List, [], ◌∷◌, length, true, false, refl, ap, sym, ◌∙◌, arith}
-use Rattle.std.specs.Prelude.{pos, Ok}
+use Rattle.std.proofs.Common.{◌≡◌, ℕ, suc, ◌+◌, ◌≤◌, ◌^◌, w64, List, [], ◌∷◌, ◌++◌, map, length, Bool, true, false, refl, ap, sym, ◌∙◌, arith}
+use Rattle.std.specs.Prelude.{pos, Result, Ok}
+use Rattle.std.proofs.lemmas.List.{map-append}
 use Rattle.std.proofs.lemmas.Int.{ints}
 use mir.Val.{to_z}
 use Rattle.nf_value.specs.Plain.{Plain, int}
 use Rattle.nf_value.specs.View.{plain_of}
+use Rattle.nf_value.specs.declared.value.Value.{Value}
 use Rattle.nf_opstream.specs.Push.{Push}
+use Rattle.nf_opstream.specs.Fault.{Fault}
 use Rattle.nf_opstream.specs.Operator.{AreFine}
+use Rattle.nf_opstream.specs.Rows.{items_in}
+use Rattle.nf_opclose.specs.Gathered.{parts_of, collected, if_any}
 use Rattle.nf_opclose.specs.Closing.{single}
-use Rattle.nf_opclose.specs.Rows.{count_row, if_none, if_empty_row}
-use Rattle.nf_opclose.specs.Kept.{IsCountAfter, is_none_pushed, IsIfEmptyAfter}
+use Rattle.nf_opclose.specs.Rows.{count_row, if_none, if_empty_row, to_list_row, collect_row}
+use Rattle.nf_opclose.specs.Kept.{IsCountAfter, is_none_pushed, IsIfEmptyAfter, IsToListAfter, IsCollectAfter}
+use Rattle.nf_opclose.specs.declared.collect.CollectState.{CollectState}
 use Rattle.nf_opclose.specs.declared.count.CountState.{CountState}
 use Rattle.nf_opclose.specs.declared.if_empty.IfEmptyState.{IfEmptyState}
+use Rattle.nf_opclose.specs.declared.to_list.ToListState.{ToListState}
+use Rattle.nf_opclose.proofs.Bags.{same_turned}
 
 pub count_more : (p : List Push) (s t : CountState) → IsCountAfter p s → (x : Push) → t.count ≡ s.count + 1 → IsCountAfter (x ∷ p) t
 count_more p s t after x e = record { fine = (refl, after.fine); count = omega (arith, after.count) }
@@ -28,3 +36,25 @@ none_due v (x ∷ p) h = cc
 pub some_due : (v : Plain) (p : List Push) → is_none_pushed p ≡ false → if_none v p ≡ Ok []
 some_due v [] h = cc
 some_due v (x ∷ p) h = refl
+
+pub to_list_more : (p : List Push) (s t : ToListState) → IsToListAfter p s → (x : Push) (item : Value) → x.item ≡ plain_of item → t.items.items ≡ s.items.items ++ item ∷ [] → IsToListAfter (x ∷ p) t
+to_list_more p s t after x item same e = record {
+  fine = (refl, after.fine);
+  items = same_turned _ (map plain_of s.items.items) (plain_of item ∷ []) (items_in p) _ (ap (map plain_of) e ∙ map-append plain_of s.items.items (item ∷ [])) after.items (ap (λ v. v ∷ items_in p) same);
+}
+
+pub collect_more : (opened : Bool) (p : List Push) (s t : CollectState) → IsCollectAfter opened p s → (x : Push) → t.flat ≡ s.flat → t.none ≡ false → map plain_of t.parts.items ≡ map plain_of s.parts.items ++ parts_of s.flat x.answer → IsCollectAfter opened (x ∷ p) t
+collect_more opened p s t after x kept some e = record {
+  fine = (refl, after.fine);
+  flat = kept ∙ after.flat;
+  none = some;
+  parts = same_turned _ (map plain_of s.parts.items) (parts_of opened x.answer) (collected opened p) _ (e ∙ ap (λ b. map plain_of s.parts.items ++ parts_of b x.answer) after.flat) after.parts refl;
+}
+
+pub any_due : (p : List Push) (r : Result (List (ℕ × Plain)) Fault) → is_none_pushed p ≡ false → r ≡ if_any p r
+any_due [] r h = cc
+any_due (x ∷ p) r h = refl
+
+pub none_any : (p : List Push) (r : Result (List (ℕ × Plain)) Fault) → is_none_pushed p ≡ true → if_any p r ≡ Ok []
+none_any [] r h = refl
+none_any (x ∷ p) r h = cc

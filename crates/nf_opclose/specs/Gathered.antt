@@ -18,13 +18,13 @@ unlisted (text t) = text t ∷ []
 unlisted (file n d l) = file n d l ∷ []
 unlisted (table ps) = table ps ∷ []
 
--- an image, opened where it is a list and this is asked for
-abbrev pub parts_of : Bool → Push → List Plain
-parts_of flat x = cond flat (unlisted x.answer) (x.answer ∷ [])
+-- a value, opened where it is a list and this is asked for
+abbrev pub parts_of : Bool → Plain → List Plain
+parts_of flat v = cond flat (unlisted v) (v ∷ [])
 
 -- what is collected of all images
 abbrev pub collected : Bool → List Push → List Plain
-collected flat q = flat_map (parts_of flat) q
+collected flat q = flat_map (λ x. parts_of flat x.answer) q
 
 -- the list of these values in rising order
 abbrev pub sorted_list : List Plain → Result (List (ℕ × Plain)) Fault

@@ -1,12 +1,17 @@
 -- What the states keep of the pushes so far, none of them a fault.
-use Rattle.std.specs.Prelude.{◌≡◌, List, [], ◌∷◌, length, Bool, true, false}
+use Rattle.std.specs.Prelude.{◌≡◌, List, [], ◌∷◌, map, length, Bool, true, false}
 use Rattle.nf_value.specs.Plain.{Plain}
 use Rattle.nf_value.specs.View.{plain_of}
+use Rattle.nf_bag.specs.Bag.{IsSameBag}
 use Rattle.nf_opstream.specs.Push.{Push}
 use Rattle.nf_opstream.specs.Operator.{AreFine}
-use Rattle.nf_opclose.specs.Rows.{count_row, if_empty_row}
+use Rattle.nf_opstream.specs.Rows.{items_in}
+use Rattle.nf_opclose.specs.Gathered.{collected}
+use Rattle.nf_opclose.specs.Rows.{count_row, if_empty_row, to_list_row, collect_row}
+use Rattle.nf_opclose.specs.declared.collect.CollectState.{CollectState}
 use Rattle.nf_opclose.specs.declared.count.CountState.{CountState}
 use Rattle.nf_opclose.specs.declared.if_empty.IfEmptyState.{IfEmptyState}
+use Rattle.nf_opclose.specs.declared.to_list.ToListState.{ToListState}
 
 -- the number of items
 pub record IsCountAfter (p : List Push) (s : CountState) : Type 0 where
@@ -22,3 +27,15 @@ pub record IsIfEmptyAfter (v : Plain) (p : List Push) (s : IfEmptyState) : Type 
   pub fine : AreFine (if_empty_row v) p
   pub value : plain_of s.value ≡ v
   pub none : s.none ≡ is_none_pushed p
+
+-- the items
+pub record IsToListAfter (p : List Push) (s : ToListState) : Type 0 where
+  pub fine : AreFine to_list_row p
+  pub items : IsSameBag (map plain_of s.items.items) (items_in p)
+
+-- what is collected so far, and whether there was no item
+pub record IsCollectAfter (opened : Bool) (p : List Push) (s : CollectState) : Type 0 where
+  pub fine : AreFine (collect_row opened) p
+  pub flat : s.flat ≡ opened
+  pub none : s.none ≡ is_none_pushed p
+  pub parts : IsSameBag (map plain_of s.parts.items) (collected opened p)

@@ -1,11 +1,12 @@
 -- The operators of this crate.
-use Rattle.std.specs.Prelude.{ℕ, pos, List, [], ◌∷◌, length, Result, Ok}
+use Rattle.std.specs.Prelude.{ℕ, pos, List, [], ◌∷◌, length, Bool, Result, Ok}
 use Rattle.nf_value.specs.Plain.{Plain, int}
 use Rattle.nf_opstream.specs.Push.{Push}
 use Rattle.nf_opstream.specs.Fault.{Fault}
 use Rattle.nf_opstream.specs.Operator.{Operator}
-use Rattle.nf_opstream.specs.Rows.{pass_row}
+use Rattle.nf_opstream.specs.Rows.{pass_row, items_in}
 use Rattle.nf_opclose.specs.Closing.{closing, silent, single}
+use Rattle.nf_opclose.specs.Gathered.{collected, sorted_list, if_any}
 
 -- `first` and `last` of a value channel, which has at most one item: the items
 abbrev pub value_row : Operator
@@ -22,3 +23,11 @@ if_none v (x ∷ q) = Ok []
 -- `ifEmpty`: the items, or of none this value
 abbrev pub if_empty_row : Plain → Operator
 if_empty_row v = closing (λ x. single x.item) (if_none v)
+
+-- `toList` and `toSortedList`: one sorted list of the items
+abbrev pub to_list_row : Operator
+to_list_row = closing silent (λ q. sorted_list (items_in q))
+
+-- `collect`: one sorted list of the images, each list among them opened one level where `flat` is; of none, nothing
+abbrev pub collect_row : Bool → Operator
+collect_row flat = closing silent (λ q. if_any q (sorted_list (collected flat q)))

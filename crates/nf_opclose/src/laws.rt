@@ -1,13 +1,14 @@
 //! Laws of the operators, each as a contract over the definitions alone.
 
-ghost use Rattle.std.specs.Prelude.{◌≡◌, ◌∷◌, List, ℕ, Result};
+ghost use Rattle.std.specs.Prelude.{◌≡◌, ◌∷◌, List, ℕ, Bool, Result};
 ghost use Rattle.nf_value.specs.Plain.{Plain};
 ghost use Rattle.nf_opstream.specs.Push.{Push, IsSameInput};
 ghost use Rattle.nf_opstream.specs.Fault.{Fault};
 ghost use Rattle.nf_opstream.specs.Operator.{IsOperator};
 ghost use Rattle.nf_opclose.specs.Closing.{closing};
-ghost use Rattle.nf_opclose.specs.Rows.{count_row, if_empty_row};
+ghost use Rattle.nf_opclose.specs.Rows.{count_row, if_empty_row, to_list_row, collect_row};
 
+use nf_bag::laws::sorting;
 use nf_opstream::laws::{inputs, item_by_item};
 
 /// An operator that answers each item by itself, and the close by the bag of its input alone, emits its bag, whatever the order of its items.
@@ -31,4 +32,22 @@ pub fn if_empty()
 {
     at_the_close();
     inputs();
+}
+
+/// `toList` emits its bag, whatever the order of its items.
+pub fn to_list()
+    ensures { IsOperator to_list_row }
+{
+    at_the_close();
+    inputs();
+    sorting();
+}
+
+/// `collect` emits its bag, whatever the order of its items.
+pub fn collect()
+    ensures { (flat : Bool) → IsOperator (collect_row flat) }
+{
+    at_the_close();
+    inputs();
+    sorting();
 }

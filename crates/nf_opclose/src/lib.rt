@@ -1,12 +1,16 @@
 //! Operators that answer when their input ends: each with its meaning over whole inputs, and the promise that the order of its items doesn't matter.
 #![tactic(auto)]
 
+mod collect;
 mod count;
 mod emits;
 mod if_empty;
 pub mod laws;
+mod to_list;
 mod value;
 
+pub use collect::CollectState;
 pub use count::CountState;
 pub use if_empty::IfEmptyState;
+pub use to_list::ToListState;
 pub use value::ValueState;

@@ -1,0 +1,91 @@
+//! `collect`, which emits one list of its images.
+
+ghost use Rattle.std.specs.Prelude.{◌≡◌, List, [], ◌∷◌, Bool, IfOk, IsOk, MatchResult};
+ghost use Rattle.nf_value.specs.View.{plain_of};
+ghost use Rattle.nf_opstream.specs.Push.{Push, push_of};
+ghost use Rattle.nf_opstream.specs.Promise.{emits_of, HasEmitted, HasEnded, PushRefused, CloseRefused};
+ghost use Rattle.nf_opclose.specs.Rows.{collect_row};
+
+use crate::emits::{emit_sorted, put_parts};
+use crate::laws;
+use nf_bag::laws::sorting;
+use nf_bag::{OpFault, OpOpts};
+use nf_opstream::PassState;
+use nf_opstream::laws::promises;
+use nf_value::{Mem, Value};
+use std::alloc::Global;
+use std::mem::replace;
+
+/// The state of `collect`: when the input ends one list of the answers is emitted, in the order of values, and nothing where there was none
+/// (Nextflow reference, "Operators: collect"; that it is always sorted is this project's own choice). With `flat` of the options each answer that
+/// is a list is opened one level.
+#[derive(Drop)]
+pub struct CollectState {
+    alloc: Global,
+    out: PassState,
+    flat: bool,
+    none: bool,
+    parts: Vec<Value>,
+}
+
+impl CollectState {
+    ghost use Rattle.nf_opclose.specs.Kept.{IsCollectAfter};
+
+    /// The state before the first item. Of the options `flat` is read.
+    ///
+    /// # Errors
+    ///
+    /// `Mem`, which this operator doesn't answer.
+    pub fn begin(alloc: Global, opts: &OpOpts) -> Result<CollectState, Mem>
+        ensures after { IfOk result (λ s. IsCollectAfter opts.now.flat [] s) }
+        ensures begun { IsOk result }
+    {
+        let out = PassState::begin(alloc, opts)?;
+        Ok(CollectState {
+            alloc,
+            out,
+            flat: opts.flat,
+            none: true,
+            parts: Vec::new(alloc),
+        })
+    }
+
+    /// Takes an item with its answer. Nothing is emitted for it.
+    ///
+    /// # Errors
+    ///
+    /// `Mem` where there is no memory. Nothing is to be pushed after that.
+    pub fn push(
+        &mut self,
+        port: u32,
+        item: Value,
+        answer: Value,
+    ) -> Result<Vec<(u32, Value)>, OpFault>
+        ensures emits { let x = push_of port (plain_of item) (plain_of answer) in (flat : Bool) → (p : List Push) → IsCollectAfter flat p self.old → MatchResult result (λ es. HasEmitted (collect_row flat) p x (emits_of es.items)) (PushRefused (collect_row flat) p x) }
+        ensures after { let x = push_of port (plain_of item) (plain_of answer) in (flat : Bool) → (p : List Push) → IsCollectAfter flat p self.old → IfOk result (λ _. IsCollectAfter flat (x ∷ p) self.new) }
+    {
+        laws::collect();
+        promises();
+        self.none = false;
+        put_parts(&mut self.parts, self.flat, answer)?;
+        Ok(Vec::new(self.alloc))
+    }
+
+    /// Ends the input, and gives the list. Takes some n log n comparisons of values for n items.
+    ///
+    /// # Errors
+    ///
+    /// `TooDeep` where the list is deeper than 64, `Mem` where there is no memory.
+    pub fn close(&mut self) -> Result<Vec<(u32, Value)>, OpFault>
+        ensures { (flat : Bool) → (p : List Push) → IsCollectAfter flat p self.old → MatchResult result (λ es. HasEnded (collect_row flat) p (emits_of es.items)) (CloseRefused (collect_row flat) p) }
+    {
+        laws::collect();
+        promises();
+        sorting();
+        if self.none {
+            return Ok(Vec::new(self.alloc));
+        }
+        let parts = replace(&mut self.parts, Vec::new(self.alloc));
+        emit_sorted(&mut self.out, parts)
+    }
+}
