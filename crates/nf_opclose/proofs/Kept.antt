@@ -1,23 +1,27 @@
 -- What the states keep.
 use Rattle.std.proofs.Common.{◌≡◌, ℕ, suc, ◌+◌, ◌≤◌, ◌^◌, w64, List, [], ◌∷◌, ◌++◌, map, length, Bool, true, false, refl, ap, sym, ◌∙◌, arith}
-use Rattle.std.specs.Prelude.{pos, Result, Ok}
+use Rattle.std.specs.Prelude.{pos, Option, Some, Result, Ok}
+use Rattle.std.specs.Option.{option_map}
 use Rattle.std.proofs.lemmas.List.{map-append}
 use Rattle.std.proofs.lemmas.Int.{ints}
 use mir.Val.{to_z}
 use Rattle.nf_value.specs.Plain.{Plain, int}
 use Rattle.nf_value.specs.View.{plain_of}
 use Rattle.nf_value.specs.declared.value.Value.{Value}
+use Rattle.nf_bag.specs.Sorted.{IsRising, inserted, sorted_of}
 use Rattle.nf_opstream.specs.Push.{Push}
 use Rattle.nf_opstream.specs.Fault.{Fault}
 use Rattle.nf_opstream.specs.Operator.{AreFine}
 use Rattle.nf_opstream.specs.Rows.{items_in}
-use Rattle.nf_opclose.specs.Gathered.{parts_of, collected, if_any}
+use Rattle.nf_opclose.specs.Gathered.{parts_of, collected, if_any, first_of, last_of}
 use Rattle.nf_opclose.specs.Closing.{single}
-use Rattle.nf_opclose.specs.Rows.{count_row, if_none, if_empty_row, to_list_row, collect_row}
-use Rattle.nf_opclose.specs.Kept.{IsCountAfter, is_none_pushed, IsIfEmptyAfter, IsToListAfter, IsCollectAfter}
+use Rattle.nf_opclose.specs.Rows.{count_row, if_none, if_empty_row, to_list_row, collect_row, min_row, max_row}
+use Rattle.nf_opclose.specs.Kept.{IsCountAfter, is_none_pushed, IsIfEmptyAfter, IsToListAfter, IsCollectAfter, IsMinAfter, IsMaxAfter}
 use Rattle.nf_opclose.specs.declared.collect.CollectState.{CollectState}
 use Rattle.nf_opclose.specs.declared.count.CountState.{CountState}
 use Rattle.nf_opclose.specs.declared.if_empty.IfEmptyState.{IfEmptyState}
+use Rattle.nf_opclose.specs.declared.max.MaxState.{MaxState}
+use Rattle.nf_opclose.specs.declared.min.MinState.{MinState}
 use Rattle.nf_opclose.specs.declared.to_list.ToListState.{ToListState}
 use Rattle.nf_opclose.proofs.Bags.{same_turned}
 
@@ -58,3 +62,17 @@ any_due (x ∷ p) r h = refl
 pub none_any : (p : List Push) (r : Result (List (ℕ × Plain)) Fault) → is_none_pushed p ≡ true → if_any p r ≡ Ok []
 none_any [] r h = refl
 none_any (x ∷ p) r h = cc
+
+pub min_more : (p : List Push) (s t : MinState) → IsMinAfter p s → (x : Push) (old : Option Value) → old ≡ s.least → (new : Value) → t.least ≡ Some new
+    → ((vs : List Plain) → option_map plain_of old ≡ first_of vs → Some (plain_of new) ≡ first_of (inserted x.item vs)) → IsMinAfter (x ∷ p) t
+min_more p s t after x old was new is h = record {
+  fine = (refl, after.fine);
+  least = ap (option_map plain_of) is ∙ h (sorted_of (items_in p)) (ap (option_map plain_of) was ∙ after.least);
+}
+
+pub max_more : ((a : List Plain) → IsRising (sorted_of a)) → (p : List Push) (s t : MaxState) → IsMaxAfter p s → (x : Push) (old : Option Value) → old ≡ s.greatest → (new : Value) → t.greatest ≡ Some new
+    → ((vs : List Plain) → IsRising vs → option_map plain_of old ≡ last_of vs → Some (plain_of new) ≡ last_of (inserted x.item vs)) → IsMaxAfter (x ∷ p) t
+max_more rising p s t after x old was new is h = record {
+  fine = (refl, after.fine);
+  greatest = ap (option_map plain_of) is ∙ h (sorted_of (items_in p)) (rising (items_in p)) (ap (option_map plain_of) was ∙ after.greatest);
+}

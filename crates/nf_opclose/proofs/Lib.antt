@@ -2,5 +2,6 @@ pub mod AtClose
 pub mod Bags
 pub mod Inputs
 pub mod Kept
+pub mod Greatest
 pub mod Parts
 pub mod Promised

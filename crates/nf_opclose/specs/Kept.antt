@@ -1,16 +1,19 @@
 -- What the states keep of the pushes so far, none of them a fault.
 use Rattle.std.specs.Prelude.{◌≡◌, List, [], ◌∷◌, map, length, Bool, true, false}
+use Rattle.std.specs.Option.{option_map}
 use Rattle.nf_value.specs.Plain.{Plain}
 use Rattle.nf_value.specs.View.{plain_of}
 use Rattle.nf_bag.specs.Bag.{IsSameBag}
 use Rattle.nf_opstream.specs.Push.{Push}
 use Rattle.nf_opstream.specs.Operator.{AreFine}
 use Rattle.nf_opstream.specs.Rows.{items_in}
-use Rattle.nf_opclose.specs.Gathered.{collected}
-use Rattle.nf_opclose.specs.Rows.{count_row, if_empty_row, to_list_row, collect_row}
+use Rattle.nf_opclose.specs.Gathered.{collected, least_of, greatest_of}
+use Rattle.nf_opclose.specs.Rows.{count_row, if_empty_row, to_list_row, collect_row, min_row, max_row}
 use Rattle.nf_opclose.specs.declared.collect.CollectState.{CollectState}
 use Rattle.nf_opclose.specs.declared.count.CountState.{CountState}
 use Rattle.nf_opclose.specs.declared.if_empty.IfEmptyState.{IfEmptyState}
+use Rattle.nf_opclose.specs.declared.max.MaxState.{MaxState}
+use Rattle.nf_opclose.specs.declared.min.MinState.{MinState}
 use Rattle.nf_opclose.specs.declared.to_list.ToListState.{ToListState}
 
 -- the number of items
@@ -39,3 +42,13 @@ pub record IsCollectAfter (opened : Bool) (p : List Push) (s : CollectState) : T
   pub flat : s.flat ≡ opened
   pub none : s.none ≡ is_none_pushed p
   pub parts : IsSameBag (map plain_of s.parts.items) (collected opened p)
+
+-- the least item
+pub record IsMinAfter (p : List Push) (s : MinState) : Type 0 where
+  pub fine : AreFine min_row p
+  pub least : option_map plain_of s.least ≡ least_of (items_in p)
+
+-- the greatest item
+pub record IsMaxAfter (p : List Push) (s : MaxState) : Type 0 where
+  pub fine : AreFine max_row p
+  pub greatest : option_map plain_of s.greatest ≡ greatest_of (items_in p)

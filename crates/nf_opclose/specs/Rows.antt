@@ -6,7 +6,7 @@ use Rattle.nf_opstream.specs.Fault.{Fault}
 use Rattle.nf_opstream.specs.Operator.{Operator}
 use Rattle.nf_opstream.specs.Rows.{pass_row, items_in}
 use Rattle.nf_opclose.specs.Closing.{closing, silent, single}
-use Rattle.nf_opclose.specs.Gathered.{collected, sorted_list, if_any}
+use Rattle.nf_opclose.specs.Gathered.{collected, sorted_list, if_any, if_some, least_of, greatest_of}
 
 -- `first` and `last` of a value channel, which has at most one item: the items
 abbrev pub value_row : Operator
@@ -31,3 +31,11 @@ to_list_row = closing silent (λ q. sorted_list (items_in q))
 -- `collect`: one sorted list of the images, each list among them opened one level where `flat` is; of none, nothing
 abbrev pub collect_row : Bool → Operator
 collect_row flat = closing silent (λ q. if_any q (sorted_list (collected flat q)))
+
+-- `min`: the least item; of none, nothing
+abbrev pub min_row : Operator
+min_row = closing silent (λ q. if_some (least_of (items_in q)))
+
+-- `max`: the greatest item; of none, nothing
+abbrev pub max_row : Operator
+max_row = closing silent (λ q. if_some (greatest_of (items_in q)))

@@ -1,20 +1,36 @@
 //! What is emitted at the close.
 
 ghost use Rattle.std.specs.Prelude.{◌≡◌, ◌++◌, Ok, MatchResult, OnOk, map};
+ghost use Rattle.std.specs.Option.{option_map};
 ghost use Rattle.nf_value.specs.View.{plain_of};
 ghost use Rattle.nf_opstream.specs.Promise.{emits_of, IsFault};
 ghost use Rattle.nf_opclose.specs.Closing.{single};
-ghost use Rattle.nf_opclose.specs.Gathered.{unlisted, parts_of, sorted_list};
+ghost use Rattle.nf_opclose.specs.Gathered.{unlisted, parts_of, sorted_list, if_some};
 
 use nf_bag::{OpFault, sorted};
 use nf_opstream::PassState;
 use nf_value::{Mem, Vals, Value};
+use std::alloc::Global;
 
 /// A value to the first output, passed on as an item of `view` is.
 pub(crate) fn emit(out: &mut PassState, value: Value) -> Result<Vec<(u32, Value)>, OpFault>
     ensures { let due = single (plain_of value) in MatchResult result (λ es. due ≡ Ok (emits_of es.items)) (IsFault due) }
 {
     out.push(0, value, Value::Null)
+}
+
+/// A value, if there is one, to the first output.
+pub(crate) fn emit_some(
+    alloc: Global,
+    out: &mut PassState,
+    value: Option<Value>,
+) -> Result<Vec<(u32, Value)>, OpFault>
+    ensures { let due = if_some (option_map plain_of value) in MatchResult result (λ es. due ≡ Ok (emits_of es.items)) (IsFault due) }
+{
+    match value {
+        Some(value) => emit(out, value),
+        None => Ok(Vec::new(alloc)),
+    }
 }
 
 /// The list of these values in rising order, to the first output. Takes some n log n comparisons of values for n values.

@@ -6,7 +6,7 @@ ghost use Rattle.nf_opstream.specs.Push.{Push, IsSameInput};
 ghost use Rattle.nf_opstream.specs.Fault.{Fault};
 ghost use Rattle.nf_opstream.specs.Operator.{IsOperator};
 ghost use Rattle.nf_opclose.specs.Closing.{closing};
-ghost use Rattle.nf_opclose.specs.Rows.{count_row, if_empty_row, to_list_row, collect_row};
+ghost use Rattle.nf_opclose.specs.Rows.{count_row, if_empty_row, to_list_row, collect_row, min_row, max_row};
 
 use nf_bag::laws::sorting;
 use nf_opstream::laws::{inputs, item_by_item};
@@ -46,6 +46,24 @@ pub fn to_list()
 /// `collect` emits its bag, whatever the order of its items.
 pub fn collect()
     ensures { (flat : Bool) → IsOperator (collect_row flat) }
+{
+    at_the_close();
+    inputs();
+    sorting();
+}
+
+/// `min` emits its bag, whatever the order of its items.
+pub fn min()
+    ensures { IsOperator min_row }
+{
+    at_the_close();
+    inputs();
+    sorting();
+}
+
+/// `max` emits its bag, whatever the order of its items.
+pub fn max()
+    ensures { IsOperator max_row }
 {
     at_the_close();
     inputs();

@@ -4,13 +4,18 @@
 mod collect;
 mod count;
 mod emits;
+mod extremes;
 mod if_empty;
 pub mod laws;
+mod max;
+mod min;
 mod to_list;
 mod value;
 
 pub use collect::CollectState;
 pub use count::CountState;
 pub use if_empty::IfEmptyState;
+pub use max::MaxState;
+pub use min::MinState;
 pub use to_list::ToListState;
 pub use value::ValueState;
