@@ -5,3 +5,4 @@ pub mod Kept
 pub mod Greatest
 pub mod Parts
 pub mod Promised
+pub mod Totals

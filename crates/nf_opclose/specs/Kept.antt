@@ -8,12 +8,14 @@ use Rattle.nf_opstream.specs.Push.{Push}
 use Rattle.nf_opstream.specs.Operator.{AreFine}
 use Rattle.nf_opstream.specs.Rows.{items_in}
 use Rattle.nf_opclose.specs.Gathered.{collected, least_of, greatest_of}
-use Rattle.nf_opclose.specs.Rows.{count_row, if_empty_row, to_list_row, collect_row, min_row, max_row}
+use Rattle.nf_opclose.specs.Numbers.{total_of}
+use Rattle.nf_opclose.specs.Rows.{count_row, if_empty_row, to_list_row, collect_row, min_row, max_row, sum_row}
 use Rattle.nf_opclose.specs.declared.collect.CollectState.{CollectState}
 use Rattle.nf_opclose.specs.declared.count.CountState.{CountState}
 use Rattle.nf_opclose.specs.declared.if_empty.IfEmptyState.{IfEmptyState}
 use Rattle.nf_opclose.specs.declared.max.MaxState.{MaxState}
 use Rattle.nf_opclose.specs.declared.min.MinState.{MinState}
+use Rattle.nf_opclose.specs.declared.sum.SumState.{SumState}
 use Rattle.nf_opclose.specs.declared.to_list.ToListState.{ToListState}
 
 -- the number of items
@@ -52,3 +54,9 @@ pub record IsMinAfter (p : List Push) (s : MinState) : Type 0 where
 pub record IsMaxAfter (p : List Push) (s : MaxState) : Type 0 where
   pub fine : AreFine max_row p
   pub greatest : option_map plain_of s.greatest ≡ greatest_of (items_in p)
+
+-- how many items there were, and their total
+pub record IsSumAfter (p : List Push) (s : SumState) : Type 0 where
+  pub fine : AreFine sum_row p
+  pub count : s.numbers.count ≡ length p
+  pub total : s.numbers.total ≡ total_of (items_in p)

@@ -1,4 +1,5 @@
 pub mod Closing
 pub mod Gathered
+pub mod Numbers
 pub mod Rows
 pub mod Kept

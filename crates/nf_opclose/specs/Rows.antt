@@ -7,6 +7,7 @@ use Rattle.nf_opstream.specs.Operator.{Operator}
 use Rattle.nf_opstream.specs.Rows.{pass_row, items_in}
 use Rattle.nf_opclose.specs.Closing.{closing, silent, single}
 use Rattle.nf_opclose.specs.Gathered.{collected, sorted_list, if_any, if_some, least_of, greatest_of}
+use Rattle.nf_opclose.specs.Numbers.{numeric, total_of, total_due, of_numbers}
 
 -- `first` and `last` of a value channel, which has at most one item: the items
 abbrev pub value_row : Operator
@@ -39,3 +40,7 @@ min_row = closing silent (λ q. if_some (least_of (items_in q)))
 -- `max`: the greatest item; of none, nothing
 abbrev pub max_row : Operator
 max_row = closing silent (λ q. if_some (greatest_of (items_in q)))
+
+-- `sum`: the total of the items, 0 of none
+abbrev pub sum_row : Operator
+sum_row = closing numeric (λ q. of_numbers (items_in q) (total_due (total_of (items_in q))))

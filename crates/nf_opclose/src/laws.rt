@@ -6,9 +6,9 @@ ghost use Rattle.nf_opstream.specs.Push.{Push, IsSameInput};
 ghost use Rattle.nf_opstream.specs.Fault.{Fault};
 ghost use Rattle.nf_opstream.specs.Operator.{IsOperator};
 ghost use Rattle.nf_opclose.specs.Closing.{closing};
-ghost use Rattle.nf_opclose.specs.Rows.{count_row, if_empty_row, to_list_row, collect_row, min_row, max_row};
+ghost use Rattle.nf_opclose.specs.Rows.{count_row, if_empty_row, to_list_row, collect_row, min_row, max_row, sum_row};
 
-use nf_bag::laws::sorting;
+use nf_bag::laws::{sorting, sums};
 use nf_opstream::laws::{inputs, item_by_item};
 
 /// An operator that answers each item by itself, and the close by the bag of its input alone, emits its bag, whatever the order of its items.
@@ -68,4 +68,13 @@ pub fn max()
     at_the_close();
     inputs();
     sorting();
+}
+
+/// `sum` emits its bag, whatever the order of its items.
+pub fn sum()
+    ensures { IsOperator sum_row }
+{
+    at_the_close();
+    inputs();
+    sums();
 }

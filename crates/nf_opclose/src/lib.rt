@@ -9,6 +9,8 @@ mod if_empty;
 pub mod laws;
 mod max;
 mod min;
+mod numbers;
+mod sum;
 mod to_list;
 mod value;
 
@@ -17,5 +19,6 @@ pub use count::CountState;
 pub use if_empty::IfEmptyState;
 pub use max::MaxState;
 pub use min::MinState;
+pub use sum::SumState;
 pub use to_list::ToListState;
 pub use value::ValueState;
