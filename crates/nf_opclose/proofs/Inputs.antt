@@ -55,7 +55,7 @@ Sorts = (a : List Plain) → (b : List Plain) → IsSameBag a b → sorted_of a 
 pub sorted_alike : Sorts → {a b : List Plain} → IsSameBag a b → sorted_list a ≡ sorted_list b
 sorted_alike sorts {a} {b} s = ap (λ vs. single (list (plains_of vs))) (sorts a b s)
 
-pub if_any_alike : {r s : Result (List (ℕ × Plain)) Fault} (p q : List Push) → length p ≡ length q → r ≡ s → if_any p r ≡ if_any q s
+pub if_any_alike : {A : Type 0} {r s : Result (List (ℕ × Plain)) Fault} (p q : List A) → length p ≡ length q → r ≡ s → if_any p r ≡ if_any q s
 if_any_alike [] [] e same = refl
 if_any_alike [] (y ∷ q) e same = absurd (omega arith)
 if_any_alike (x ∷ p) [] e same = absurd (omega arith)

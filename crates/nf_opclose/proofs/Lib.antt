@@ -5,4 +5,5 @@ pub mod Kept
 pub mod Greatest
 pub mod Parts
 pub mod Promised
+pub mod Reductions
 pub mod Totals

@@ -30,7 +30,7 @@ collected flat q = flat_map (λ x. parts_of flat x.answer) q
 abbrev pub sorted_list : List Plain → Result (List (ℕ × Plain)) Fault
 sorted_list vs = single (list (plains_of (sorted_of vs)))
 
-abbrev pub if_any : List Push → Result (List (ℕ × Plain)) Fault → Result (List (ℕ × Plain)) Fault
+abbrev pub if_any : {A : Type 0} → List A → Result (List (ℕ × Plain)) Fault → Result (List (ℕ × Plain)) Fault
 if_any [] due = Ok []
 if_any (x ∷ q) due = due
 

@@ -1,20 +1,24 @@
 -- What the states keep of the pushes so far, none of them a fault.
-use Rattle.std.specs.Prelude.{◌≡◌, List, [], ◌∷◌, map, length, Bool, true, false}
+use Rattle.std.specs.Prelude.{◌≡◌, List, [], ◌∷◌, map, length, Bool, true, false, Option}
 use Rattle.std.specs.Option.{option_map}
 use Rattle.nf_value.specs.Plain.{Plain}
 use Rattle.nf_value.specs.View.{plain_of}
 use Rattle.nf_bag.specs.Bag.{IsSameBag}
+use Rattle.nf_bag.specs.declared.options.Total.{Total}
 use Rattle.nf_opstream.specs.Push.{Push}
 use Rattle.nf_opstream.specs.Operator.{AreFine}
 use Rattle.nf_opstream.specs.Rows.{items_in}
 use Rattle.nf_opclose.specs.Gathered.{collected, least_of, greatest_of}
 use Rattle.nf_opclose.specs.Numbers.{total_of}
-use Rattle.nf_opclose.specs.Rows.{count_row, if_empty_row, to_list_row, collect_row, min_row, max_row, sum_row}
+use Rattle.nf_opclose.specs.Reduce.{stray_of, with_start}
+use Rattle.nf_opclose.specs.Rows.{count_row, if_empty_row, to_list_row, collect_row, min_row, max_row, sum_row, reduce_row}
+use Rattle.nf_opclose.specs.Running.{kind_of, IsRunning}
 use Rattle.nf_opclose.specs.declared.collect.CollectState.{CollectState}
 use Rattle.nf_opclose.specs.declared.count.CountState.{CountState}
 use Rattle.nf_opclose.specs.declared.if_empty.IfEmptyState.{IfEmptyState}
 use Rattle.nf_opclose.specs.declared.max.MaxState.{MaxState}
 use Rattle.nf_opclose.specs.declared.min.MinState.{MinState}
+use Rattle.nf_opclose.specs.declared.reduce.ReduceState.{ReduceState}
 use Rattle.nf_opclose.specs.declared.sum.SumState.{SumState}
 use Rattle.nf_opclose.specs.declared.to_list.ToListState.{ToListState}
 
@@ -60,3 +64,10 @@ pub record IsSumAfter (p : List Push) (s : SumState) : Type 0 where
   pub fine : AreFine sum_row p
   pub count : s.numbers.count ≡ length p
   pub total : s.numbers.total ≡ total_of (items_in p)
+
+-- what the closure makes of the items and the initial value, and that value where the closure doesn't take it
+pub record IsReduceAfter (kind : Total) (start : Option Plain) (p : List Push) (s : ReduceState) : Type 0 where
+  pub fine : AreFine (reduce_row kind start) p
+  pub made : kind_of s.running ≡ kind
+  pub stray : option_map plain_of s.stray ≡ stray_of kind start
+  pub running : IsRunning (with_start start (items_in p)) s.running

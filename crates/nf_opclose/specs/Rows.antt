@@ -1,6 +1,7 @@
 -- The operators of this crate.
-use Rattle.std.specs.Prelude.{ℕ, pos, List, [], ◌∷◌, length, Bool, Result, Ok}
+use Rattle.std.specs.Prelude.{ℕ, pos, List, [], ◌∷◌, length, Bool, Option, Result, Ok}
 use Rattle.nf_value.specs.Plain.{Plain, int}
+use Rattle.nf_bag.specs.declared.options.Total.{Total}
 use Rattle.nf_opstream.specs.Push.{Push}
 use Rattle.nf_opstream.specs.Fault.{Fault}
 use Rattle.nf_opstream.specs.Operator.{Operator}
@@ -8,6 +9,7 @@ use Rattle.nf_opstream.specs.Rows.{pass_row, items_in}
 use Rattle.nf_opclose.specs.Closing.{closing, silent, single}
 use Rattle.nf_opclose.specs.Gathered.{collected, sorted_list, if_any, if_some, least_of, greatest_of}
 use Rattle.nf_opclose.specs.Numbers.{numeric, total_of, total_due, of_numbers}
+use Rattle.nf_opclose.specs.Reduce.{taken, reduced}
 
 -- `first` and `last` of a value channel, which has at most one item: the items
 abbrev pub value_row : Operator
@@ -44,3 +46,7 @@ max_row = closing silent (λ q. if_some (greatest_of (items_in q)))
 -- `sum`: the total of the items, 0 of none
 abbrev pub sum_row : Operator
 sum_row = closing numeric (λ q. of_numbers (items_in q) (total_due (total_of (items_in q))))
+
+-- `reduce` with a closure of this kind, and an initial value if there is one
+abbrev pub reduce_row : Total → Option Plain → Operator
+reduce_row kind start = closing (taken kind) (λ q. reduced kind start (items_in q))

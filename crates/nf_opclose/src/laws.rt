@@ -1,12 +1,16 @@
 //! Laws of the operators, each as a contract over the definitions alone.
 
-ghost use Rattle.std.specs.Prelude.{◌≡◌, ◌∷◌, List, ℕ, Bool, Result};
+ghost use Rattle.std.specs.Prelude.{◌≡◌, ◌∷◌, ◌^◌, ◌<◌, List, ℕ, Bool, Option, Result, length};
 ghost use Rattle.nf_value.specs.Plain.{Plain};
+ghost use Rattle.nf_bag.specs.declared.options.Total.{Total};
 ghost use Rattle.nf_opstream.specs.Push.{Push, IsSameInput};
 ghost use Rattle.nf_opstream.specs.Fault.{Fault};
 ghost use Rattle.nf_opstream.specs.Operator.{IsOperator};
 ghost use Rattle.nf_opclose.specs.Closing.{closing};
-ghost use Rattle.nf_opclose.specs.Rows.{count_row, if_empty_row, to_list_row, collect_row, min_row, max_row, sum_row};
+ghost use Rattle.nf_opclose.specs.Rows.{count_row, if_empty_row, to_list_row, collect_row, min_row, max_row, sum_row, reduce_row};
+ghost use Rattle.nf_opclose.specs.Kept.{IsReduceAfter};
+ghost use Rattle.nf_opclose.specs.Running.{HasRoom};
+ghost use Rattle.nf_opclose.specs.declared.reduce.ReduceState.{ReduceState};
 
 use nf_bag::laws::{sorting, sums};
 use nf_opstream::laws::{inputs, item_by_item};
@@ -78,3 +82,18 @@ pub fn sum()
     inputs();
     sums();
 }
+
+/// `reduce` emits its bag, whatever the order of its items.
+pub fn reduce()
+    ensures { (kind : Total) → (start : Option Plain) → IsOperator (reduce_row kind start) }
+{
+    at_the_close();
+    inputs();
+    sorting();
+    sums();
+}
+
+/// Where fewer than 2^32 items were pushed into `reduce`, one more may be.
+pub fn room()
+    ensures { (kind : Total) → (start : Option Plain) → (p : List Push) → (s : ReduceState) → IsReduceAfter kind start p s → length p < 2 ^ 32 → HasRoom s.running }
+{}

@@ -1,9 +1,9 @@
 //! Numbers, counted and added up as they come.
 
 ghost use Rattle.std.specs.Prelude.{◌≡◌, ◌+◌, ◌*◌, ◌^◌, ◌≤◌, ◌≤ℤ◌, ◌+ℤ◌, pos, neg_ℤ, Ok, MatchResult};
-ghost use Rattle.nf_value.specs.Plain.{int};
+ghost use Rattle.nf_value.specs.View.{plain_of};
 ghost use Rattle.nf_opstream.specs.Promise.{emits_of, IsFault};
-ghost use Rattle.nf_opclose.specs.Numbers.{total_due};
+ghost use Rattle.nf_opclose.specs.Numbers.{is_number as is_plain_number, number_of, total_due};
 
 use crate::emits::emit;
 use nf_bag::OpFault;
@@ -51,5 +51,25 @@ impl Numbers {
             return Err(OpFault::Overflow { total: self.total });
         }
         emit(out, Value::Int(self.total as i64))
+    }
+}
+
+/// Whether a value is a number.
+pub(crate) fn is_number(value: &Value) -> bool
+    ensures { result ≡ is_plain_number (plain_of value.now) }
+{
+    match value {
+        Value::Int(_) => true,
+        _ => false,
+    }
+}
+
+/// The number that a value is, and 0 where it is none.
+pub(crate) fn number(value: &Value) -> i64
+    ensures { result ≡ number_of (plain_of value.now) }
+{
+    match value {
+        Value::Int(number) => *number,
+        _ => 0,
     }
 }
