@@ -1,6 +1,6 @@
 //! `count`, which emits how many items there were.
 
-ghost use Rattle.std.specs.Prelude.{List, [], ◌∷◌, ◌<◌, ◌≤◌, ◌^◌, IfOk, IsOk, MatchResult};
+ghost use Rattle.std.specs.Prelude.{List, [], ◌∷◌, ◌<◌, ◌≤◌, ◌^◌, IfOk, IsOk, MatchResult, IsTrue, ◌↔◌};
 ghost use Rattle.nf_value.specs.View.{plain_of};
 ghost use Rattle.nf_opstream.specs.Push.{Push, push_of};
 ghost use Rattle.nf_opstream.specs.Promise.{emits_of, HasEmitted, HasEnded, PushRefused, CloseRefused};
@@ -8,6 +8,7 @@ ghost use Rattle.nf_opclose.specs.Rows.{count_row};
 
 use crate::emits::emit;
 use crate::laws;
+use crate::numbers::MOST_ITEMS;
 use nf_bag::{OpFault, OpOpts};
 use nf_opstream::PassState;
 use nf_opstream::laws::promises;
@@ -41,6 +42,13 @@ impl CountState {
             out,
             count: 0,
         })
+    }
+
+    /// Whether a further item may be pushed: fewer than 2^32 were.
+    pub fn has_room(&self) -> bool
+        ensures { IsTrue result ↔ (self.now.count < 2 ^ 32) }
+    {
+        self.count < MOST_ITEMS
     }
 
     /// Takes an item. Nothing is emitted for it. Fewer than 2^32 items may have come before.

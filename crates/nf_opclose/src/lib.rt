@@ -25,3 +25,6 @@ pub use reduce::ReduceState;
 pub use sum::SumState;
 pub use to_list::ToListState;
 pub use value::ValueState;
+
+#[cfg(test)]
+mod tests;

@@ -10,6 +10,9 @@ use nf_bag::OpFault;
 use nf_opstream::PassState;
 use nf_value::Value;
 
+/// How many items an operator that counts them takes at most.
+pub(crate) const MOST_ITEMS: u64 = 1 << 32;
+
 /// The least total that is emitted.
 const LEAST: i128 = i64::MIN as i128;
 

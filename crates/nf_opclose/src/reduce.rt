@@ -1,6 +1,6 @@
 //! `reduce`, which emits what its closure makes of all items.
 
-ghost use Rattle.std.specs.Prelude.{◌≡◌, List, [], ◌∷◌, Option, IfOk, MatchResult};
+ghost use Rattle.std.specs.Prelude.{◌≡◌, List, [], ◌∷◌, Option, IfOk, MatchResult, IsTrue, ◌↔◌};
 ghost use Rattle.std.specs.Option.{option_map};
 ghost use Rattle.nf_value.specs.Plain.{Plain};
 ghost use Rattle.nf_value.specs.View.{plain_of};
@@ -52,6 +52,13 @@ impl ReduceState {
             stray,
             running,
         })
+    }
+
+    /// Whether a further item may be pushed, as it may where fewer than 2^32 were.
+    pub fn has_room(&self) -> bool
+        ensures { IsTrue result ↔ HasRoom self.now.running }
+    {
+        self.running.has_room()
     }
 
     /// Takes an item. Nothing is emitted for it. Fewer than 2^32 items may have come before.

@@ -1,6 +1,6 @@
 //! What `reduce` makes of values, as they come.
 
-ghost use Rattle.std.specs.Prelude.{◌≡◌, ◌+◌, ◌^◌, ◌≤◌, ◌+ℤ◌, List, [], ◌∷◌, true, false, ◌&&◌, ◌||◌, length, unwrap_or, Ok, MatchResult};
+ghost use Rattle.std.specs.Prelude.{◌≡◌, ◌+◌, ◌^◌, ◌≤◌, ◌+ℤ◌, List, [], ◌∷◌, true, false, ◌&&◌, ◌||◌, length, unwrap_or, Ok, MatchResult, IsTrue, ◌↔◌};
 ghost use Rattle.std.specs.Option.{option_map};
 ghost use Rattle.nf_value.specs.Plain.{Plain, truth as plain_truth};
 ghost use Rattle.nf_value.specs.View.{plain_of};
@@ -11,7 +11,7 @@ ghost use Rattle.nf_opclose.specs.Reduce.{refuses as is_refused, made_of};
 
 use crate::emits::emit_some;
 use crate::extremes::{greater, lesser};
-use crate::numbers::{Numbers, is_number, number};
+use crate::numbers::{MOST_ITEMS, Numbers, is_number, number};
 use nf_bag::laws::sorting;
 use nf_bag::{OpFault, Total};
 use nf_opstream::PassState;
@@ -58,6 +58,17 @@ impl Running {
         match self {
             Running::Sum(_) | Running::Least(_) | Running::Greatest(_) => !is_number(value),
             Running::All(_) | Running::Any(_) => false,
+        }
+    }
+
+    /// Whether one more value can be counted.
+    pub(crate) fn has_room(&self) -> bool
+        ensures { IsTrue result ↔ HasRoom self.now }
+    {
+        match self {
+            Running::Sum(numbers) => numbers.count <= MOST_ITEMS,
+            Running::Least(_) | Running::Greatest(_) => true,
+            Running::All(_) | Running::Any(_) => true,
         }
     }
 

@@ -1,13 +1,13 @@
 //! `sum`, which emits the total of its items.
 
-ghost use Rattle.std.specs.Prelude.{List, [], ◌∷◌, ◌<◌, ◌^◌, IfOk, IsOk, MatchResult};
+ghost use Rattle.std.specs.Prelude.{List, [], ◌∷◌, ◌<◌, ◌^◌, IfOk, IsOk, MatchResult, IsTrue, ◌↔◌};
 ghost use Rattle.nf_value.specs.View.{plain_of};
 ghost use Rattle.nf_opstream.specs.Push.{Push, push_of};
 ghost use Rattle.nf_opstream.specs.Promise.{emits_of, HasEmitted, HasEnded, PushRefused, CloseRefused};
 ghost use Rattle.nf_opclose.specs.Rows.{sum_row};
 
 use crate::laws;
-use crate::numbers::Numbers;
+use crate::numbers::{MOST_ITEMS, Numbers};
 use nf_bag::{OpFault, OpOpts};
 use nf_opstream::PassState;
 use nf_opstream::laws::promises;
@@ -41,6 +41,13 @@ impl SumState {
             out,
             numbers: Numbers::none(),
         })
+    }
+
+    /// Whether a further item may be pushed: fewer than 2^32 were.
+    pub fn has_room(&self) -> bool
+        ensures { IsTrue result ↔ (self.now.numbers.count < 2 ^ 32) }
+    {
+        self.numbers.count < MOST_ITEMS
     }
 
     /// Takes an item. Nothing is emitted for it. Fewer than 2^32 items may have come before.

@@ -19,5 +19,5 @@ returns-in-None c = λ kind start p after. (let vs = with_start start (items_in 
     let was = c.replace-running.ensures.value in
     ended (λ t. t.items) (reduce_row kind start) (c.reduce.ensures kind start) c.promises.ensures.ended c.promises.ensures.broken p after.fine c.emit.result
     (due_alike (λ t. t.items)
-      (ap (λ k. made_of k vs) (ap kind_of was ∙ after.made) ∙ made_due kind start p after.fine (stray_is kind start p c.args.self.now after c.replace-stray.result c.replace-stray.ensures.value ∙ ap (option_map plain_of) c.in-None.is))
-      c.emit.result (c.emit.ensures vs (subst (IsRunning vs) (sym was) after.running))))
+    (ap (λ k. made_of k vs) (ap kind_of was ∙ after.made) ∙ made_due kind start p after.fine (stray_is kind start p c.args.self.now after c.replace-stray.result c.replace-stray.ensures.value ∙ ap (option_map plain_of) c.in-None.is))
+    c.emit.result (c.emit.ensures vs (subst (IsRunning vs) (sym was) after.running))))

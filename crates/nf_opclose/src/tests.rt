@@ -1,0 +1,301 @@
+//! Each operator over its items in several orders.
+
+ghost use Rattle.std.specs.Prelude.{◌≡◌};
+
+use crate::{
+    CollectState, CountState, IfEmptyState, MaxState, MinState, ReduceState, SumState, ToListState,
+    ValueState,
+};
+use nf_bag::{OpFault, OpOpts, Total};
+use nf_value::{Mem, Pairs, Txt, Vals, Value, text_of};
+use std::alloc::Global;
+use std::test::Fail;
+
+const ORDERS: &[[usize; 3]] = &[[0, 1, 2], [2, 1, 0], [1, 0, 2]];
+
+fn options(flat: bool, start: Option<Value>, total: Total) -> OpOpts
+    ensures { result.start ≡ start }
+{
+    OpOpts {
+        by: None,
+        remainder: false,
+        sort: false,
+        flat,
+        start,
+        total,
+        outs: 0,
+    }
+}
+
+fn plain_options() -> OpOpts {
+    options(true, None, Total::Sum)
+}
+
+fn text(alloc: Global, text: &str) -> Result<Value, Mem> {
+    Ok(Value::Text(Txt::of(String::from_str(alloc, text)?)))
+}
+
+fn pair(alloc: Global, a: Value, b: Value) -> Result<Value, Mem> {
+    let mut items = Vec::new(alloc);
+    items.push(a)?;
+    items.push(b)?;
+    Ok(Value::List(Vals::of(items)))
+}
+
+/// A list in a list, so often.
+fn nested(alloc: Global, depth: u32) -> Result<Value, Mem> {
+    let mut value = Value::Int(0);
+    for _ in 0..depth {
+        let mut items = Vec::new(alloc);
+        items.push(value)?;
+        value = Value::List(Vals::of(items));
+    }
+    Ok(value)
+}
+
+/// The items that the operators meet: 3, [1, [3, 2]] and [k: 4].
+fn item(alloc: Global, place: usize) -> Result<Value, Mem> {
+    match place {
+        0 => Ok(Value::Int(3)),
+        1 => pair(
+            alloc,
+            Value::Int(1),
+            pair(alloc, Value::Int(3), Value::Int(2))?,
+        ),
+        _ => {
+            let mut pairs = Vec::new(alloc);
+            pairs.push((Txt::of(String::from_str(alloc, "k")?), Value::Int(4)))?;
+            Ok(Value::Map(Pairs::of(pairs)))
+        }
+    }
+}
+
+/// What was emitted to the first output, printed as a list, or the name of the fault.
+fn shown(alloc: Global, answer: Result<Vec<(u32, Value)>, OpFault>) -> Result<Txt, Mem> {
+    match answer {
+        Ok(emits) => {
+            let mut values = Vec::new(alloc);
+            for (out, value) in emits {
+                if out == 0 {
+                    values.push(value)?;
+                }
+            }
+            text_of(alloc, &Value::List(Vals::of(values)))
+        }
+        Err(fault) => Ok(Txt::of(format!(in alloc; "{fault}")?)),
+    }
+}
+
+/// Adds what a push emitted to the first output.
+fn add(
+    emits: &mut Vec<(u32, Value)>,
+    answer: Result<Vec<(u32, Value)>, OpFault>,
+) -> Result<(), Mem> {
+    match answer {
+        Ok(more) => {
+            for emit in more {
+                emits.push(emit)?;
+            }
+            Ok(())
+        }
+        Err(_) => Err(Mem),
+    }
+}
+
+#[test]
+fn lists_hold_all_items(rt: HostRuntime) -> Result<(), Fail> {
+    let alloc = rt.alloc();
+    let unopened = options(false, None, Total::Sum);
+    for order in ORDERS {
+        let mut emits = Vec::new(alloc);
+        let mut listed = ToListState::begin(alloc, &plain_options())?;
+        let mut opened = CollectState::begin(alloc, &plain_options())?;
+        let mut collected = CollectState::begin(alloc, &unopened)?;
+        for place in order {
+            add(
+                &mut emits,
+                listed.push(0, item(alloc, *place)?, Value::Null),
+            )?;
+            add(
+                &mut emits,
+                opened.push(0, Value::Null, item(alloc, *place)?),
+            )?;
+            add(
+                &mut emits,
+                collected.push(0, Value::Null, item(alloc, *place)?),
+            )?;
+        }
+        assert_eq!(rt; emits.len(), 0);
+        let found = shown(alloc, listed.close())?;
+        assert_eq!(rt; found.as_str(), "[[3, [1, [3, 2]], [k:4]]]");
+        let found = shown(alloc, opened.close())?;
+        assert_eq!(rt; found.as_str(), "[[1, 3, [3, 2], [k:4]]]");
+        let found = shown(alloc, collected.close())?;
+        assert_eq!(rt; found.as_str(), "[[3, [1, [3, 2]], [k:4]]]");
+    }
+    let mut none = ToListState::begin(alloc, &plain_options())?;
+    let found = shown(alloc, none.close())?;
+    assert_eq!(rt; found.as_str(), "[[]]");
+    let mut none = CollectState::begin(alloc, &plain_options())?;
+    let found = shown(alloc, none.close())?;
+    assert_eq!(rt; found.as_str(), "[]");
+    Ok(())
+}
+
+#[test]
+fn lists_are_at_most_64_deep(rt: HostRuntime) -> Result<(), Fail> {
+    let alloc = rt.alloc();
+    let mut emits = Vec::new(alloc);
+    let mut listed = ToListState::begin(alloc, &plain_options())?;
+    add(&mut emits, listed.push(0, nested(alloc, 64)?, Value::Null))?;
+    let found = shown(alloc, listed.close())?;
+    assert_eq!(rt; found.as_str(), "TooDeep");
+    let mut opened = CollectState::begin(alloc, &plain_options())?;
+    add(&mut emits, opened.push(0, Value::Null, nested(alloc, 64)?))?;
+    assert!(rt; opened.close().is_ok());
+    Ok(())
+}
+
+#[test]
+fn one_value_of_all_items(rt: HostRuntime) -> Result<(), Fail> {
+    let alloc = rt.alloc();
+    for order in ORDERS {
+        let mut emits = Vec::new(alloc);
+        let mut count = CountState::begin(alloc, &plain_options())?;
+        let mut min = MinState::begin(alloc, &plain_options())?;
+        let mut max = MaxState::begin(alloc, &plain_options())?;
+        for place in order {
+            if count.has_room() {
+                add(&mut emits, count.push(0, Value::Int(1), Value::Null))?;
+            }
+            add(&mut emits, min.push(0, item(alloc, *place)?, Value::Null))?;
+            add(&mut emits, max.push(0, item(alloc, *place)?, Value::Null))?;
+        }
+        assert_eq!(rt; emits.len(), 0);
+        let found = shown(alloc, count.close())?;
+        assert_eq!(rt; found.as_str(), "[3]");
+        let found = shown(alloc, min.close())?;
+        assert_eq!(rt; found.as_str(), "[3]");
+        let found = shown(alloc, max.close())?;
+        assert_eq!(rt; found.as_str(), "[[k:4]]");
+    }
+    let mut none = CountState::begin(alloc, &plain_options())?;
+    let found = shown(alloc, none.close())?;
+    assert_eq!(rt; found.as_str(), "[0]");
+    let mut none = MinState::begin(alloc, &plain_options())?;
+    let found = shown(alloc, none.close())?;
+    assert_eq!(rt; found.as_str(), "[]");
+    let mut none = MaxState::begin(alloc, &plain_options())?;
+    let found = shown(alloc, none.close())?;
+    assert_eq!(rt; found.as_str(), "[]");
+    Ok(())
+}
+
+#[test]
+fn items_pass_and_of_none_a_value(rt: HostRuntime) -> Result<(), Fail> {
+    let alloc = rt.alloc();
+    let with_value = options(true, Some(text(alloc, "none")?), Total::Sum);
+    let mut value = ValueState::begin(alloc, &plain_options())?;
+    let found = shown(alloc, value.push(0, Value::Int(7), Value::Null))?;
+    assert_eq!(rt; found.as_str(), "[7]");
+    let found = shown(alloc, value.close())?;
+    assert_eq!(rt; found.as_str(), "[]");
+    let mut some = IfEmptyState::begin(alloc, &with_value)?;
+    let found = shown(alloc, some.push(0, Value::Int(7), Value::Null))?;
+    assert_eq!(rt; found.as_str(), "[7]");
+    let found = shown(alloc, some.close())?;
+    assert_eq!(rt; found.as_str(), "[]");
+    let mut none = IfEmptyState::begin(alloc, &with_value)?;
+    let found = shown(alloc, none.close())?;
+    assert_eq!(rt; found.as_str(), "[none]");
+    Ok(())
+}
+
+/// What `sum` answers for these numbers.
+fn total_of(alloc: Global, items: &[i64]) -> Result<Txt, Mem> {
+    let mut emits = Vec::new(alloc);
+    let mut sum = SumState::begin(alloc, &plain_options())?;
+    for item in items {
+        if sum.has_room() {
+            add(&mut emits, sum.push(0, Value::Int(*item), Value::Null))?;
+        }
+    }
+    shown(alloc, sum.close())
+}
+
+/// What `reduce` answers for these numbers.
+fn reduced(alloc: Global, total: Total, start: Option<Value>, items: &[i64]) -> Result<Txt, Mem> {
+    let mut emits = Vec::new(alloc);
+    let mut reduce = ReduceState::begin(alloc, &options(true, start, total))?;
+    for item in items {
+        if reduce.has_room() {
+            add(&mut emits, reduce.push(0, Value::Int(*item), Value::Null))?;
+        }
+    }
+    shown(alloc, reduce.close())
+}
+
+/// Numbers whose partial totals leave 64 bits, with their total.
+const TOTALS: &[(&[i64], &str)] = &[
+    (&[], "[0]"),
+    (&[1, 2, 3], "[6]"),
+    (&[i64::MAX, i64::MAX, i64::MIN, i64::MIN, 5], "[3]"),
+    (&[5, i64::MIN, i64::MIN, i64::MAX, i64::MAX], "[3]"),
+    (&[i64::MAX, 1], "Overflow"),
+    (&[i64::MIN, -1], "Overflow"),
+    (&[i64::MIN, i64::MIN, i64::MAX, 1], "[-9223372036854775808]"),
+];
+
+#[test]
+fn totals_are_judged_as_a_whole(rt: HostRuntime) -> Result<(), Fail> {
+    let alloc = rt.alloc();
+    for (items, want) in TOTALS.iter().copied() {
+        let found = total_of(alloc, items)?;
+        assert_eq!(rt; found.as_str(), want);
+    }
+    let found = reduced(alloc, Total::Sum, None, &[i64::MAX, i64::MAX, i64::MIN, 4])?;
+    assert_eq!(rt; found.as_str(), "Overflow");
+    let start = Some(Value::Int(i64::MIN));
+    let found = reduced(alloc, Total::Sum, start, &[i64::MAX, i64::MAX, i64::MIN, 4])?;
+    assert_eq!(rt; found.as_str(), "[2]");
+    let mut sum = SumState::begin(alloc, &plain_options())?;
+    if sum.has_room() {
+        let found = shown(alloc, sum.push(0, text(alloc, "1")?, Value::Null))?;
+        assert_eq!(rt; found.as_str(), "NotANumber");
+    }
+    Ok(())
+}
+
+/// Kinds of closure, with what they make of 4, 0 and -2.
+const KINDS: &[(Total, &str)] = &[
+    (Total::Sum, "[2]"),
+    (Total::Least, "[-2]"),
+    (Total::Greatest, "[4]"),
+    (Total::All, "[false]"),
+    (Total::Any, "[true]"),
+];
+
+#[test]
+fn reduce_has_five_kinds(rt: HostRuntime) -> Result<(), Fail> {
+    let alloc = rt.alloc();
+    for (total, want) in KINDS.iter().copied() {
+        let found = reduced(alloc, total, None, &[4, 0, -2])?;
+        assert_eq!(rt; found.as_str(), want);
+        let found = reduced(alloc, total, None, &[-2, 0, 4])?;
+        assert_eq!(rt; found.as_str(), want);
+        let found = reduced(alloc, total, None, &[])?;
+        assert_eq!(rt; found.as_str(), "[]");
+    }
+    let found = reduced(alloc, Total::Least, Some(Value::Int(-7)), &[4, 0, -2])?;
+    assert_eq!(rt; found.as_str(), "[-7]");
+    let found = reduced(alloc, Total::All, Some(text(alloc, "")?), &[4])?;
+    assert_eq!(rt; found.as_str(), "[false]");
+    let found = reduced(alloc, Total::Greatest, Some(text(alloc, "x")?), &[4])?;
+    assert_eq!(rt; found.as_str(), "NotANumber");
+    let mut texts = ReduceState::begin(alloc, &options(true, None, Total::Greatest))?;
+    if texts.has_room() {
+        let found = shown(alloc, texts.push(0, text(alloc, "x")?, Value::Null))?;
+        assert_eq!(rt; found.as_str(), "NotANumber");
+    }
+    Ok(())
+}
