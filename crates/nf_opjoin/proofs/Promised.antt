@@ -1,0 +1,83 @@
+-- From what an operator gives to what a push and a close promise.
+use Rattle.std.proofs.Common.{◌≡◌, ℕ, List, [], ◌∷◌, ap, sym, ◌∙◌, subst}
+use Rattle.std.specs.Prelude.{Option, Some, None, Result, Ok, Err, MatchResult, IfSome}
+use Rattle.nf_value.specs.Plain.{Plain, list, plains_of}
+use Rattle.nf_value.specs.declared.value.Value.{Value}
+use Rattle.nf_bag.specs.declared.fault.OpFault.{OpFault}
+use Rattle.nf_opstream.specs.Push.{Push}
+use Rattle.nf_opstream.specs.Fault.{Fault, fault_of}
+use Rattle.nf_opstream.specs.Operator.{Operator, AreFine, IsOperator}
+use Rattle.nf_opstream.specs.Promise.{emits_of, IsFault, HasEmitted, HasFaulted, HasEnded, HasBroken, PushRefused, CloseRefused}
+use Rattle.nf_opstream.specs.Alone.{judged}
+use Rattle.nf_opstream.specs.Rows.{pass_row}
+use Rattle.nf_opjoin.specs.Combined.{tuple}
+
+-- what the laws of the operators say of any of them
+abbrev pub Emits : Type 0
+Emits = (op : Operator) → IsOperator op → (p : List Push) → AreFine op p → (x : Push) → (es : List (ℕ × Plain)) → op.gives p x ≡ Ok es → HasEmitted op p x es
+
+abbrev pub Faults : Type 0
+Faults = (op : Operator) → IsOperator op → (p : List Push) → AreFine op p → (x : Push) → (f : Fault) → op.gives p x ≡ Err f → HasFaulted op p x f
+
+abbrev pub Ends : Type 0
+Ends = (op : Operator) → IsOperator op → (p : List Push) → AreFine op p → (es : List (ℕ × Plain)) → op.ends p ≡ Ok es → HasEnded op p es
+
+abbrev pub Breaks : Type 0
+Breaks = (op : Operator) → IsOperator op → (p : List Push) → AreFine op p → (f : Fault) → op.ends p ≡ Err f → HasBroken op p f
+
+-- an answer is this value, to the first output, or that it is too deep
+abbrev pub IsDue : {T : Type 0} → (T → List (ℕ × Value)) → Result T OpFault → Result (List (ℕ × Plain)) Fault → Type 0
+IsDue items r due = MatchResult r (λ t. due ≡ Ok (emits_of (items t))) (IsFault due)
+
+refused : (op : Operator) → IsOperator op → Faults → (p : List Push) → AreFine op p → (x : Push) (f : Option Fault) → IfSome f (λ g. op.gives p x ≡ Err g) → IfSome f (HasFaulted op p x)
+refused op law faults p fine x None h = tt
+refused op law faults p fine x (Some g) h = faults op law p fine x g h
+
+-- the answer of a push
+pub answered : {T : Type 0} (items : T → List (ℕ × Value)) (op : Operator) → IsOperator op → Emits → Faults → (p : List Push) → AreFine op p → (x : Push) (r : Result T OpFault)
+    → IsDue items r (op.gives p x) → MatchResult r (λ t. HasEmitted op p x (emits_of (items t))) (PushRefused op p x)
+answered items op law emits faults p fine x (Ok t) h = emits op law p fine x (emits_of (items t)) h
+answered items op law emits faults p fine x (Err f) h = refused op law faults p fine x (fault_of f) h
+
+-- a push that emits nothing
+pub gives_silent : (op : Operator) → IsOperator op → Emits → (p : List Push) → AreFine op p → (x : Push) (es : List (ℕ × Value)) → es ≡ [] → op.gives p x ≡ Ok [] → HasEmitted op p x (emits_of es)
+gives_silent op law emits p fine x es none e = emits op law p fine x (emits_of es) (e ∙ ap (λ z. Ok (emits_of z)) (sym none))
+
+broken : (op : Operator) → IsOperator op → Breaks → (p : List Push) → AreFine op p → (f : Option Fault) → IfSome f (λ g. op.ends p ≡ Err g) → IfSome f (HasBroken op p)
+broken op law breaks p fine None h = tt
+broken op law breaks p fine (Some g) h = breaks op law p fine g h
+
+-- the answer of a close
+pub ended : {T : Type 0} (items : T → List (ℕ × Value)) (op : Operator) → IsOperator op → Ends → Breaks → (p : List Push) → AreFine op p → (r : Result T OpFault) → IsDue items r (op.ends p)
+    → MatchResult r (λ t. HasEnded op p (emits_of (items t))) (CloseRefused op p)
+ended items op law ends breaks p fine (Ok t) h = ends op law p fine (emits_of (items t)) h
+ended items op law ends breaks p fine (Err f) h = broken op law breaks p fine (fault_of f) h
+
+-- a close that emits these
+pub ends_with : (op : Operator) → IsOperator op → Ends → (p : List Push) → AreFine op p → (es : List (ℕ × Value)) (vs : List (ℕ × Plain)) → emits_of es ≡ vs → op.ends p ≡ Ok vs → HasEnded op p (emits_of es)
+ends_with op law ends p fine es vs same e = ends op law p fine (emits_of es) (e ∙ ap Ok (sym same))
+
+-- what is due may be named otherwise
+pub due_alike : {T : Type 0} (items : T → List (ℕ × Value)) {given due : Result (List (ℕ × Plain)) Fault} → given ≡ due → (r : Result T OpFault) → IsDue items r given → IsDue items r due
+due_alike items e r h = subst (λ d. IsDue items r d) e h
+
+deep : (x : Push) (vs : List Plain) → x.item ≡ list (plains_of vs) → (f : Option Fault) → IfSome f (HasFaulted pass_row [] x) → IfSome f (λ g. tuple vs ≡ Err g)
+deep x vs is None h = tt
+deep x vs is (Some g) h = subst (λ v. judged ((0, v) ∷ []) ≡ Err g) is h.gives
+
+-- what `view` answers on its first item
+pub passed : {T : Type 0} (items : T → List (ℕ × Value)) (x : Push) (vs : List Plain) → x.item ≡ list (plains_of vs) → (r : Result T OpFault) → MatchResult r (λ t. HasEmitted pass_row [] x (emits_of (items t))) (PushRefused pass_row [] x) → IsDue items r (tuple vs)
+passed items x vs is (Ok t) h = subst (λ v. judged ((0, v) ∷ []) ≡ Ok (emits_of (items t))) is h.gives
+passed items x vs is (Err f) h = deep x vs is (fault_of f) h
+
+-- a fault that a part has, the whole has
+pub fault_of_whole : (part whole : Result (List (ℕ × Plain)) Fault) (f : OpFault) → ((g : Fault) → part ≡ Err g → whole ≡ Err g) → IsFault part f → IsFault whole f
+fault_of_whole part whole f carries h = by (fault_of f) h
+  where
+    by : (o : Option Fault) → IfSome o (λ g. part ≡ Err g) → IfSome o (λ g. whole ≡ Err g)
+    by None k = tt
+    by (Some g) k = carries g k
+
+-- a push that is refused
+pub refused_push : (op : Operator) → IsOperator op → Faults → (p : List Push) → AreFine op p → (x : Push) (f : OpFault) → IsFault (op.gives p x) f → PushRefused op p x f
+refused_push op law faults p fine x f h = refused op law faults p fine x (fault_of f) h

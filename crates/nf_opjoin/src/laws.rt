@@ -1,0 +1,22 @@
+//! Laws of the operators, each as a contract over the definitions alone.
+
+ghost use Rattle.std.specs.Prelude.{Bool};
+ghost use Rattle.nf_opstream.specs.Operator.{IsOperator};
+ghost use Rattle.nf_opjoin.specs.Pairing.{Matching, IsMatching, pairing};
+ghost use Rattle.nf_opjoin.specs.Combined.{combine_row};
+
+use nf_opstream::laws::inputs;
+
+/// An operator that pairs items emits its bag, whatever the order of its items.
+pub fn all_pairs()
+    ensures { (m : Matching) → IsMatching m → IsOperator (pairing m) }
+{
+    inputs();
+}
+
+/// `combine` emits its bag, whatever the order of its items.
+pub fn combined()
+    ensures { (by_first : Bool) → IsOperator (combine_row by_first) }
+{
+    all_pairs();
+}
