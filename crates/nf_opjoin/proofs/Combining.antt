@@ -174,10 +174,10 @@ refused_gives by_first x p h = let b = both_true by_first (is_some (key_at 0 x.i
 pub own_key : (by_first : Bool) (x : Push) → (by_first && not (is_some (key_at 0 x.item))) ≡ false → by_first ≡ true → is_some (key_at 0 x.item) ≡ true
 own_key by_first x h = not_both by_first (is_some (key_at 0 x.item)) h
 
-is_zero : (n : ℕ) → n ≡ 0 → (n == 0) ≡ true
+pub is_zero : (n : ℕ) → n ≡ 0 → (n == 0) ≡ true
 is_zero n h = grind (arith, nat_tests)
 
-not_zero : (n : ℕ) → (n ≡ 0 → ⊥) → (n == 0) ≡ false
+pub not_zero : (n : ℕ) → (n ≡ 0 → ⊥) → (n == 0) ≡ false
 not_zero n h = grind (arith, nat_tests)
 
 pub left_due : (by_first : Bool) (x : Push) → (by_first ≡ true → is_some (key_at 0 x.item) ≡ true) → (p : List Push) (s : CombineState) → IsCombineAfter by_first p s → (parts : List Plain) → parts ≡ parts_of x.item → x.port ≡ 0

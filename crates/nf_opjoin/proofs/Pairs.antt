@@ -154,23 +154,27 @@ module _ (m : Matching) (law : IsMatching m) where
   matched_alike sums v out p q s =
       sum_alike (sends m v out p) (sends m v out q) (λ x. sums (λ y. sent v out (oks (m.pair x y))) p q s) p ∙ sums (sends m v out q) p q s
 
-  -- where no push was a fault, no item has two twins
-  few_twins : (p : List Push) → AreFine (pairing m) p → (z : Push) → twins m z p ≤ 1
-  few_twins [] h z = omega arith
-  few_twins (x ∷ p) h z = elim (cases_Bool (m.twin z x)) [
-    | inl e ↦ (
-        let none : twins m x p ≡ 0 = no_twin (gives p x h.0).alone in
-        let same : twins m z p ≡ twins m x p = sum_alike (λ y. cond (m.twin z y) 1 0) (λ y. cond (m.twin x y) 1 0) (λ y. ap {B = ℕ} (λ b. cond b 1 0) (law.alike z x y e)) p in
-        omega (arith, sum_by-cons (λ y. cond (m.twin z y) 1 0) x p, ap {B = ℕ} (λ b. cond b 1 0) e))
-    | inr e ↦ omega (arith, sum_by-cons (λ y. cond (m.twin z y) 1 0) x p, ap {B = ℕ} (λ b. cond b 1 0) e, few_twins p h.1 z)
-  ]
+  -- a push that was fine had no twin before it, and is an item that may be paired
+  pub fresh : (p : List Push) (x : Push) → AreFine (pairing m) (x ∷ p) → twins m x p ≡ 0
+  fresh p x h = by (twins m x p) (nat_lt 0 (twins m x p)) refl (gives p x h.0).alone
     where
       by : (n : ℕ) (b : Bool) → nat_lt 0 n ≡ b → is_ok {T = List (ℕ × Plain)} {E = Fault} (cond b (Err (m.repeated x)) (Ok [])) ≡ true → n ≡ 0
       by n true e k = absurd (true≢false (sym k))
       by n false e k = grind (arith, nat_tests)
 
-      no_twin : is_ok (first_of_its_kind m p x) ≡ true → twins m x p ≡ 0
-      no_twin k = by (twins m x p) (nat_lt 0 (twins m x p)) refl k
+  pub judge_fine : (p : List Push) (x : Push) → AreFine (pairing m) (x ∷ p) → is_ok (m.judge x) ≡ true
+  judge_fine p x h = (gives p x h.0).judged
+
+  -- where no push was a fault, no item has two twins
+  few_twins : (p : List Push) → AreFine (pairing m) p → (z : Push) → twins m z p ≤ 1
+  few_twins [] h z = omega arith
+  few_twins (x ∷ p) h z = elim (cases_Bool (m.twin z x)) [
+    | inl e ↦ (
+        let none : twins m x p ≡ 0 = fresh p x h in
+        let same : twins m z p ≡ twins m x p = sum_alike (λ y. cond (m.twin z y) 1 0) (λ y. cond (m.twin x y) 1 0) (λ y. ap {B = ℕ} (λ b. cond b 1 0) (law.alike z x y e)) p in
+        omega (arith, sum_by-cons (λ y. cond (m.twin z y) 1 0) x p, ap {B = ℕ} (λ b. cond b 1 0) e))
+    | inr e ↦ omega (arith, sum_by-cons (λ y. cond (m.twin z y) 1 0) x p, ap {B = ℕ} (λ b. cond b 1 0) e, few_twins p h.1 z)
+  ]
 
   twins_alike : Sums → (x : Push) (p q : List Push) → IsSameInput p q → twins m x p ≡ twins m x q
   twins_alike sums x p q s = sums (λ y. cond (m.twin x y) 1 0) p q s

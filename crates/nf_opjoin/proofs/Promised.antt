@@ -61,14 +61,14 @@ ends_with op law ends p fine es vs same e = ends op law p fine (emits_of es) (e 
 pub due_alike : {T : Type 0} (items : T → List (ℕ × Value)) {given due : Result (List (ℕ × Plain)) Fault} → given ≡ due → (r : Result T OpFault) → IsDue items r given → IsDue items r due
 due_alike items e r h = subst (λ d. IsDue items r d) e h
 
-deep : (x : Push) (vs : List Plain) → x.item ≡ list (plains_of vs) → (f : Option Fault) → IfSome f (HasFaulted pass_row [] x) → IfSome f (λ g. tuple vs ≡ Err g)
-deep x vs is None h = tt
-deep x vs is (Some g) h = subst (λ v. judged ((0, v) ∷ []) ≡ Err g) is h.gives
+deep : (x : Push) (f : Option Fault) → IfSome f (HasFaulted pass_row [] x) → IfSome f (λ g. judged ((0, x.item) ∷ []) ≡ Err g)
+deep x None h = tt
+deep x (Some g) h = h.gives
 
 -- what `view` answers on its first item
-pub passed : {T : Type 0} (items : T → List (ℕ × Value)) (x : Push) (vs : List Plain) → x.item ≡ list (plains_of vs) → (r : Result T OpFault) → MatchResult r (λ t. HasEmitted pass_row [] x (emits_of (items t))) (PushRefused pass_row [] x) → IsDue items r (tuple vs)
-passed items x vs is (Ok t) h = subst (λ v. judged ((0, v) ∷ []) ≡ Ok (emits_of (items t))) is h.gives
-passed items x vs is (Err f) h = deep x vs is (fault_of f) h
+pub passed : {T : Type 0} (items : T → List (ℕ × Value)) (x : Push) (r : Result T OpFault) → MatchResult r (λ t. HasEmitted pass_row [] x (emits_of (items t))) (PushRefused pass_row [] x) → IsDue items r (judged ((0, x.item) ∷ []))
+passed items x (Ok t) h = h.gives
+passed items x (Err f) h = deep x (fault_of f) h
 
 -- a fault that a part has, the whole has
 pub fault_of_whole : (part whole : Result (List (ℕ × Plain)) Fault) (f : OpFault) → ((g : Fault) → part ≡ Err g → whole ≡ Err g) → IsFault part f → IsFault whole f
@@ -77,7 +77,3 @@ fault_of_whole part whole f carries h = by (fault_of f) h
     by : (o : Option Fault) → IfSome o (λ g. part ≡ Err g) → IfSome o (λ g. whole ≡ Err g)
     by None k = tt
     by (Some g) k = carries g k
-
--- a push that is refused
-pub refused_push : (op : Operator) → IsOperator op → Faults → (p : List Push) → AreFine op p → (x : Push) (f : OpFault) → IsFault (op.gives p x) f → PushRefused op p x f
-refused_push op law faults p fine x f h = refused op law faults p fine x (fault_of f) h

@@ -1,10 +1,12 @@
 //! Laws of the operators, each as a contract over the definitions alone.
 
-ghost use Rattle.std.specs.Prelude.{Bool};
+ghost use Rattle.std.specs.Prelude.{ℕ, Bool};
 ghost use Rattle.nf_opstream.specs.Operator.{IsOperator};
 ghost use Rattle.nf_opjoin.specs.Pairing.{Matching, IsMatching, pairing};
 ghost use Rattle.nf_opjoin.specs.Combined.{combine_row};
+ghost use Rattle.nf_opjoin.specs.Joined.{join, join_row};
 
+use nf_bag::laws::sorting;
 use nf_opstream::laws::inputs;
 
 /// An operator that pairs items emits its bag, whatever the order of its items.
@@ -19,4 +21,14 @@ pub fn combined()
     ensures { (by_first : Bool) → IsOperator (combine_row by_first) }
 {
     all_pairs();
+}
+
+/// `join` pairs items, and emits its bag, whatever the order of its items.
+pub fn joined()
+    ensures matches { (n : ℕ) → (wanted : Bool) → IsMatching (join n wanted) }
+    ensures operator { (n : ℕ) → (wanted : Bool) → IsOperator (join_row n wanted) }
+{
+    all_pairs();
+    inputs();
+    sorting();
 }

@@ -2,7 +2,11 @@
 #![tactic(auto)]
 
 mod combine;
+mod join;
+mod keyed;
 pub mod laws;
+mod leftovers;
 mod tuples;
 
 pub use combine::CombineState;
+pub use join::JoinState;

@@ -119,7 +119,7 @@ fn appended(alloc: Global, a: &Vals, b: &Vals, without_first: bool) -> Result<Va
     Ok(Vals::of(items))
 }
 
-fn put_copies(items: &mut Vec<Value>, more: &[Value]) -> Result<(), Mem>
+pub(crate) fn put_copies(items: &mut Vec<Value>, more: &[Value]) -> Result<(), Mem>
     ensures { OnOk result (map plain_of items.new.items ≡ map plain_of items.old.items ++ map plain_of more.now) }
 {
     for item in more {
@@ -128,7 +128,7 @@ fn put_copies(items: &mut Vec<Value>, more: &[Value]) -> Result<(), Mem>
     Ok(())
 }
 
-fn emit(out: &mut PassState, items: Vals) -> Result<Vec<(u32, Value)>, OpFault>
+pub(crate) fn emit(out: &mut PassState, items: Vals) -> Result<Vec<(u32, Value)>, OpFault>
     ensures { let due = tuple items in MatchResult result (λ es. due ≡ Ok (emits_of es.items)) (IsFault due) }
 {
     out.push(0, Value::List(items), Value::Null)

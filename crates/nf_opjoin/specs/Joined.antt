@@ -1,0 +1,55 @@
+-- Pairs of items with equal keys, and the items that have no partner.
+use Rattle.std.specs.Prelude.{◌==◌, ◌&&◌, ◌||◌, ℕ, List, [], ◌∷◌, ◌++◌, Bool, true, false, cond, not, is_some, count_by, Ok}
+use Rattle.std.specs.List.{flat_map}
+use Rattle.nf_value.specs.Plain.{Plain, null, list, plains_of}
+use Rattle.nf_bag.specs.Sorted.{sorted_of}
+use Rattle.nf_opstream.specs.Push.{Push}
+use Rattle.nf_opstream.specs.Fault.{duplicate_key}
+use Rattle.nf_opstream.specs.Operator.{Operator}
+use Rattle.nf_opstream.specs.Alone.{judged}
+use Rattle.nf_opjoin.specs.Pairing.{Due, and_then, Matching, pairing}
+use Rattle.nf_opjoin.specs.Tuples.{key_at, rest_at, key_or_null, keyed, same_key, is_left, meets}
+use Rattle.nf_opjoin.specs.Combined.{joined}
+
+abbrev pub same_side : Push → Push → Bool
+same_side x y = cond (is_left x) (is_left y) (not (is_left y))
+
+-- items of one input with equal keys
+abbrev pub twin_by : ℕ → Push → Push → Bool
+twin_by n x y = same_side x y && same_key (key_at n x.item) (key_at n y.item)
+
+-- how many items of the other input have the key of an item
+abbrev pub partners : ℕ → List Push → Push → ℕ
+partners n q x = count_by (λ y. meets n x y || meets n y x) q
+
+-- an item without a partner: its key and its rest, and null in the place of the rest of the other
+abbrev pub padded : Bool → Plain → List Plain → Plain
+padded left k r = list (plains_of (cond left (k ∷ (r ++ null ∷ [])) (k ∷ null ∷ r)))
+
+abbrev pub lonely : ℕ → List Push → Push → List Plain
+lonely n q x = cond (is_some (key_at n x.item) && (partners n q x == 0)) (padded (is_left x) (key_or_null n x.item) (rest_at n x.item) ∷ []) []
+
+abbrev pub all_lonely : ℕ → List Push → List Plain
+all_lonely n q = flat_map (lonely n q) q
+
+-- these values to the first output, or the first fault
+abbrev pub given : List Plain → Due
+given [] = Ok []
+given (v ∷ vs) = and_then (judged ((0, v) ∷ [])) (given vs)
+
+-- what is left at the close
+abbrev pub remainder_of : ℕ → Bool → List Push → Due
+remainder_of n wanted q = cond wanted (given (sorted_of (all_lonely n q))) (Ok [])
+
+abbrev pub join : ℕ → Bool → Matching
+join n wanted = record {
+  judge = keyed n;
+  twin = twin_by n;
+  repeated = λ x. duplicate_key (key_or_null n x.item);
+  pair = joined n;
+  left_over = remainder_of n wanted;
+}
+
+-- `join` by the key at a place, and with the items without a partner where they are wanted
+abbrev pub join_row : ℕ → Bool → Operator
+join_row n wanted = pairing (join n wanted)
