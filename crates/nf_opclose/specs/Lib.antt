@@ -1,6 +1,7 @@
 pub mod Closing
 pub mod Gathered
 pub mod Numbers
+pub mod Options
 pub mod Reduce
 pub mod Rows
 pub mod Running

@@ -1,11 +1,12 @@
 //! `ifEmpty`, which emits its items, or a value where there was none.
 
-ghost use Rattle.std.specs.Prelude.{◌≡◌, List, [], ◌∷◌, Some, IfOk, IsSome, MatchResult};
+ghost use Rattle.std.specs.Prelude.{◌≡◌, List, [], ◌∷◌, Some, IfOk, MatchResult};
 ghost use Rattle.nf_value.specs.Plain.{Plain};
 ghost use Rattle.nf_value.specs.View.{plain_of};
 ghost use Rattle.nf_value.specs.declared.value.Value.{Value};
 ghost use Rattle.nf_opstream.specs.Push.{Push, push_of};
 ghost use Rattle.nf_opstream.specs.Promise.{emits_of, HasEmitted, HasEnded, PushRefused, CloseRefused};
+ghost use Rattle.nf_opclose.specs.Options.{IsIfEmptyOptions};
 ghost use Rattle.nf_opclose.specs.Rows.{if_empty_row};
 
 use crate::emits::emit;
@@ -36,7 +37,7 @@ impl IfEmptyState {
     ///
     /// `Mem` where there is no memory for the value.
     pub fn begin(alloc: Global, opts: &OpOpts) -> Result<IfEmptyState, Mem>
-        requires { IsSome opts.now.start }
+        requires { IsIfEmptyOptions opts.now }
         ensures { IfOk result (λ s. (v : Value) → opts.now.start ≡ Some v → IsIfEmptyAfter (plain_of v) [] s) }
     {
         let items = PassState::begin(alloc, opts)?;
