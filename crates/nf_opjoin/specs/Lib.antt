@@ -6,3 +6,4 @@ pub mod Entered
 pub mod Joined
 pub mod Kept
 pub mod Listed
+pub mod Options

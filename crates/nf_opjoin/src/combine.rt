@@ -6,6 +6,7 @@ ghost use Rattle.nf_opstream.specs.Push.{Push, push_of};
 ghost use Rattle.nf_opstream.specs.Promise.{emits_of, IsFault, HasEmitted, HasEnded, PushRefused, CloseRefused};
 ghost use Rattle.nf_opjoin.specs.Combined.{combine_row};
 ghost use Rattle.nf_opjoin.specs.Listed.{paired_as, all_paired};
+ghost use Rattle.nf_opjoin.specs.Options.{IsCombineOptions};
 
 use crate::laws;
 use crate::tuples::{paired, parts, refuses};
@@ -36,6 +37,7 @@ impl CombineState {
     ///
     /// `Mem`, which this operator doesn't answer.
     pub fn begin(alloc: Global, opts: &OpOpts) -> Result<CombineState, Mem>
+        requires { IsCombineOptions opts.now }
         ensures after { IfOk result (λ s. IsCombineAfter (is_some opts.now.by) [] s) }
         ensures begun { IsOk result }
     {

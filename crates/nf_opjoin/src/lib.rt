@@ -10,3 +10,6 @@ mod tuples;
 
 pub use combine::CombineState;
 pub use join::JoinState;
+
+#[cfg(test)]
+mod tests;

@@ -1,0 +1,175 @@
+//! Each operator over its items in several orders.
+
+ghost use Rattle.std.specs.Prelude.{◌≡◌, IfSome};
+
+use crate::{CombineState, JoinState};
+use nf_bag::{OpFault, OpOpts, Total, sorted};
+use nf_value::{Mem, Txt, Vals, Value, text_of};
+use std::alloc::Global;
+use std::test::Fail;
+
+fn options(by: Option<u32>, remainder: bool) -> OpOpts
+    ensures { result.by ≡ by }
+{
+    OpOpts {
+        by,
+        remainder,
+        sort: false,
+        flat: true,
+        start: None,
+        total: Total::Sum,
+        outs: 0,
+    }
+}
+
+fn text(alloc: Global, text: &str) -> Result<Value, Mem> {
+    Ok(Value::Text(Txt::of(String::from_str(alloc, text)?)))
+}
+
+fn tuple(alloc: Global, key: &str, number: i64) -> Result<Value, Mem> {
+    let mut items = Vec::new(alloc);
+    items.push(text(alloc, key)?)?;
+    items.push(Value::Int(number))?;
+    Ok(Value::List(Vals::of(items)))
+}
+
+/// A number alone where there is no key.
+fn item(alloc: Global, key: &str, number: i64) -> Result<Value, Mem> {
+    if key.is_empty() {
+        return Ok(Value::Int(number));
+    }
+    tuple(alloc, key, number)
+}
+
+/// What was emitted, in the order of values, or the name of the fault.
+fn shown(alloc: Global, answer: Result<Vec<(u32, Value)>, OpFault>) -> Result<Txt, Mem> {
+    match answer {
+        Ok(emits) => {
+            let mut values = Vec::new(alloc);
+            for (_, value) in emits {
+                values.push(value)?;
+            }
+            text_of(alloc, &Value::List(sorted(Vals::of(values))?))
+        }
+        Err(fault) => Ok(Txt::of(format!(in alloc; "{fault}")?)),
+    }
+}
+
+/// Adds what a push or a close emitted.
+fn add(
+    emits: &mut Vec<(u32, Value)>,
+    answer: Result<Vec<(u32, Value)>, OpFault>,
+) -> Result<(), OpFault> {
+    let more = answer?;
+    for emit in more {
+        emits.push(emit)?;
+    }
+    Ok(())
+}
+
+/// A push: its port, its key and its number.
+type Given = (u32, &'static str, i64);
+
+const LEFT_FIRST: &[Given] = &[
+    (0, "X", 1),
+    (0, "Y", 2),
+    (0, "Z", 3),
+    (0, "P", 7),
+    (1, "Z", 6),
+    (1, "Y", 5),
+    (1, "X", 4),
+];
+
+const RIGHT_FIRST: &[Given] = &[
+    (1, "X", 4),
+    (1, "Z", 6),
+    (0, "P", 7),
+    (0, "Z", 3),
+    (1, "Y", 5),
+    (0, "Y", 2),
+    (0, "X", 1),
+];
+
+fn joined(
+    alloc: Global,
+    given: &[Given],
+    by: Option<u32>,
+    remainder: bool,
+) -> Result<Vec<(u32, Value)>, OpFault> {
+    let mut emits = Vec::new(alloc);
+    let mut state = JoinState::begin(alloc, &options(by, remainder))?;
+    for (port, key, number) in given {
+        let item = item(alloc, key, *number)?;
+        add(&mut emits, state.push(*port, item, Value::Null))?;
+    }
+    add(&mut emits, state.close())?;
+    Ok(emits)
+}
+
+#[test]
+fn join_pairs_equal_keys(rt: HostRuntime) -> Result<(), Fail> {
+    let alloc = rt.alloc();
+    let found = shown(alloc, joined(alloc, LEFT_FIRST, None, false))?;
+    assert_eq!(rt; found.as_str(), "[[X, 1, 4], [Y, 2, 5], [Z, 3, 6]]");
+    let found = shown(alloc, joined(alloc, RIGHT_FIRST, Some(0), false))?;
+    assert_eq!(rt; found.as_str(), "[[X, 1, 4], [Y, 2, 5], [Z, 3, 6]]");
+    let found = shown(alloc, joined(alloc, LEFT_FIRST, None, true))?;
+    assert_eq!(rt;
+        found.as_str(),
+        "[[P, 7, null], [X, 1, 4], [Y, 2, 5], [Z, 3, 6]]"
+    );
+    let found = shown(alloc, joined(alloc, RIGHT_FIRST, None, true))?;
+    assert_eq!(rt;
+        found.as_str(),
+        "[[P, 7, null], [X, 1, 4], [Y, 2, 5], [Z, 3, 6]]"
+    );
+    Ok(())
+}
+
+#[test]
+fn join_by_a_later_place_and_its_faults(rt: HostRuntime) -> Result<(), Fail> {
+    let alloc = rt.alloc();
+    let by_number: &[Given] = &[(0, "a", 1), (1, "b", 1), (1, "c", 2)];
+    let found = shown(alloc, joined(alloc, by_number, Some(1), true))?;
+    assert_eq!(rt; found.as_str(), "[[1, a, b], [2, null, c]]");
+    let twice: &[Given] = &[(0, "X", 1), (0, "X", 2)];
+    let found = shown(alloc, joined(alloc, twice, None, false))?;
+    assert_eq!(rt; found.as_str(), "DuplicateKey");
+    let twice: &[Given] = &[(1, "X", 1), (0, "X", 3), (1, "X", 2)];
+    let found = shown(alloc, joined(alloc, twice, None, false))?;
+    assert_eq!(rt; found.as_str(), "DuplicateKey");
+    let short: &[Given] = &[(0, "X", 1)];
+    let found = shown(alloc, joined(alloc, short, Some(2), false))?;
+    assert_eq!(rt; found.as_str(), "NotATuple");
+    let plain: &[Given] = &[(0, "", 1)];
+    let found = shown(alloc, joined(alloc, plain, None, false))?;
+    assert_eq!(rt; found.as_str(), "NotATuple");
+    Ok(())
+}
+
+fn combined(alloc: Global, given: &[Given], by: Option<u32>) -> Result<Vec<(u32, Value)>, OpFault>
+    requires { IfSome by (λ n. n ≡ 0) }
+{
+    let mut emits = Vec::new(alloc);
+    let mut state = CombineState::begin(alloc, &options(by, false))?;
+    for (port, key, number) in given {
+        let item = item(alloc, key, *number)?;
+        add(&mut emits, state.push(*port, item, Value::Null))?;
+    }
+    add(&mut emits, state.close())?;
+    Ok(emits)
+}
+
+#[test]
+fn combine_pairs_items(rt: HostRuntime) -> Result<(), Fail> {
+    let alloc = rt.alloc();
+    let mixed: &[Given] = &[(0, "", 1), (1, "", 8), (1, "b", 3), (0, "", 2)];
+    let found = shown(alloc, combined(alloc, mixed, None))?;
+    assert_eq!(rt; found.as_str(), "[[1, 8], [1, b, 3], [2, 8], [2, b, 3]]");
+    let keyed: &[Given] = &[(1, "k", 3), (0, "k", 1), (0, "l", 2), (1, "k", 4)];
+    let found = shown(alloc, combined(alloc, keyed, Some(0)))?;
+    assert_eq!(rt; found.as_str(), "[[k, 1, 3], [k, 1, 4]]");
+    let found = shown(alloc, combined(alloc, mixed, Some(0)))?;
+    assert_eq!(rt; found.as_str(), "NotATuple");
+    Ok(())
+}
