@@ -1,11 +1,9 @@
 -- An operator that answers its close by the bag of its input is one.
-use Rattle.std.proofs.Common.{◌≡◌, ℕ, ◌+◌, ◌≤◌, List, [], ◌∷◌, ◌++◌, Bool, true, refl, ap, sym, ◌∙◌, subst, arith, append-nil}
-use Rattle.std.specs.Prelude.{Result, Ok, Err, count_by}
+use Rattle.std.proofs.Common.{◌≡◌, ℕ, List, [], ◌∷◌, ◌++◌, refl, ap, sym, ◌∙◌, subst, arith, append-nil}
+use Rattle.std.specs.Prelude.{Result, Err, count_by}
 use Rattle.std.specs.List.{Contains, flat_map}
-use Rattle.std.specs.Ordering.{eq_by_cmp}
 use Rattle.std.proofs.lemmas.List.Elements.{Contains-append_left, Contains-append_right}
 use Rattle.nf_value.specs.Plain.{Plain}
-use Rattle.nf_value.specs.Order.{value_cmp}
 use Rattle.nf_bag.specs.Bag.{IsSubBag, IsSameBag}
 use Rattle.nf_opstream.specs.Push.{Push, IsSameInput}
 use Rattle.nf_opstream.specs.Fault.{Fault}

@@ -1,16 +1,13 @@
 -- What stands last in rising order.
-use Rattle.std.proofs.Common.{◌≡◌, List, [], ◌∷◌, Bool, true, false, cond, refl, ap, sym, ◌∙◌, subst, inl, inr}
-use Rattle.std.specs.Prelude.{Option, Some, None}
-use Rattle.std.specs.Option.{option_map}
+use Rattle.std.proofs.Common.{◌≡◌, List, [], ◌∷◌, true, false, cond, refl, ap, sym, ◌∙◌, inl, inr}
+use Rattle.std.specs.Prelude.{Some, None}
 use Rattle.std.specs.Ordering.{is_gt}
 use Rattle.std.specs.declared.cmp.Ordering.{Ordering}
 use Rattle.std.specs.declared.cmp.Ordering.TheVariants.{Less, Equal, Greater}
 use Rattle.std.proofs.lemmas.Bool.{cases_Bool}
 use Rattle.std.proofs.lemmas.Cmp.{upto}
 use Rattle.nf_value.specs.Plain.{Plain}
-use Rattle.nf_value.specs.View.{plain_of}
 use Rattle.nf_value.specs.Order.{value_cmp, value_cmp_total}
-use Rattle.nf_value.specs.declared.value.Value.{Value}
 use Rattle.nf_bag.specs.Sorted.{IsAboveNone, IsRising, inserted}
 use Rattle.nf_opclose.specs.Gathered.{last_of}
 

@@ -1,25 +1,23 @@
 -- What the states keep.
-use Rattle.std.proofs.Common.{◌≡◌, ℕ, suc, ◌+◌, ◌≤◌, ◌^◌, w64, List, [], ◌∷◌, ◌++◌, map, length, Bool, true, false, refl, ap, sym, ◌∙◌, arith}
+use Rattle.std.proofs.Common.{◌≡◌, ℕ, ◌+◌, ◌≤◌, ◌^◌, w64, List, [], ◌∷◌, ◌++◌, map, length, Bool, true, false, refl, ap, ◌∙◌, arith}
 use Rattle.std.specs.Prelude.{pos, Option, Some, Result, Ok}
 use Rattle.std.specs.Option.{option_map}
 use Rattle.std.proofs.lemmas.List.{map-append}
 use Rattle.std.proofs.lemmas.Int.{ints}
 use mir.Val.{to_z}
-use Rattle.nf_value.specs.Plain.{Plain, int}
+use Rattle.nf_value.specs.Plain.{Plain}
 use Rattle.nf_value.specs.View.{plain_of}
 use Rattle.nf_value.specs.declared.value.Value.{Value}
 use Rattle.nf_bag.specs.Sorted.{IsRising, inserted, sorted_of}
 use Rattle.nf_opstream.specs.Push.{Push}
 use Rattle.nf_opstream.specs.Fault.{Fault}
-use Rattle.nf_opstream.specs.Operator.{AreFine}
 use Rattle.nf_opstream.specs.Rows.{items_in}
 use Rattle.nf_opclose.specs.Gathered.{parts_of, collected, if_any, first_of, last_of}
 use Rattle.nf_opclose.specs.Closing.{single}
-use Rattle.nf_opclose.specs.Rows.{count_row, if_none, if_empty_row, to_list_row, collect_row, min_row, max_row}
-use Rattle.nf_opclose.specs.Kept.{IsCountAfter, is_none_pushed, IsIfEmptyAfter, IsToListAfter, IsCollectAfter, IsMinAfter, IsMaxAfter}
+use Rattle.nf_opclose.specs.Rows.{if_none}
+use Rattle.nf_opclose.specs.Kept.{IsCountAfter, is_none_pushed, IsToListAfter, IsCollectAfter, IsMinAfter, IsMaxAfter}
 use Rattle.nf_opclose.specs.declared.collect.CollectState.{CollectState}
 use Rattle.nf_opclose.specs.declared.count.CountState.{CountState}
-use Rattle.nf_opclose.specs.declared.if_empty.IfEmptyState.{IfEmptyState}
 use Rattle.nf_opclose.specs.declared.max.MaxState.{MaxState}
 use Rattle.nf_opclose.specs.declared.min.MinState.{MinState}
 use Rattle.nf_opclose.specs.declared.to_list.ToListState.{ToListState}

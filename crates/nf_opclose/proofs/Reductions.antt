@@ -1,6 +1,6 @@
 -- What `reduce` makes of a bag, and what is left of its start.
-use Rattle.std.proofs.Common.{◌≡◌, ℕ, suc, ◌+◌, ◌^◌, ◌<◌, ◌≤◌, List, [], ◌∷◌, ◌++◌, length, Bool, true, false, cond, not, refl, ap, sym, ◌∙◌, subst, arith, length-append, inl, inr}
-use Rattle.std.specs.Prelude.{◌&&◌, ◌||◌, Option, Some, None, Result, Ok, Err, is_ok}
+use Rattle.std.proofs.Common.{◌≡◌, ℕ, suc, ◌^◌, ◌<◌, ◌≤◌, List, [], ◌∷◌, length, Bool, true, false, cond, not, refl, ap, sym, ◌∙◌, subst, arith, length-append, inl, inr}
+use Rattle.std.specs.Prelude.{◌&&◌, Option, Some, None, Result, Ok, Err, is_ok}
 use Rattle.std.specs.List.{list_all, list_any}
 use Rattle.std.specs.Option.{option_map, option_to_list}
 use Rattle.std.proofs.lemmas.Bool.{cases_Bool, true≢false}
@@ -10,7 +10,6 @@ use Rattle.nf_value.specs.Truth.{truth_of}
 use Rattle.nf_value.specs.View.{plain_of}
 use Rattle.nf_value.specs.declared.value.Value.{Value}
 use Rattle.nf_bag.specs.Bag.{IsSameBag}
-use Rattle.nf_bag.specs.declared.fault.OpFault.{OpFault}
 use Rattle.nf_bag.specs.declared.options.Total.{Total}
 use Rattle.nf_bag.specs.declared.options.Total.TheVariants as t
 use Rattle.nf_opstream.specs.Push.{Push}
@@ -18,7 +17,7 @@ use Rattle.nf_opstream.specs.Fault.{Fault, not_a_number}
 use Rattle.nf_opstream.specs.Operator.{AreFine}
 use Rattle.nf_opstream.specs.Rows.{items_in}
 use Rattle.nf_opclose.specs.Closing.{single}
-use Rattle.nf_opclose.specs.Gathered.{if_any, if_some, first_of, last_of}
+use Rattle.nf_opclose.specs.Gathered.{if_some, first_of, last_of}
 use Rattle.nf_opclose.specs.Numbers.{is_number, total_due, of_numbers}
 use Rattle.nf_opclose.specs.Reduce.{takes_numbers, refuses, taken, made_of, stray_of, strayed, with_start, values_due, reduced}
 use Rattle.nf_opclose.specs.Rows.{reduce_row}
@@ -29,7 +28,6 @@ use Rattle.nf_opclose.specs.declared.running.Running.{Running}
 use Rattle.nf_opclose.specs.declared.running.Running.TheVariants as r
 use Rattle.nf_opclose.proofs.Bags.{same_both}
 use Rattle.nf_opclose.proofs.Inputs.{Sorts, if_any_alike}
-use Rattle.nf_opclose.proofs.Promised.{IsDue}
 use Rattle.nf_opclose.proofs.Totals.{BagSums, list_all_alike, total_alike}
 
 -- what the laws of bags say of lengths

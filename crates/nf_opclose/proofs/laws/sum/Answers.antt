@@ -1,4 +1,3 @@
-use Rattle.std.proofs.Common.{ap}
 use Rattle.nf_opstream.specs.Rows.{items_in}
 use Rattle.nf_opclose.specs.Numbers.{numeric, total_of, total_due, of_numbers}
 use Rattle.nf_opclose.proofs.Inputs.{items_alike}

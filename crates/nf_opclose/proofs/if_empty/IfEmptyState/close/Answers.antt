@@ -1,4 +1,4 @@
-use Rattle.std.proofs.Common.{[], refl, ap, sym, ◌∙◌}
+use Rattle.std.proofs.Common.{[], ap, sym, ◌∙◌}
 use Rattle.nf_value.specs.View.{plain_of}
 use Rattle.nf_opstream.specs.Promise.{emits_of}
 use Rattle.nf_opclose.specs.Closing.{single}
