@@ -1,19 +1,19 @@
 -- The pairs of `combine` in the order of arrival.
-use Rattle.std.proofs.Common.{◌≡◌, ℕ, ◌+◌, List, [], ◌∷◌, ◌++◌, Bool, true, false, cond, not, ◌&&◌, refl, ap, sym, ◌∙◌, subst, arith, inl, inr}
-use Rattle.std.specs.Prelude.{◌==◌, nat_lt, count_by, sum_by, slice_get, remove, unwrap_or, drop, Option, Some, None, is_some, is_ok, Result, Ok, Err, IfOk, OnOk}
+use Rattle.std.proofs.Common.{◌≡◌, ℕ, List, [], ◌∷◌, ◌++◌, Bool, true, false, cond, not, ◌&&◌, refl, ap, sym, ◌∙◌, arith, inl, inr}
+use Rattle.std.specs.Prelude.{◌==◌, nat_lt, count_by, unwrap_or, Option, Some, None, is_some, is_ok, Result, Ok, Err, IfOk, OnOk}
 use Rattle.std.proofs.lemmas.Bool.{cases_Bool, true≢false}
 use Rattle.std.proofs.lemmas.Bool.Decides.{nat_tests}
 use Rattle.std.proofs.lemmas.List.Sums.{sum_by-cons}
-use Rattle.nf_value.specs.Plain.{Plain, Plains, no_items, item, null, truth, int, text, file, list, table}
+use Rattle.nf_value.specs.Plain.{Plain, no_items, item, null, truth, int, text, file, list, table}
 use Rattle.nf_value.specs.declared.value.Value.{Value}
 use Rattle.nf_bag.specs.declared.fault.OpFault.{OpFault}
 use Rattle.nf_opstream.specs.Push.{Push}
 use Rattle.nf_opstream.specs.Fault.{Fault, not_a_tuple}
 use Rattle.nf_opstream.specs.Operator.{AreFine}
 use Rattle.nf_opstream.specs.Nested.{items_of}
-use Rattle.nf_opjoin.specs.Pairing.{Due, and_then, gathered, Matching, first_of_its_kind, pairing}
-use Rattle.nf_opjoin.specs.Tuples.{parts_of, key_at, key_or_null, rest_at, has_key, keyed, same_key, is_left, faces, meets}
-use Rattle.nf_opjoin.specs.Combined.{tuple, glued, joined, combine, combine_row}
+use Rattle.nf_opjoin.specs.Pairing.{Due, and_then, gathered, first_of_its_kind}
+use Rattle.nf_opjoin.specs.Tuples.{parts_of, key_at, key_or_null, rest_at, has_key, same_key, is_left, faces}
+use Rattle.nf_opjoin.specs.Combined.{tuple, combine, combine_row}
 use Rattle.nf_opjoin.specs.Kept.{parts_in, IsCombineAfter}
 use Rattle.nf_opjoin.specs.Listed.{parts_paired, paired_as, all_paired}
 use Rattle.nf_opjoin.specs.declared.combine.CombineState.{CombineState}

@@ -1,7 +1,6 @@
 -- What one more keyed item gives, and what is left over.
-use Rattle.std.proofs.Common.{◌≡◌, ℕ, ◌+◌, ◌<◌, ◌≤◌, List, [], ◌∷◌, ◌++◌, Bool, true, false, cond, not, ◌&&◌, ◌||◌, refl, ap, sym, ◌∙◌, subst, arith, inl, inr}
+use Rattle.std.proofs.Common.{◌≡◌, ℕ, ◌+◌, ◌≤◌, List, [], ◌∷◌, ◌++◌, Bool, true, false, cond, not, ◌&&◌, ◌||◌, refl, ap, sym, ◌∙◌, subst, arith, inl, inr}
 use Rattle.std.specs.Prelude.{◌==◌, nat_lt, sum_by, count_by, unwrap_or, Option, Some, None, is_some, is_ok, Ok, Err}
-use Rattle.std.specs.List.{flat_map}
 use Rattle.std.specs.Ordering.{eq_by_cmp}
 use Rattle.std.proofs.lemmas.Bool.{cases_Bool, true≢false}
 use Rattle.std.proofs.lemmas.Bool.Decides.{nat_tests}
@@ -12,8 +11,8 @@ use Rattle.nf_bag.specs.Bag.{count}
 use Rattle.nf_opstream.specs.Push.{Push}
 use Rattle.nf_opstream.specs.Fault.{Fault, not_a_tuple, duplicate_key}
 use Rattle.nf_opstream.specs.Operator.{AreFine}
-use Rattle.nf_opjoin.specs.Pairing.{Due, and_then, gathered, twins, first_of_its_kind, IsMatching, pairing}
-use Rattle.nf_opjoin.specs.Tuples.{key_at, key_or_null, rest_at, has_key, keyed, same_key, is_left, faces, meets}
+use Rattle.nf_opjoin.specs.Pairing.{Due, and_then, gathered, twins, first_of_its_kind, IsMatching}
+use Rattle.nf_opjoin.specs.Tuples.{key_at, key_or_null, rest_at, has_key, same_key, is_left, meets}
 use Rattle.nf_opjoin.specs.Combined.{tuple, joined}
 use Rattle.nf_opjoin.specs.Joined.{same_side, partners, padded, lonely, all_lonely, join, join_row}
 use Rattle.nf_opjoin.specs.Entered.{met, entered}

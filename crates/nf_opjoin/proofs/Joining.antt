@@ -1,13 +1,13 @@
 -- What the state of `join` keeps, and what it gives.
 use Rattle.std.proofs.Common.{◌≡◌, ℕ, ◌+◌, List, [], ◌∷◌, ◌++◌, map, Bool, true, false, cond, not, ◌&&◌, refl, ap, sym, ◌∙◌, subst, arith, inl, inr}
-use Rattle.std.specs.Prelude.{◌==◌, sum_by, Option, Some, None, is_some, is_ok, Result, Ok, Err, IfOk, OnOk, IfSome}
+use Rattle.std.specs.Prelude.{sum_by, Option, Some, None, is_some, is_ok, Result, Ok, Err, IfOk, OnOk, IfSome}
 use Rattle.std.specs.Ordering.{eq_by_cmp}
 use Rattle.std.specs.declared.cmp.Ordering.{Ordering}
 use Rattle.std.specs.declared.cmp.Ordering.TheVariants.{Less, Equal, Greater}
 use Rattle.std.specs.BTreeMap.{BTreeMap, get, insert_entry, is_at, Updates}
 use Rattle.std.specs.BTreeSet.{BTreeSet, contains}
 use Rattle.std.specs.Map.{lookup}
-use Rattle.std.proofs.lemmas.Bool.{cases_Bool, true≢false}
+use Rattle.std.proofs.lemmas.Bool.{cases_Bool}
 use Rattle.std.proofs.lemmas.List.Sums.{sum_by-cons}
 use Rattle.nf_value.specs.Plain.{Plain}
 use Rattle.nf_value.specs.View.{plain_of}
@@ -18,7 +18,6 @@ use Rattle.nf_bag.specs.Sorted.{sorted_of}
 use Rattle.nf_bag.specs.declared.fault.OpFault.{OpFault}
 use Rattle.nf_opstream.specs.Push.{Push}
 use Rattle.nf_opstream.specs.Fault.{Fault, fault_of, not_a_tuple}
-use Rattle.nf_opstream.specs.Operator.{Operator, AreFine}
 use Rattle.nf_opstream.specs.Promise.{HasFaulted, PushRefused}
 use Rattle.nf_opjoin.specs.Pairing.{Due, IsMatching}
 use Rattle.nf_opjoin.specs.Tuples.{key_at, rest_at, is_left}

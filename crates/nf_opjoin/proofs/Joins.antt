@@ -1,24 +1,22 @@
 -- The join pairs items.
-use Rattle.std.proofs.Common.{◌≡◌, ℕ, ◌+◌, List, [], ◌∷◌, ◌++◌, Bool, true, false, cond, not, ◌&&◌, ◌||◌, refl, ap, sym, ◌∙◌, subst, inl, inr}
-use Rattle.std.specs.Prelude.{◌==◌, Option, Some, None, is_some, Ok, Err}
-use Rattle.std.specs.List.{flat_map}
+use Rattle.std.proofs.Common.{◌≡◌, ℕ, List, [], ◌∷◌, ◌++◌, Bool, true, false, cond, not, ◌&&◌, ◌||◌, refl, ap, sym}
+use Rattle.std.specs.Prelude.{◌==◌, Option, Some, None, is_some, Ok}
 use Rattle.std.specs.Ordering.{eq_by_cmp}
-use Rattle.std.proofs.lemmas.Bool.{cases_Bool, true≢false}
+use Rattle.std.proofs.lemmas.Bool.{true≢false}
 use Rattle.nf_value.specs.Plain.{Plain}
 use Rattle.nf_value.specs.Order.{value_cmp}
 use Rattle.nf_bag.specs.Bag.{count, IsSameBag}
 use Rattle.nf_bag.specs.Sorted.{sorted_of}
 use Rattle.nf_opstream.specs.Push.{Push, IsSameInput}
-use Rattle.nf_opstream.specs.Fault.{not_a_tuple}
 use Rattle.nf_opstream.specs.Operator.{oks}
 use Rattle.nf_opjoin.specs.Pairing.{Due, IsMatching}
-use Rattle.nf_opjoin.specs.Tuples.{key_at, key_or_null, rest_at, has_key, keyed, same_key, is_left, faces, meets}
+use Rattle.nf_opjoin.specs.Tuples.{key_at, key_or_null, rest_at, has_key, same_key, is_left, faces, meets}
 use Rattle.nf_opjoin.specs.Combined.{tuple, joined}
-use Rattle.nf_opjoin.specs.Joined.{same_side, twin_by, partners, padded, lonely, all_lonely, given, remainder_of, join}
+use Rattle.nf_opjoin.specs.Joined.{same_side, twin_by, partners, padded, lonely, all_lonely, given, join}
 use Rattle.nf_opjoin.proofs.Sums.{Sums, flat_alike}
 use Rattle.nf_opjoin.proofs.Members.{same_value, value_itself}
 
-quiet : (o : Option Plain) (v : Plain) → oks (has_key o v) ≡ []
+pub quiet : (o : Option Plain) (v : Plain) → oks (has_key o v) ≡ []
 quiet (Some k) v = refl
 quiet None v = refl
 

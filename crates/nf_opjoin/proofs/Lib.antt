@@ -4,6 +4,7 @@ pub mod Pairs
 pub mod Promised
 pub mod Listing
 pub mod Combining
+pub mod Groups
 pub mod Joins
 pub mod Splitting
 pub mod Entering

@@ -1,13 +1,12 @@
 -- Pairs of one item with a list of others.
-use Rattle.std.proofs.Common.{◌≡◌, ℕ, suc, ◌+◌, ◌<◌, ◌≤◌, List, [], ◌∷◌, ◌++◌, length, drop, get_or, Bool, true, false, cond, refl, ap, sym, ◌∙◌, subst, append_assoc, append-nil, add-one, arith, drop-cons}
+use Rattle.std.proofs.Common.{◌≡◌, ℕ, suc, ◌+◌, ◌<◌, List, [], ◌∷◌, ◌++◌, length, drop, get_or, false, refl, ap, sym, ◌∙◌, append_assoc, append-nil, add-one, arith, drop-cons}
 use Rattle.std.specs.Prelude.{Ok, Err, nat_eq, not, is_some, slice_get}
 use Rattle.std.proofs.lemmas.Bool.Decides.{nat_tests}
-use Rattle.std.proofs.lemmas.List.{drop_all, map-append}
-use Rattle.nf_value.specs.Plain.{Plain, plains_of, list}
+use Rattle.std.proofs.lemmas.List.{map-append}
+use Rattle.nf_value.specs.Plain.{Plain, plains_of}
 use Rattle.nf_value.specs.View.{plain_of}
 use Rattle.nf_value.specs.declared.value.Value.{Value}
 use Rattle.nf_value.specs.declared.value.Value.TheVariants as v
-use Rattle.nf_opstream.specs.Fault.{Fault}
 use Rattle.nf_opstream.specs.Nested.{items_of}
 use Rattle.nf_opstream.specs.Promise.{emit_of, emits_of}
 use Rattle.nf_opjoin.specs.Pairing.{Due, and_then}
@@ -58,13 +57,6 @@ pub goes_on : (h : List Plain → Due) (bs : List (List Plain)) (i : ℕ) (b : L
     → and_then (Ok so_far) (all_paired h (drop i bs)) ≡ whole → and_then (Ok (so_far ++ more)) (all_paired h (drop (i + 1) bs)) ≡ whole
 goes_on h bs i b so_far more whole lt at is inv =
     then_assoc (Ok so_far) (Ok more) (all_paired h (drop (i + 1) bs)) ∙ ap (λ r. and_then (Ok so_far) (and_then r (all_paired h (drop (i + 1) bs)))) (sym is) ∙ ap (and_then (Ok so_far)) (sym (step h bs i b lt at)) ∙ inv
-
-pub breaks_off : (h : List Plain → Due) (bs : List (List Plain)) (i : ℕ) (b : List Plain) (so_far : List (ℕ × Plain)) (whole : Due) (f : Fault) → i < length bs → b ≡ get_or bs i b
-    → and_then (Ok so_far) (all_paired h (drop i bs)) ≡ whole → h b ≡ Err f → whole ≡ Err f
-breaks_off h bs i b so_far whole f lt at inv is = sym inv ∙ ap (and_then (Ok so_far)) (step h bs i b lt at) ∙ ap (λ r. and_then (Ok so_far) (and_then r (all_paired h (drop (i + 1) bs)))) is
-
-pub ends_there : (h : List Plain → Due) (bs : List (List Plain)) (i : ℕ) (so_far : List (ℕ × Plain)) (whole : Due) → length bs ≤ i → and_then (Ok so_far) (all_paired h (drop i bs)) ≡ whole → whole ≡ Ok so_far
-ends_there h bs i so_far whole le inv = sym inv ∙ ap (λ r. and_then (Ok so_far) (all_paired h r)) (drop_all i bs le) ∙ ap Ok (append-nil so_far)
 
 pub appended_emits : (h : List Plain → Due) (bs : List (List Plain)) (i : ℕ) (new old more : List (ℕ × Value)) (whole : Due) → new ≡ old ++ more
     → and_then (Ok (emits_of old ++ emits_of more)) (all_paired h (drop (i + 1) bs)) ≡ whole → and_then (Ok (emits_of new)) (all_paired h (drop (i + 1) bs)) ≡ whole

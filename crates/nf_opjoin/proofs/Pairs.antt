@@ -1,14 +1,14 @@
 -- An operator that pairs items is one.
-use Rattle.std.proofs.Common.{◌≡◌, ℕ, ◌+◌, ◌<◌, ◌≤◌, List, [], ◌∷◌, ◌++◌, Bool, true, false, cond, refl, ap, sym, ◌∙◌, subst, arith, ◌⊎◌, inl, inr}
+use Rattle.std.proofs.Common.{◌≡◌, ℕ, ◌+◌, ◌≤◌, List, [], ◌∷◌, ◌++◌, Bool, true, false, cond, refl, ap, sym, ◌∙◌, subst, arith, ◌⊎◌, inl, inr}
 use Rattle.std.specs.Prelude.{nat_lt, sum_by, count_by, Ok, Err, is_ok}
-use Rattle.std.specs.List.{Contains, flat_map}
+use Rattle.std.specs.List.{flat_map}
 use Rattle.std.specs.Ordering.{eq_by_cmp}
 use Rattle.std.proofs.lemmas.Bool.{cases_Bool, true≢false}
 use Rattle.std.proofs.lemmas.Bool.Decides.{nat_tests}
 use Rattle.std.proofs.lemmas.List.Sums.{sum_by-cons}
 use Rattle.nf_value.specs.Plain.{Plain}
 use Rattle.nf_value.specs.Order.{value_cmp}
-use Rattle.nf_bag.specs.Bag.{count, IsSubBag, IsSameBag}
+use Rattle.nf_bag.specs.Bag.{count}
 use Rattle.nf_opstream.specs.Push.{Push, IsWithin, IsSameInput}
 use Rattle.nf_opstream.specs.Fault.{Fault}
 use Rattle.nf_opstream.specs.Operator.{to_out, oks, errs, emitted, AreFine, IsOperator}

@@ -1,7 +1,7 @@
 -- From what an operator gives to what a push and a close promise.
 use Rattle.std.proofs.Common.{◌≡◌, ℕ, List, [], ◌∷◌, ap, sym, ◌∙◌, subst}
 use Rattle.std.specs.Prelude.{Option, Some, None, Result, Ok, Err, MatchResult, IfSome}
-use Rattle.nf_value.specs.Plain.{Plain, list, plains_of}
+use Rattle.nf_value.specs.Plain.{Plain}
 use Rattle.nf_value.specs.declared.value.Value.{Value}
 use Rattle.nf_bag.specs.declared.fault.OpFault.{OpFault}
 use Rattle.nf_opstream.specs.Push.{Push}
@@ -10,7 +10,6 @@ use Rattle.nf_opstream.specs.Operator.{Operator, AreFine, IsOperator}
 use Rattle.nf_opstream.specs.Promise.{emits_of, IsFault, HasEmitted, HasFaulted, HasEnded, HasBroken, PushRefused, CloseRefused}
 use Rattle.nf_opstream.specs.Alone.{judged}
 use Rattle.nf_opstream.specs.Rows.{pass_row}
-use Rattle.nf_opjoin.specs.Combined.{tuple}
 
 -- what the laws of the operators say of any of them
 abbrev pub Emits : Type 0
@@ -39,10 +38,6 @@ pub answered : {T : Type 0} (items : T → List (ℕ × Value)) (op : Operator) 
 answered items op law emits faults p fine x (Ok t) h = emits op law p fine x (emits_of (items t)) h
 answered items op law emits faults p fine x (Err f) h = refused op law faults p fine x (fault_of f) h
 
--- a push that emits nothing
-pub gives_silent : (op : Operator) → IsOperator op → Emits → (p : List Push) → AreFine op p → (x : Push) (es : List (ℕ × Value)) → es ≡ [] → op.gives p x ≡ Ok [] → HasEmitted op p x (emits_of es)
-gives_silent op law emits p fine x es none e = emits op law p fine x (emits_of es) (e ∙ ap (λ z. Ok (emits_of z)) (sym none))
-
 broken : (op : Operator) → IsOperator op → Breaks → (p : List Push) → AreFine op p → (f : Option Fault) → IfSome f (λ g. op.ends p ≡ Err g) → IfSome f (HasBroken op p)
 broken op law breaks p fine None h = tt
 broken op law breaks p fine (Some g) h = breaks op law p fine g h
@@ -69,11 +64,3 @@ deep x (Some g) h = h.gives
 pub passed : {T : Type 0} (items : T → List (ℕ × Value)) (x : Push) (r : Result T OpFault) → MatchResult r (λ t. HasEmitted pass_row [] x (emits_of (items t))) (PushRefused pass_row [] x) → IsDue items r (judged ((0, x.item) ∷ []))
 passed items x (Ok t) h = h.gives
 passed items x (Err f) h = deep x (fault_of f) h
-
--- a fault that a part has, the whole has
-pub fault_of_whole : (part whole : Result (List (ℕ × Plain)) Fault) (f : OpFault) → ((g : Fault) → part ≡ Err g → whole ≡ Err g) → IsFault part f → IsFault whole f
-fault_of_whole part whole f carries h = by (fault_of f) h
-  where
-    by : (o : Option Fault) → IfSome o (λ g. part ≡ Err g) → IfSome o (λ g. whole ≡ Err g)
-    by None k = tt
-    by (Some g) k = carries g k

@@ -1,12 +1,12 @@
 -- Pairs of all items, or of those with equal first items.
-use Rattle.std.specs.Prelude.{ℕ, List, [], ◌∷◌, ◌++◌, Bool, true, false, cond, Ok}
+use Rattle.std.specs.Prelude.{ℕ, List, [], ◌∷◌, ◌++◌, Bool, false, cond, Ok}
 use Rattle.nf_value.specs.Plain.{Plain, list, plains_of}
 use Rattle.nf_opstream.specs.Push.{Push}
 use Rattle.nf_opstream.specs.Fault.{duplicate_key}
 use Rattle.nf_opstream.specs.Operator.{Operator}
 use Rattle.nf_opstream.specs.Alone.{judged}
 use Rattle.nf_opjoin.specs.Pairing.{Due, Matching, pairing}
-use Rattle.nf_opjoin.specs.Tuples.{parts_of, key_at, rest_at, key_or_null, keyed, faces, meets}
+use Rattle.nf_opjoin.specs.Tuples.{parts_of, rest_at, key_or_null, keyed, faces, meets}
 
 -- the list of these values to the first output, if it isn't too deep
 abbrev pub tuple : List Plain → Due

@@ -1,5 +1,5 @@
 -- Pairs of items with equal keys, and the items that have no partner.
-use Rattle.std.specs.Prelude.{◌==◌, ◌&&◌, ◌||◌, ℕ, List, [], ◌∷◌, ◌++◌, Bool, true, false, cond, not, is_some, count_by, Ok}
+use Rattle.std.specs.Prelude.{◌==◌, ◌&&◌, ◌||◌, ℕ, List, [], ◌∷◌, ◌++◌, Bool, cond, not, is_some, count_by, Ok}
 use Rattle.std.specs.List.{flat_map}
 use Rattle.nf_value.specs.Plain.{Plain, null, list, plains_of}
 use Rattle.nf_bag.specs.Sorted.{sorted_of}

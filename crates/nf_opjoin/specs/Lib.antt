@@ -3,6 +3,7 @@ pub mod Tuples
 pub mod Combined
 pub mod After
 pub mod Entered
+pub mod Grouped
 pub mod Joined
 pub mod Kept
 pub mod Listed

@@ -1,5 +1,5 @@
 -- What one item gives with those of the other input, by their parts.
-use Rattle.std.specs.Prelude.{ℕ, List, [], ◌∷◌, ◌++◌, Bool, cond, slice_get, drop, Ok}
+use Rattle.std.specs.Prelude.{List, [], ◌∷◌, ◌++◌, Bool, cond, slice_get, drop, Ok}
 use Rattle.nf_value.specs.Plain.{Plain}
 use Rattle.nf_opjoin.specs.Pairing.{Due, and_then}
 use Rattle.nf_opjoin.specs.Tuples.{same_key}

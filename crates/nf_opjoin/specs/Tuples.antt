@@ -1,7 +1,7 @@
 -- Tuples and their keys.
-use Rattle.std.specs.Prelude.{◌==◌, ◌&&◌, ℕ, List, [], ◌∷◌, ◌++◌, Bool, true, false, cond, not, Option, Some, None, slice_get, remove, unwrap_or, Ok, Err}
+use Rattle.std.specs.Prelude.{◌==◌, ◌&&◌, ℕ, List, [], ◌∷◌, Bool, false, not, Option, Some, None, slice_get, remove, unwrap_or, Ok, Err}
 use Rattle.std.specs.Ordering.{eq_by_cmp}
-use Rattle.nf_value.specs.Plain.{Plain, null, truth, int, text, file, list, table, plains_of}
+use Rattle.nf_value.specs.Plain.{Plain, null, truth, int, text, file, list, table}
 use Rattle.nf_value.specs.Order.{value_cmp}
 use Rattle.nf_opstream.specs.Push.{Push}
 use Rattle.nf_opstream.specs.Fault.{not_a_tuple}

@@ -4,9 +4,10 @@ ghost use Rattle.std.specs.Prelude.{ℕ, Bool};
 ghost use Rattle.nf_opstream.specs.Operator.{IsOperator};
 ghost use Rattle.nf_opjoin.specs.Pairing.{Matching, IsMatching, pairing};
 ghost use Rattle.nf_opjoin.specs.Combined.{combine_row};
+ghost use Rattle.nf_opjoin.specs.Grouped.{group_row};
 ghost use Rattle.nf_opjoin.specs.Joined.{join, join_row};
 
-use nf_bag::laws::sorting;
+use nf_bag::laws::{distinct_values, sorting};
 use nf_opstream::laws::inputs;
 
 /// An operator that pairs items emits its bag, whatever the order of its items.
@@ -31,4 +32,14 @@ pub fn joined()
     all_pairs();
     inputs();
     sorting();
+}
+
+/// `groupTuple` emits its bag, whatever the order of its items, if its state answers the close as its definition does. There is no such state yet.
+pub fn grouped()
+    ensures { (n : ℕ) → (sort : Bool) → IsOperator (group_row n sort) }
+{
+    all_pairs();
+    inputs();
+    sorting();
+    distinct_values();
 }

@@ -1,6 +1,4 @@
-use Rattle.std.proofs.Common.{◌++◌, sym, ap, ◌∙◌}
 use Rattle.nf_opstream.specs.Promise.{emits_of}
-use Rattle.nf_opjoin.specs.Pairing.{and_then}
 use Rattle.nf_opjoin.specs.Listed.{paired_as, all_paired}
 use Rattle.nf_opjoin.proofs.Listing.{goes_on, appended_emits}
 use Rattle.nf_opjoin.proofs.tuples.paired.Goals as goal

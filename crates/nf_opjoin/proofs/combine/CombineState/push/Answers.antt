@@ -1,4 +1,4 @@
-use Rattle.std.proofs.Common.{refl, ap, sym, ◌∙◌}
+use Rattle.std.proofs.Common.{sym, ◌∙◌}
 use Rattle.nf_value.specs.View.{plain_of}
 use Rattle.nf_opstream.specs.Push.{push_of}
 use Rattle.nf_opstream.specs.Fault.{not_a_tuple}

@@ -1,5 +1,4 @@
-use Rattle.std.proofs.Common.{[], refl, ap, sym, ◌∙◌}
-use Rattle.nf_value.specs.View.{plain_of}
+use Rattle.std.proofs.Common.{[], ap, ◌∙◌}
 use Rattle.nf_bag.specs.Sorted.{sorted_of}
 use Rattle.nf_opstream.specs.Promise.{emits_of}
 use Rattle.nf_opjoin.specs.Joined.{join_row}
