@@ -1,58 +1,240 @@
 -- The tree of what lies in memory.
-use Rattle.std.specs.Prelude.{List, map}
+use Rattle.std.specs.Prelude.{ℕ, List, [], ◌∷◌, Option, Some, None, map, option_map}
+use Rattle.nf_value.specs.declared.place.Place.{Place}
+use Rattle.nf_ast.specs.declared.marks.BranchMark.{BranchMark}
+use Rattle.nf_ast.specs.declared.marks.BranchMark.TheVariants as branch
+use Rattle.nf_ast.specs.declared.expr.Prefix.{Prefix}
+use Rattle.nf_ast.specs.declared.expr.Key.{Key}
+use Rattle.nf_ast.specs.declared.expr.Key.TheVariants as key
 use Rattle.nf_ast.specs.declared.expr.Expr.{Expr}
+use Rattle.nf_ast.specs.declared.expr.Arm.{Arm}
+use Rattle.nf_ast.specs.declared.expr.Label.{Label}
+use Rattle.nf_ast.specs.declared.expr.ClosureBody.{ClosureBody}
+use Rattle.nf_ast.specs.declared.expr.Arg.{Arg}
+use Rattle.nf_ast.specs.declared.expr.Postfix.{Postfix}
+use Rattle.nf_ast.specs.declared.expr.Branch.{Branch}
+use Rattle.nf_ast.specs.declared.expr.Operand.{Operand}
+use Rattle.nf_ast.specs.declared.expr.Pair.{Pair}
+use Rattle.nf_ast.specs.declared.expr.Piece.{Piece}
 use Rattle.nf_ast.specs.declared.expr.Stmt.{Stmt}
 use Rattle.nf_ast.specs.declared.expr.Closure.{Closure}
-use Rattle.nf_ast.specs.declared.expr.Expr.TheOpen as o
-use Rattle.nf_ast.specs.declared.expr.Expr.TheOpen.{Expr-F, Stmt-F, Closure-F}
-use Rattle.nf_ast.specs.declared.expr.Expr.TheFolds.{fold-Expr, fold-Stmt, fold-Closure}
-use Rattle.nf_ast.specs.declared.script.Script.{Script}
-use Rattle.nf_ast.specs.declared.script.Workflow.{Workflow}
-use Rattle.nf_ast.specs.declared.script.Process.{Process}
-use Rattle.nf_ast.specs.declared.script.Top.{Top}
-use Rattle.nf_ast.specs.declared.script.Top.TheVariants as top
-use Rattle.nf_ast.specs.Tree.{Tree, number, name, text, template, binary, property, call, call_with, closure, workflow, process, trees}
+use Rattle.nf_ast.specs.declared.expr.ClosureBody.TheOpen as o
+use Rattle.nf_ast.specs.declared.expr.ClosureBody.TheOpen.{Expr-F, Piece-F, Pair-F, Operand-F, Branch-F, Postfix-F, Arg-F, Closure-F, ClosureBody-F, Label-F, Stmt-F, Arm-F}
+use Rattle.nf_ast.specs.declared.expr.ClosureBody.TheFolds.{fold-Expr, fold-Piece, fold-Pair, fold-Operand, fold-Branch, fold-Postfix, fold-Arg, fold-Closure, fold-ClosureBody, fold-Label, fold-Stmt, fold-Arm}
+use Rattle.nf_ast.specs.Tree as tree
+use Rattle.nf_ast.specs.Tree.{Tree, empty, cons, name, snoc}
 
-abbrev pub expr_step : Expr-F Tree Tree Tree → Tree
-expr_step (o.Number p n) = number p n
+-- parts in a row
+abbrev pub trees : List Tree → Tree
+trees [] = empty
+trees (x ∷ xs) = cons x (trees xs)
+
+abbrev pub name_tree : Place × List ℕ → Tree
+name_tree n = name n.0 n.1
+
+abbrev pub names : List (Place × List ℕ) → Tree
+names ns = trees (map name_tree ns)
+
+-- ---- lists of one level
+
+-- each operand with the mark before it, after what was read; the marks wait for their left operand
+abbrev pub operands : Tree → List Tree → Tree
+operands a [] = a
+operands a (tree.binary p mark x b ∷ xs) = operands (tree.binary p mark a b) xs
+operands a (_ ∷ xs) = operands a xs
+
+abbrev pub prefixes : List Prefix → Tree → Tree
+prefixes [] e = e
+prefixes (x ∷ xs) e = tree.prefix x.place x.mark (prefixes xs e)
+
+-- each part that waits for what stands before it
+abbrev pub applied : Tree → Tree → Tree
+applied e (tree.property x n) = tree.property e n
+applied e (tree.safe_property x n) = tree.safe_property e n
+applied e (tree.index p x i) = tree.index p e i
+applied e (tree.call p x args) = tree.call p e args
+applied e (tree.call_with x c) = tree.call_with e c
+applied e _ = empty
+
+abbrev pub postfix : Tree → List Tree → Tree
+postfix e [] = e
+postfix e (x ∷ xs) = postfix (applied e x) xs
+
+-- ---- conditionals
+
+-- what waits for the operand that is read next
+pub data Frame : Type 0 where
+  -- a condition: what a true one gives, and then `:`
+  asked : Place → Tree → Frame
+  -- a condition and what a true one gives: what a false one gives
+  answered : Place → Tree → Tree → Frame
+  -- what is given where it is true
+  preferred : Place → Tree → Frame
+
+-- all that ends with the operand
+abbrev pub ended : List Frame → Tree → Tree
+ended [] e = e
+ended (asked p c ∷ fs) e = ended fs (tree.conditional p c e empty)
+ended (answered p c a ∷ fs) e = ended fs (tree.conditional p c a e)
+ended (preferred p a ∷ fs) e = ended fs (tree.elvis p a e)
+
+-- all that ends before the next `:`, at this place, and the condition that waits for it; one that no condition waits for, which no text
+-- spells, is read as `?:`
+abbrev pub turned : Place → List Frame → Tree → List Frame
+turned q [] e = preferred q e ∷ []
+turned q (asked p c ∷ fs) e = answered p c e ∷ fs
+turned q (answered p c a ∷ fs) e = turned q fs (tree.conditional p c a e)
+turned q (preferred p a ∷ fs) e = turned q fs (tree.elvis p a e)
+
+abbrev pub framed : Place → BranchMark → List Frame → Tree → List Frame
+framed p branch.Then fs e = asked p e ∷ fs
+framed p branch.Else fs e = turned p fs e
+framed p branch.Elvis fs e = preferred p e ∷ fs
+
+pub record BranchTree : Type 0 where
+  pub place : Place
+  pub mark : BranchMark
+  pub expr : Tree
+
+-- the operands with the marks between them, in the order of the text
+abbrev pub conditional : List Frame → Tree → List BranchTree → Tree
+conditional fs e [] = ended fs e
+conditional fs e (x ∷ xs) = conditional (framed x.place x.mark fs e) x.expr xs
+
+-- ---- the arms of a choice
+
+pub record ArmTree : Type 0 where
+  pub place : Place
+  pub condition : Tree
+  pub body : Tree
+
+abbrev pub last_arm : Option (List Tree) → Tree
+last_arm None = empty
+last_arm (Some xs) = tree.statements (trees xs)
+
+abbrev pub choice : List ArmTree → Tree → Tree
+choice [] last = last
+choice (x ∷ xs) last = tree.choice x.place x.condition (tree.statements x.body) (choice xs last)
+
+-- ---- each node
+
+abbrev pub part_of : Option (Place × List ℕ) → Tree
+part_of None = empty
+part_of (Some x) = cons (tree.piece x.0 x.1) empty
+
+abbrev pub key_tree : Key → Tree
+key_tree (key.Name p n) = name p n
+key_tree (key.Text p k s) = tree.text p k s
+key_tree (key.Template p k x) = tree.template p k (part_of x)
+
+abbrev pub with_name : Option (Place × List ℕ) → Tree → Tree
+with_name None e = e
+with_name (Some n) e = tree.named (name_tree n) e
+
+abbrev pub params_tree : Option (List (Place × List ℕ)) → Tree
+params_tree None = empty
+params_tree (Some ns) = tree.params (names ns)
+
+abbrev pub expr_step : Expr-F Tree Tree Tree Tree Tree Tree ArmTree BranchTree Tree Tree Tree Tree → Tree
+expr_step (o.Number p n) = tree.number p n
+expr_step (o.Text p k s) = tree.text p k s
+expr_step (o.Pattern p s) = tree.pattern p s
+expr_step (o.Template p k xs) = tree.template p k (trees xs.items)
+expr_step (o.Truth p b) = tree.truth p b
+expr_step (o.Null p) = tree.null p
 expr_step (o.Name p n) = name p n
-expr_step (o.Text p t) = text p t
-expr_step (o.Template p xs) = template p (trees xs.items)
-expr_step (o.Binary p m a b) = binary p m a.value b.value
-expr_step (o.Property p a n) = property p a.value n
-expr_step (o.Call p a xs) = call p a.value (trees xs.items)
-expr_step (o.CallWith a c) = call_with a.value c
+expr_step (o.List p xs) = tree.list p (trees xs.items)
+expr_step (o.Map p xs) = tree.map p (trees xs.items)
+expr_step (o.Closure c) = c
+expr_step (o.Prefix ms e) = prefixes ms.items e.value
+expr_step (o.Infix a xs) = operands a.value (xs.items)
+expr_step (o.Conditional a xs) = conditional [] a.value xs.items
+expr_step (o.Postfix e xs) = postfix e.value xs.items
 
-abbrev pub closure_step : Closure-F Tree Tree Tree → Tree
-closure_step c = closure c.place (trees c.body.items)
+abbrev pub piece_step : Piece-F Tree Tree Tree Tree Tree Tree ArmTree BranchTree Tree Tree Tree Tree → Tree
+piece_step (o.Plain p s) = tree.piece p s
+piece_step (o.Hole p e) = tree.hole p e
 
-abbrev pub stmt_step : Stmt-F Tree Tree Tree → Tree
-stmt_step (o.Expr a) = a
+abbrev pub pair_step : Pair-F Tree Tree Tree Tree Tree Tree ArmTree BranchTree Tree Tree Tree Tree → Tree
+pair_step x = tree.pair (key_tree x.key) x.value
+
+abbrev pub operand_step : Operand-F Tree Tree Tree Tree Tree Tree ArmTree BranchTree Tree Tree Tree Tree → Tree
+operand_step x = tree.binary x.place x.mark empty x.expr
+
+abbrev pub branch_step : Branch-F Tree Tree Tree Tree Tree Tree ArmTree BranchTree Tree Tree Tree Tree → BranchTree
+branch_step x = record { place = x.place; mark = x.mark; expr = x.expr }
+
+abbrev pub postfix_step : Postfix-F Tree Tree Tree Tree Tree Tree ArmTree BranchTree Tree Tree Tree Tree → Tree
+postfix_step (o.Property p n) = tree.property empty (name p n)
+postfix_step (o.SafeProperty p n) = tree.safe_property empty (name p n)
+postfix_step (o.Index p i) = tree.index p empty i
+postfix_step (o.Call p xs) = tree.call p empty (trees xs.items)
+postfix_step (o.With c) = tree.call_with empty c
+
+abbrev pub arg_step : Arg-F Tree Tree Tree Tree Tree Tree ArmTree BranchTree Tree Tree Tree Tree → Tree
+arg_step x = with_name x.name x.value
+
+abbrev pub closure_step : Closure-F Tree Tree Tree Tree Tree Tree ArmTree BranchTree Tree Tree Tree Tree → Tree
+closure_step c = tree.closure c.place (params_tree (option_map (λ v. v.items) c.params)) c.body
+
+abbrev pub body_step : ClosureBody-F Tree Tree Tree Tree Tree Tree ArmTree BranchTree Tree Tree Tree Tree → Tree
+body_step (o.Statements xs) = trees xs.items
+body_step (o.Labels xs) = trees xs.items
+
+abbrev pub label_step : Label-F Tree Tree Tree Tree Tree Tree ArmTree BranchTree Tree Tree Tree Tree → Tree
+label_step x = tree.label (name x.place x.name) x.value
+
+abbrev pub stmt_step : Stmt-F Tree Tree Tree Tree Tree Tree ArmTree BranchTree Tree Tree Tree Tree → Tree
+stmt_step (o.Define p q n e) = tree.define p (name q n) e
+stmt_step (o.DefineAll p ns e) = tree.define_all p (names ns.items) e
+stmt_step (o.Assign p n e) = tree.assign (name p n) e
+stmt_step (o.Return p e) = tree.return_ p e
+stmt_step (o.Choice arms last) = choice arms.items (last_arm (option_map (λ v. v.items) last))
+stmt_step (o.Println p e) = tree.println p e
+stmt_step (o.Log p q n e) = tree.log p (name q n) e
+stmt_step (o.Expr e) = e
+
+abbrev pub arm_step : Arm-F Tree Tree Tree Tree Tree Tree ArmTree BranchTree Tree Tree Tree Tree → ArmTree
+arm_step x = record { place = x.place; condition = x.condition; body = trees x.body.items }
 
 abbrev pub view : Expr → Tree
-view = fold-Expr Tree Tree Tree expr_step stmt_step closure_step
+view = fold-Expr Tree Tree Tree Tree Tree Tree ArmTree BranchTree Tree Tree Tree Tree body_step expr_step piece_step postfix_step stmt_step arg_step arm_step branch_step closure_step label_step operand_step pair_step
+
+abbrev pub view_piece : Piece → Tree
+view_piece = fold-Piece Tree Tree Tree Tree Tree Tree ArmTree BranchTree Tree Tree Tree Tree body_step expr_step piece_step postfix_step stmt_step arg_step arm_step branch_step closure_step label_step operand_step pair_step
+
+abbrev pub view_pair : Pair → Tree
+view_pair = fold-Pair Tree Tree Tree Tree Tree Tree ArmTree BranchTree Tree Tree Tree Tree body_step expr_step piece_step postfix_step stmt_step arg_step arm_step branch_step closure_step label_step operand_step pair_step
+
+abbrev pub view_operand : Operand → Tree
+view_operand = fold-Operand Tree Tree Tree Tree Tree Tree ArmTree BranchTree Tree Tree Tree Tree body_step expr_step piece_step postfix_step stmt_step arg_step arm_step branch_step closure_step label_step operand_step pair_step
+
+abbrev pub view_branch : Branch → BranchTree
+view_branch = fold-Branch Tree Tree Tree Tree Tree Tree ArmTree BranchTree Tree Tree Tree Tree body_step expr_step piece_step postfix_step stmt_step arg_step arm_step branch_step closure_step label_step operand_step pair_step
+
+abbrev pub view_postfix : Postfix → Tree
+view_postfix = fold-Postfix Tree Tree Tree Tree Tree Tree ArmTree BranchTree Tree Tree Tree Tree body_step expr_step piece_step postfix_step stmt_step arg_step arm_step branch_step closure_step label_step operand_step pair_step
+
+abbrev pub view_arg : Arg → Tree
+view_arg = fold-Arg Tree Tree Tree Tree Tree Tree ArmTree BranchTree Tree Tree Tree Tree body_step expr_step piece_step postfix_step stmt_step arg_step arm_step branch_step closure_step label_step operand_step pair_step
 
 abbrev pub view_closure : Closure → Tree
-view_closure = fold-Closure Tree Tree Tree expr_step stmt_step closure_step
+view_closure = fold-Closure Tree Tree Tree Tree Tree Tree ArmTree BranchTree Tree Tree Tree Tree body_step expr_step piece_step postfix_step stmt_step arg_step arm_step branch_step closure_step label_step operand_step pair_step
+
+abbrev pub view_body : ClosureBody → Tree
+view_body = fold-ClosureBody Tree Tree Tree Tree Tree Tree ArmTree BranchTree Tree Tree Tree Tree body_step expr_step piece_step postfix_step stmt_step arg_step arm_step branch_step closure_step label_step operand_step pair_step
+
+abbrev pub view_label : Label → Tree
+view_label = fold-Label Tree Tree Tree Tree Tree Tree ArmTree BranchTree Tree Tree Tree Tree body_step expr_step piece_step postfix_step stmt_step arg_step arm_step branch_step closure_step label_step operand_step pair_step
 
 abbrev pub view_stmt : Stmt → Tree
-view_stmt = fold-Stmt Tree Tree Tree expr_step stmt_step closure_step
+view_stmt = fold-Stmt Tree Tree Tree Tree Tree Tree ArmTree BranchTree Tree Tree Tree Tree body_step expr_step piece_step postfix_step stmt_step arg_step arm_step branch_step closure_step label_step operand_step pair_step
+
+abbrev pub view_arm : Arm → ArmTree
+view_arm = fold-Arm Tree Tree Tree Tree Tree Tree ArmTree BranchTree Tree Tree Tree Tree body_step expr_step piece_step postfix_step stmt_step arg_step arm_step branch_step closure_step label_step operand_step pair_step
 
 abbrev pub views : List Expr → Tree
 views es = trees (map view es)
 
 abbrev pub view_stmts : List Stmt → Tree
 view_stmts ss = trees (map view_stmt ss)
-
-abbrev pub view_workflow : Workflow → Tree
-view_workflow w = workflow w.place (view_stmts w.body.items)
-
-abbrev pub view_process : Process → Tree
-view_process p = process p.place (name p.name_place p.name) (name p.input_place p.input) (view p.script)
-
-abbrev pub view_top : Top → Tree
-view_top (top.Workflow w) = view_workflow w
-view_top (top.Process p) = view_process p
-
-abbrev pub view_script : Script → Tree
-view_script s = trees (map view_top s.tops.items)

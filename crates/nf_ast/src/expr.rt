@@ -1,167 +1,527 @@
 //! Expressions, closures and statements.
 
-ghost use Rattle.std.specs.Prelude.{◌≡◌, IfOk};
-ghost use Rattle.nf_ast.specs.Tree.{number as number_of, name as name_of, text as text_of, template as template_of, binary as binary_of, property as property_of, call as call_of, call_with as call_with_of, closure as closure_of};
-ghost use Rattle.nf_ast.specs.View.{view, views, view_stmt, view_stmts, view_closure};
+ghost use Rattle.std.specs.Prelude.{◌≡◌, [], map, IfOk, option_map};
+ghost use Rattle.nf_ast.specs.Tree as tree;
+ghost use Rattle.nf_ast.specs.View.{view, views, view_stmts, view_operand, view_branch, view_postfix, view_piece, view_pair, view_arg, view_closure, view_body, view_label, view_stmt, view_arm, trees, operands, conditional, postfix, prefixes, choice, last_arm, params_tree, key_tree, with_name, names};
 
+use crate::marks::{BranchMark, InfixMark, PrefixMark};
+use nf_lexer::{PlainKind, TemplateKind};
 use nf_value::{Mem, Place, Txt};
 use std::alloc::Global;
 
-/// The mark between two operands (Nextflow reference documentation, "Syntax", "Binary expressions"; these three are built).
-#[derive(Debug, Clone, Copy, PartialEq, Eq)]
-pub enum BinaryMark {
-    /// `+`: addition.
-    Plus,
-    /// `-`: subtraction.
-    Minus,
-    /// `*`: multiplication.
-    Times,
-}
-
-/// An expression (Nextflow reference documentation, "Syntax", "Expressions"; these kinds are built, and the places are this
-/// project's own). Contracts see its `Tree`, by `view`.
+/// An expression (Nextflow reference documentation, "Syntax", "Expressions"; the places are this project's own). What stands on one
+/// level is a list in its node, so that an expression is never deeper than its open brackets times the levels. Contracts see its
+/// `Tree`, by `view`.
 #[cycle(tree)]
 #[derive(Drop)]
 pub enum Expr {
     /// A number of 64 signed bits, with the place of its first digit.
     Number(Place, i64),
+    /// A plain string, with the place of its opening mark, its kind, and the text that it stands for.
+    Text(Place, PlainKind, Txt),
+    /// A pattern, with the place of its `~`.
+    Pattern(Place, Txt),
+    /// A template, with the place of its opening mark, its kind, and its texts and holes.
+    Template(Place, TemplateKind, Vec<Piece>),
+    /// `true` or `false`.
+    Truth(Place, bool),
+    /// `null`.
+    Null(Place),
     /// A name, with the place of its first letter.
     Name(Place, Txt),
-    /// A plain string, with the place of its opening mark, and the text that it stands for.
-    Text(Place, Txt),
-    /// A template, with the place of its opening mark, and its parts in their order: texts, and holes, which are expressions.
-    Template(Place, Vec<Expr>),
-    /// Two operands, left and right, with their mark and its place.
-    Binary(Place, BinaryMark, Box<Expr>, Box<Expr>),
-    /// `e.name`, with the place of the name.
-    Property(Place, Box<Expr>, Txt),
-    /// `e(..)`, with the place of the `(`.
-    Call(Place, Box<Expr>, Vec<Expr>),
-    /// `e { .. }`: a call with no arguments but the closure after it.
-    CallWith(Box<Expr>, Closure),
+    /// `[..]`, with the place of the bracket and the items.
+    List(Place, Vec<Expr>),
+    /// `[k: v, ..]` or `[:]`, with the place of the bracket and the pairs.
+    Map(Place, Vec<Pair>),
+    /// A closure.
+    Closure(Closure),
+    /// Marks before an operand, the outermost first.
+    Prefix(Vec<Prefix>, Box<Expr>),
+    /// Operands of one level with the marks between them.
+    Infix(Box<Expr>, Vec<Operand>),
+    /// `c ? a : b`, `a ?: b`, and what is nested in them without brackets: the operands with the marks between them, in the order of
+    /// the text.
+    Conditional(Box<Expr>, Vec<Branch>),
+    /// What is read of an expression or called on it, one after another.
+    Postfix(Box<Expr>, Vec<Postfix>),
 }
 
-/// A closure without names for its parameters (Nextflow reference documentation, "Syntax", "Closure"). Contracts see its
-/// `Tree`, by `view_closure`.
+/// A text or a hole of a template.
+#[cycle(tree)]
+#[derive(Drop)]
+pub enum Piece {
+    /// A text, with the place where it begins.
+    Plain(Place, Txt),
+    /// A hole, with the place of its `$`.
+    Hole(Place, Expr),
+}
+
+/// A pair of a map.
+#[cycle(tree)]
+#[derive(Drop)]
+pub struct Pair {
+    /// Its key.
+    pub key: Key,
+    /// Its value.
+    pub value: Expr,
+}
+
+/// The key of a pair.
+#[derive(Drop)]
+pub enum Key {
+    /// A name.
+    Name(Place, Txt),
+    /// A plain string.
+    Text(Place, PlainKind, Txt),
+    /// A template without a hole; an empty one has no text.
+    Template(Place, TemplateKind, Option<(Place, Txt)>),
+}
+
+/// A mark before an operand.
+#[derive(Drop, Clone, Copy)]
+pub struct Prefix {
+    /// Where it stands.
+    pub place: Place,
+    /// The mark.
+    pub mark: PrefixMark,
+}
+
+/// An operand with the mark before it.
+#[cycle(tree)]
+#[derive(Drop)]
+pub struct Operand {
+    /// The place of the mark.
+    pub place: Place,
+    /// The mark.
+    pub mark: InfixMark,
+    /// The operand.
+    pub expr: Expr,
+}
+
+/// An operand of a conditional expression with the mark before it.
+#[cycle(tree)]
+#[derive(Drop)]
+pub struct Branch {
+    /// The place of the mark.
+    pub place: Place,
+    /// The mark.
+    pub mark: BranchMark,
+    /// The operand.
+    pub expr: Expr,
+}
+
+/// A part that stands after an expression.
+#[cycle(tree)]
+#[derive(Drop)]
+pub enum Postfix {
+    /// `.name`, with the place of the name.
+    Property(Place, Txt),
+    /// `?.name`, with the place of the name.
+    SafeProperty(Place, Txt),
+    /// `[e]`, with the place of the bracket.
+    Index(Place, Expr),
+    /// `(..)`, with the place of the bracket.
+    Call(Place, Vec<Arg>),
+    /// A closure that the call before it takes, or that is the call's one argument.
+    With(Closure),
+}
+
+/// An argument.
+#[cycle(tree)]
+#[derive(Drop)]
+pub struct Arg {
+    /// Its name, where it has one, with the name's place.
+    pub name: Option<(Place, Txt)>,
+    /// Its value.
+    pub value: Expr,
+}
+
+/// A closure (Nextflow reference documentation, "Syntax", "Closure"). Contracts see its `Tree`, by `view_closure`.
 #[cycle(tree)]
 #[derive(Drop)]
 pub struct Closure {
     /// The place of its `{`.
     pub place: Place,
-    /// Its statements, in their order.
-    pub body: Vec<Stmt>,
+    /// The names before its `->`, with their places; `None` where there is no arrow, so that it has `it`.
+    pub params: Option<Vec<(Place, Txt)>>,
+    /// Its statements or labels.
+    pub body: ClosureBody,
 }
 
-/// A statement (Nextflow reference documentation, "Syntax", "Statements"; this kind is built). Contracts see its `Tree`, by
-/// `view_stmt`.
+/// What a closure does.
+#[cycle(tree)]
+#[derive(Drop)]
+pub enum ClosureBody {
+    /// Its statements, in their order.
+    Statements(Vec<Stmt>),
+    /// Labelled expressions, as `branch` and `multiMap` take them.
+    Labels(Vec<Label>),
+}
+
+/// A labelled expression.
+#[cycle(tree)]
+#[derive(Drop)]
+pub struct Label {
+    /// The place of the label.
+    pub place: Place,
+    /// The label.
+    pub name: Txt,
+    /// The expression.
+    pub value: Expr,
+}
+
+/// A statement (Nextflow reference documentation, "Syntax", "Statements"). Contracts see its `Tree`, by `view_stmt`.
 #[cycle(tree)]
 #[derive(Drop)]
 pub enum Stmt {
+    /// `def name = e`, with the places of `def` and the name.
+    Define(Place, Place, Txt, Expr),
+    /// `def (a, b) = e`, with the place of `def`.
+    DefineAll(Place, Vec<(Place, Txt)>, Expr),
+    /// `name = e`, with the place of the name.
+    Assign(Place, Txt, Expr),
+    /// `return e`.
+    Return(Place, Expr),
+    /// The arms of an `if`, each with its condition, and the statements of the last `else`.
+    Choice(Vec<Arm>, Option<Vec<Stmt>>),
+    /// `println e`.
+    Println(Place, Expr),
+    /// `log.name e`, with the places of `log` and the name.
+    Log(Place, Place, Txt, Expr),
     /// An expression that stands alone.
     Expr(Expr),
 }
 
-impl Expr {
-    /// Two operands and the mark between them, which stands at `place`. Takes memory for two nodes.
-    ///
-    /// # Errors
-    ///
-    /// `Mem` where there is no memory for them.
-    pub fn binary(
-        alloc: Global,
-        place: Place,
-        mark: BinaryMark,
-        left: Expr,
-        right: Expr,
-    ) -> Result<Expr, Mem>
-        ensures { IfOk result (λ e. view e ≡ binary_of place mark (view left) (view right)) }
-    {
-        let left = Box::new(alloc, left)?;
-        let right = Box::new(alloc, right)?;
-        Ok(Expr::Binary(place, mark, left, right))
-    }
-
-    /// The property `name` of an expression; the name stands at `place`. Takes memory for one node.
-    ///
-    /// # Errors
-    ///
-    /// `Mem` where there is no memory for the node.
-    pub fn property(alloc: Global, place: Place, of: Expr, name: Txt) -> Result<Expr, Mem>
-        ensures { IfOk result (λ e. view e ≡ property_of place (view of) name) }
-    {
-        let of = Box::new(alloc, of)?;
-        Ok(Expr::Property(place, of, name))
-    }
-
-    /// A call of an expression with its arguments, in their order; its `(` stands at `place`. Takes memory for one node.
-    ///
-    /// # Errors
-    ///
-    /// `Mem` where there is no memory for the node.
-    pub fn call(alloc: Global, place: Place, of: Expr, args: Vec<Expr>) -> Result<Expr, Mem>
-        ensures { IfOk result (λ e. view e ≡ call_of place (view of) (views args.items)) }
-    {
-        let of = Box::new(alloc, of)?;
-        Ok(Expr::Call(place, of, args))
-    }
-
-    /// A call of an expression with the closure that stands after it. Takes memory for one node.
-    ///
-    /// # Errors
-    ///
-    /// `Mem` where there is no memory for the node.
-    pub fn call_with(alloc: Global, of: Expr, closure: Closure) -> Result<Expr, Mem>
-        ensures { IfOk result (λ e. view e ≡ call_with_of (view of) (view_closure closure)) }
-    {
-        let of = Box::new(alloc, of)?;
-        Ok(Expr::CallWith(of, closure))
-    }
-
-    /// A number, whose first digit stands at `place`. Takes no memory.
-    pub fn number(place: Place, value: i64) -> Expr
-        ensures { view result ≡ number_of place value }
-    {
-        Expr::Number(place, value)
-    }
-
-    /// A name, whose first letter stands at `place`. Takes no memory.
-    pub fn name(place: Place, name: Txt) -> Expr
-        ensures { view result ≡ name_of place name }
-    {
-        Expr::Name(place, name)
-    }
+/// An arm of an `if`.
+#[cycle(tree)]
+#[derive(Drop)]
+pub struct Arm {
+    /// The place of its `if`.
+    pub place: Place,
+    /// Its condition.
+    pub condition: Expr,
+    /// Its statements.
+    pub body: Vec<Stmt>,
 }
 
 impl Expr {
-    /// A plain string, whose opening mark stands at `place`. Takes no memory.
-    pub fn text(place: Place, text: Txt) -> Expr
-        ensures { view result ≡ text_of place text }
+    /// Operands of one band with the marks between them. Takes memory for one node.
+    ///
+    /// # Errors
+    ///
+    /// `Mem` where there is no memory for the node.
+    pub fn infix(alloc: Global, first: Expr, rest: Vec<Operand>) -> Result<Expr, Mem>
+        ensures { IfOk result (λ e. view e ≡ operands (view first) (map view_operand rest.items)) }
     {
-        Expr::Text(place, text)
+        let first = Box::new(alloc, first)?;
+        Ok(Expr::Infix(first, rest))
     }
 
-    /// A template of these parts, whose opening mark stands at `place`. Takes no memory.
-    pub fn template(place: Place, parts: Vec<Expr>) -> Expr
-        ensures { view result ≡ template_of place (views parts.items) }
+    /// A conditional expression: its operands with the marks between them, in the order of the text. Takes memory for one node.
+    ///
+    /// # Errors
+    ///
+    /// `Mem` where there is no memory for the node.
+    pub fn conditional(alloc: Global, first: Expr, rest: Vec<Branch>) -> Result<Expr, Mem>
+        ensures { IfOk result (λ e. view e ≡ conditional [] (view first) (map view_branch rest.items)) }
     {
-        Expr::Template(place, parts)
+        let first = Box::new(alloc, first)?;
+        Ok(Expr::Conditional(first, rest))
+    }
+
+    /// An expression and what is read of it or called on it. Takes memory for one node.
+    ///
+    /// # Errors
+    ///
+    /// `Mem` where there is no memory for the node.
+    pub fn postfix(alloc: Global, first: Expr, rest: Vec<Postfix>) -> Result<Expr, Mem>
+        ensures { IfOk result (λ e. view e ≡ postfix (view first) (map view_postfix rest.items)) }
+    {
+        let first = Box::new(alloc, first)?;
+        Ok(Expr::Postfix(first, rest))
+    }
+
+    /// Marks before an operand, the outermost first. Takes memory for one node.
+    ///
+    /// # Errors
+    ///
+    /// `Mem` where there is no memory for the node.
+    pub fn prefix(alloc: Global, marks: Vec<Prefix>, of: Expr) -> Result<Expr, Mem>
+        ensures { IfOk result (λ e. view e ≡ prefixes marks.items (view of)) }
+    {
+        let of = Box::new(alloc, of)?;
+        Ok(Expr::Prefix(marks, of))
+    }
+
+    /// A list. Takes no memory.
+    pub fn list(place: Place, items: Vec<Expr>) -> Expr
+        ensures { view result ≡ tree.list place (views items.items) }
+    {
+        Expr::List(place, items)
     }
 }
 
-impl Closure {
-    /// A closure of these statements, whose `{` stands at `place`. Takes no memory.
-    pub fn new(place: Place, body: Vec<Stmt>) -> Closure
-        ensures { view_closure result ≡ closure_of place (view_stmts body.items) }
+impl Operand {
+    /// An operand with the mark before it. Takes no memory.
+    pub fn new(place: Place, mark: InfixMark, expr: Expr) -> Operand
+        ensures { view_operand result ≡ tree.binary place mark tree.empty (view expr) }
     {
-        Closure { place, body }
+        Operand { place, mark, expr }
     }
 }
 
 impl Stmt {
-    /// A statement that is an expression. Takes no memory.
+    /// The arms of an `if`, and the statements of its last `else`. Takes no memory.
+    pub fn choice(arms: Vec<Arm>, last: Option<Vec<Stmt>>) -> Stmt
+        ensures { view_stmt result ≡ choice (map view_arm arms.items) (last_arm (option_map (λ v. map view_stmt v.items) last)) }
+    {
+        Stmt::Choice(arms, last)
+    }
+}
+
+impl Expr {
+    /// A number, whose first digit stands at `place`. Takes no memory.
+    pub fn number(place: Place, value: i64) -> Expr
+        ensures { view result ≡ tree.number place value }
+    {
+        Expr::Number(place, value)
+    }
+
+    /// A plain string, whose opening mark stands at `place`. Takes no memory.
+    pub fn text(place: Place, kind: PlainKind, text: Txt) -> Expr
+        ensures { view result ≡ tree.text place kind text }
+    {
+        Expr::Text(place, kind, text)
+    }
+
+    /// A pattern, whose `~` stands at `place`. Takes no memory.
+    pub fn pattern(place: Place, text: Txt) -> Expr
+        ensures { view result ≡ tree.pattern place text }
+    {
+        Expr::Pattern(place, text)
+    }
+
+    /// A template, whose opening mark stands at `place`. Takes no memory.
+    pub fn template(place: Place, kind: TemplateKind, parts: Vec<Piece>) -> Expr
+        ensures { view result ≡ tree.template place kind (trees (map view_piece parts.items)) }
+    {
+        Expr::Template(place, kind, parts)
+    }
+
+    /// `true` or `false`. Takes no memory.
+    pub fn truth(place: Place, value: bool) -> Expr
+        ensures { view result ≡ tree.truth place value }
+    {
+        Expr::Truth(place, value)
+    }
+
+    /// `null`. Takes no memory.
+    pub fn null(place: Place) -> Expr
+        ensures { view result ≡ tree.null place }
+    {
+        Expr::Null(place)
+    }
+
+    /// A name, whose first letter stands at `place`. Takes no memory.
+    pub fn name(place: Place, name: Txt) -> Expr
+        ensures { view result ≡ tree.name place name }
+    {
+        Expr::Name(place, name)
+    }
+
+    /// A map. Takes no memory.
+    pub fn map(place: Place, pairs: Vec<Pair>) -> Expr
+        ensures { view result ≡ tree.map place (trees (map view_pair pairs.items)) }
+    {
+        Expr::Map(place, pairs)
+    }
+
+    /// A closure. Takes no memory.
+    pub fn closure(closure: Closure) -> Expr
+        ensures { view result ≡ view_closure closure }
+    {
+        Expr::Closure(closure)
+    }
+}
+
+impl Piece {
+    /// A text. Takes no memory.
+    pub fn plain(place: Place, text: Txt) -> Piece
+        ensures { view_piece result ≡ tree.piece place text }
+    {
+        Piece::Plain(place, text)
+    }
+
+    /// A hole. Takes no memory.
+    pub fn hole(place: Place, expr: Expr) -> Piece
+        ensures { view_piece result ≡ tree.hole place (view expr) }
+    {
+        Piece::Hole(place, expr)
+    }
+}
+
+impl Pair {
+    /// A pair. Takes no memory.
+    pub fn new(key: Key, value: Expr) -> Pair
+        ensures { view_pair result ≡ tree.pair (key_tree key) (view value) }
+    {
+        Pair { key, value }
+    }
+}
+
+impl Branch {
+    /// An operand with the mark before it. Takes no memory.
+    pub fn new(place: Place, mark: BranchMark, expr: Expr) -> Branch
+        ensures { view_branch result ≡ record { place = place; mark = mark; expr = view expr } }
+    {
+        Branch { place, mark, expr }
+    }
+}
+
+impl Postfix {
+    /// `.name`. Takes no memory.
+    pub fn property(place: Place, name: Txt) -> Postfix
+        ensures { view_postfix result ≡ tree.property tree.empty (tree.name place name) }
+    {
+        Postfix::Property(place, name)
+    }
+
+    /// `?.name`. Takes no memory.
+    pub fn safe_property(place: Place, name: Txt) -> Postfix
+        ensures { view_postfix result ≡ tree.safe_property tree.empty (tree.name place name) }
+    {
+        Postfix::SafeProperty(place, name)
+    }
+
+    /// `[e]`. Takes no memory.
+    pub fn index(place: Place, expr: Expr) -> Postfix
+        ensures { view_postfix result ≡ tree.index place tree.empty (view expr) }
+    {
+        Postfix::Index(place, expr)
+    }
+
+    /// `(..)`. Takes no memory.
+    pub fn call(place: Place, args: Vec<Arg>) -> Postfix
+        ensures { view_postfix result ≡ tree.call place tree.empty (trees (map view_arg args.items)) }
+    {
+        Postfix::Call(place, args)
+    }
+
+    /// A closure. Takes no memory.
+    pub fn with(closure: Closure) -> Postfix
+        ensures { view_postfix result ≡ tree.call_with tree.empty (view_closure closure) }
+    {
+        Postfix::With(closure)
+    }
+}
+
+impl Arg {
+    /// An argument. Takes no memory.
+    pub fn new(name: Option<(Place, Txt)>, value: Expr) -> Arg
+        ensures { view_arg result ≡ with_name name (view value) }
+    {
+        Arg { name, value }
+    }
+}
+
+impl Closure {
+    /// A closure. Takes no memory.
+    pub fn new(place: Place, params: Option<Vec<(Place, Txt)>>, body: ClosureBody) -> Closure
+        ensures { view_closure result ≡ tree.closure place (params_tree (option_map (λ v. v.items) params)) (view_body body) }
+    {
+        Closure {
+            place,
+            params,
+            body,
+        }
+    }
+}
+
+impl ClosureBody {
+    /// Statements. Takes no memory.
+    pub fn statements(body: Vec<Stmt>) -> ClosureBody
+        ensures { view_body result ≡ view_stmts body.items }
+    {
+        ClosureBody::Statements(body)
+    }
+
+    /// Labels. Takes no memory.
+    pub fn labels(labels: Vec<Label>) -> ClosureBody
+        ensures { view_body result ≡ trees (map view_label labels.items) }
+    {
+        ClosureBody::Labels(labels)
+    }
+}
+
+impl Label {
+    /// A labelled expression. Takes no memory.
+    pub fn new(place: Place, name: Txt, value: Expr) -> Label
+        ensures { view_label result ≡ tree.label (tree.name place name) (view value) }
+    {
+        Label { place, name, value }
+    }
+}
+
+impl Arm {
+    /// An arm. Takes no memory.
+    pub fn new(place: Place, condition: Expr, body: Vec<Stmt>) -> Arm
+        ensures { view_arm result ≡ record { place = place; condition = view condition; body = view_stmts body.items } }
+    {
+        Arm {
+            place,
+            condition,
+            body,
+        }
+    }
+}
+
+impl Stmt {
+    /// An expression that stands alone. Takes no memory.
     pub fn expr(expr: Expr) -> Stmt
         ensures { view_stmt result ≡ view expr }
     {
         Stmt::Expr(expr)
+    }
+
+    /// `def name = e`. Takes no memory.
+    pub fn define(place: Place, name_place: Place, name: Txt, expr: Expr) -> Stmt
+        ensures { view_stmt result ≡ tree.define place (tree.name name_place name) (view expr) }
+    {
+        Stmt::Define(place, name_place, name, expr)
+    }
+
+    /// `def (a, b) = e`. Takes no memory.
+    pub fn define_all(place: Place, all: Vec<(Place, Txt)>, expr: Expr) -> Stmt
+        ensures { view_stmt result ≡ tree.define_all place (names all.items) (view expr) }
+    {
+        Stmt::DefineAll(place, all, expr)
+    }
+
+    /// `name = e`. Takes no memory.
+    pub fn assign(place: Place, name: Txt, expr: Expr) -> Stmt
+        ensures { view_stmt result ≡ tree.assign (tree.name place name) (view expr) }
+    {
+        Stmt::Assign(place, name, expr)
+    }
+
+    /// `return e`. Takes no memory.
+    pub fn returns(place: Place, expr: Expr) -> Stmt
+        ensures { view_stmt result ≡ tree.return_ place (view expr) }
+    {
+        Stmt::Return(place, expr)
+    }
+
+    /// `println e`. Takes no memory.
+    pub fn println(place: Place, expr: Expr) -> Stmt
+        ensures { view_stmt result ≡ tree.println place (view expr) }
+    {
+        Stmt::Println(place, expr)
+    }
+
+    /// `log.name e`. Takes no memory.
+    pub fn log(place: Place, name_place: Place, name: Txt, expr: Expr) -> Stmt
+        ensures { view_stmt result ≡ tree.log place (tree.name name_place name) (view expr) }
+    {
+        Stmt::Log(place, name_place, name, expr)
     }
 }

@@ -1,14 +1,23 @@
 //! The tree of a script.
 #![tactic(auto)]
 
-mod chain;
+mod copies;
 mod expr;
-mod script;
-mod tasks;
+mod list_copies;
+mod marks;
+mod name_copies;
+mod process_copies;
 #[cfg(test)]
 mod tests;
+mod top_copies;
+mod tops;
 
-pub use chain::Chain;
-pub use expr::{BinaryMark, Closure, Expr, Stmt};
-pub use script::{Process, Script, Top, Workflow};
-pub use tasks::Tasks;
+pub use expr::{
+    Arg, Arm, Branch, Closure, ClosureBody, Expr, Key, Label, Operand, Pair, Piece, Postfix,
+    Prefix, Stmt,
+};
+pub use marks::{BranchMark, InfixMark, PrefixMark};
+pub use tops::{
+    Directive, Emit, Emits, Function, Input, InputPart, Inputs, Output, OutputPart, OutputValue,
+    Outputs, Parameter, Parts, Process, Script, Section, Take, Task, Top, Workflow, WorkflowBody,
+};

@@ -22,12 +22,7 @@ use std::alloc::Global;
 /// of arguments, `WrongKind` for an argument of another kind, a negative count, a place outside of a text, an empty list without a first item
 /// or an empty text to be replaced; then `DivZero`, `Overflow` and `NotNumber` by the row. `TooLarge` comes where the value would weigh more than
 /// 16,777,216, and else `TooDeep` where it would be deeper than 64. `Mem` where there is no memory for it.
-pub fn call(
-    alloc: Global,
-    row: usize,
-    recv: &Value,
-    args: &Vals,
-) -> Result<Value, CallFault>
+pub fn call(alloc: Global, row: usize, recv: &Value, args: &Vals) -> Result<Value, CallFault>
     requires row { row < 48 }
     requires plain { IfSome (slice_get builtin_rows row) (λ b. is_closure b.form ≡ false) }
     ensures { IfSome (slice_get builtin_rows row) (λ b. Gives (answer_of b.method (plain_of recv.now) args.now) result) }
@@ -35,12 +30,7 @@ pub fn call(
     answer(alloc, ROWS[row].method, recv, args)
 }
 
-fn answer(
-    alloc: Global,
-    method: Method,
-    recv: &Value,
-    args: &Vals,
-) -> Result<Value, CallFault>
+fn answer(alloc: Global, method: Method, recv: &Value, args: &Vals) -> Result<Value, CallFault>
     requires { is_plain method ≡ true }
     ensures { Gives (answer_of method (plain_of recv.now) args.now) result }
 {

@@ -8,13 +8,13 @@ use Rattle.nf_job.specs.declared.report.Report.{Report}
 use Rattle.nf_lane.specs.World.{World}
 use Rattle.nf_core.specs.declared.event.Event.{Event}
 use Rattle.nf_core.specs.Machine.{starts}
-use Rattle.nf_run.specs.Form.{Form}
+use Rattle.nf_forms.specs.Form.{Form}
 use Rattle.nf_run.specs.Run.{meant, state_after}
 use Rattle.nf_cli.specs.declared.ends.End.{End}
 use Rattle.nf_cli.specs.declared.ends.End.TheVariants as end
 use Rattle.nf_cli.specs.declared.ends.ItemCause.TheVariants.{Eval}
 use Rattle.nf_cli.specs.declared.works.Output.{Output}
-use Rattle.nf_cli.specs.Outcome.{Outcome, runs, misused, absent, unlexed, unbuilt}
+use Rattle.nf_cli.specs.Outcome.{Outcome, runs, misused, absent, unlexed, unparsed, unbuilt}
 use Rattle.nf_cli.specs.Means.{Means}
 use Rattle.nf_cli.specs.Report.{report_of, summary}
 use Rattle.nf_cli.specs.Due.{RunEnds, MayEnd, Ended, as_due, host_failed, no_memory, StopEnds, EndsByStop, OnHostFault, OnLaneFault, WroteOutput, WroteReport, OnOutput, OutputStands, Tells, EndsOver}
@@ -29,6 +29,7 @@ same_or_memory P m before (end.ItemFault p c) h k = subst P (sym k) h
 same_or_memory P m before (end.Usage f) h k = subst P (sym k) h
 same_or_memory P m before end.NoScript h k = subst P (sym k) h
 same_or_memory P m before (end.Lex p) h k = subst P (sym k) h
+same_or_memory P m before (end.Parse p) h k = subst P (sym k) h
 same_or_memory P m before (end.Unbuilt p) h k = subst P (sym k) h
 same_or_memory P m before end.HostFault h k = subst P (sym k) h
 same_or_memory P m before end.LaneFault h k = subst P (sym k) h
@@ -43,6 +44,7 @@ written P a b (end.ItemFault p c) w = absurd w
 written P a b (end.Usage u) w = absurd w
 written P a b end.NoScript w = absurd w
 written P a b (end.Lex p) w = absurd w
+written P a b (end.Parse p) w = absurd w
 written P a b (end.Unbuilt p) w = absurd w
 written P a b end.HostFault w = absurd w
 written P a b end.LaneFault w = absurd w
@@ -62,6 +64,7 @@ memory_may (runs form) h = tt
 memory_may (misused due) h = tt
 memory_may absent h = tt
 memory_may (unlexed due) h = tt
+memory_may (unparsed due) h = tt
 memory_may (unbuilt due) h = tt
 
 -- the host ends a call whose words are right, before anything is run
@@ -70,6 +73,7 @@ host_may words files h command right nothing (runs form) means = nothing
 host_may words files h command right nothing (misused due) means = absurd (let e : ◌≡◌ {A = Result Command UsageFault} (Ok command) (Err due) = sym right ∙ means in cc)
 host_may words files h command right nothing absent means = tt
 host_may words files h command right nothing (unlexed due) means = tt
+host_may words files h command right nothing (unparsed due) means = tt
 host_may words files h command right nothing (unbuilt due) means = tt
 
 complete : (words : List (List ℕ)) (files : Files) (h : List Event) (e : End) → Ended words files h e → (o : Outcome) → Means words files o → MayEnd o h e
@@ -90,6 +94,7 @@ run_stops form h end.Mem w = tt
 run_stops form h (end.Usage u) w = absurd w
 run_stops form h end.NoScript w = absurd w
 run_stops form h (end.Lex p) w = absurd w
+run_stops form h (end.Parse p) w = absurd w
 run_stops form h (end.Unbuilt p) w = absurd w
 
 stopped : (o : Outcome) (h : List Event) (e : End) → MayEnd o h e → EndsByStop o h e
@@ -97,6 +102,7 @@ stopped (runs form) h e may = run_stops form h e may
 stopped (misused due) h e may = tt
 stopped absent h e may = tt
 stopped (unlexed due) h e may = tt
+stopped (unparsed due) h e may = tt
 stopped (unbuilt due) h e may = tt
 
 -- ---- outside faults
@@ -119,6 +125,7 @@ no_output (end.ItemFault p c) P h = tt
 no_output (end.Usage u) P h = tt
 no_output end.NoScript P h = tt
 no_output (end.Lex p) P h = tt
+no_output (end.Parse p) P h = tt
 no_output (end.Unbuilt p) P h = tt
 no_output end.HostFault P h = tt
 no_output end.LaneFault P h = tt
@@ -132,6 +139,7 @@ on_output (end.ItemFault p c) P h = tt
 on_output (end.Usage u) P h = tt
 on_output end.NoScript P h = tt
 on_output (end.Lex p) P h = tt
+on_output (end.Parse p) P h = tt
 on_output (end.Unbuilt p) P h = tt
 on_output end.HostFault P h = tt
 on_output end.LaneFault P h = tt

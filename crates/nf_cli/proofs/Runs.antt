@@ -7,12 +7,13 @@ use Rattle.nf_words.specs.declared.fault.UsageFault.{UsageFault}
 use Rattle.nf_words.specs.declared.fault.UsageFault.TheVariants as usage
 use Rattle.nf_words.specs.Words.{command_of, Reads}
 use Rattle.nf_host.specs.Files.{Files, no_files}
-use Rattle.nf_ast.specs.declared.script.Script.{Script}
-use Rattle.nf_run.specs.Form.{Form}
+use Rattle.nf_forms.specs.declared.plan.Plan.{Plan}
+use Rattle.nf_forms.specs.View.{view_plan}
+use Rattle.nf_forms.specs.Form.{Form}
 use Rattle.nf_cli.specs.declared.ends.End.{End}
 use Rattle.nf_cli.specs.declared.ends.End.TheVariants as end
 use Rattle.nf_cli.specs.Ends.{end_of_usage}
-use Rattle.nf_cli.specs.Outcome.{Outcome, runs, misused, absent, unlexed, unbuilt}
+use Rattle.nf_cli.specs.Outcome.{Outcome, runs, misused, absent, unlexed, unparsed, unbuilt}
 use Rattle.nf_cli.specs.Means.{file_of, TextMeans, Runs, RunsText, Means, IsOutcome}
 use Rattle.nf_cli.specs.Due.{Ended, as_due, host_failed, no_memory, Tells}
 use Rattle.nf_cli.specs.Work.{HasText, FileRefused, FileGives, Gives, TellsAt}
@@ -36,6 +37,7 @@ module _ (words : List (List ℕ)) (files : Files) (file : List ℕ) (is_run : R
   of_text outcome only h absent m = absurd (let e : None ≡ Some h.text = sym m.absent ∙ ap files (same_file words m.file file m.runs is_run) ∙ h.there in cc)
   of_text outcome only h (runs form) m = only (runs form) m
   of_text outcome only h (unlexed p) m = only (unlexed p) m
+  of_text outcome only h (unparsed p) m = only (unparsed p) m
   of_text outcome only h (unbuilt p) m = only (unbuilt p) m
 
   only_text : (outcome : Outcome) → HasText (files file) outcome → (other : Outcome) → RunsText words files other → other ≡ outcome
@@ -57,6 +59,7 @@ module _ (words : List (List ℕ)) (files : Files) (file : List ℕ) (is_run : R
   no_script none absent m = refl
   no_script none (runs form) m = absurd (gone m.text none m.file m.runs m.there)
   no_script none (unlexed p) m = absurd (gone m.text none m.file m.runs m.there)
+  no_script none (unparsed p) m = absurd (gone m.text none m.file m.runs m.there)
   no_script none (unbuilt p) m = absurd (gone m.text none m.file m.runs m.there)
 
   refused : (e : End) → FileRefused (files file) e → Ended words files [] e
@@ -66,6 +69,7 @@ module _ (words : List (List ℕ)) (files : Files) (file : List ℕ) (is_run : R
   refused (end.Usage f) h = absurd h
   refused end.NoScript h = as_due absent (record { means = record { file = file; runs = is_run; absent = h }; only = no_script h }) tt
   refused (end.Lex p) h = as_due (unlexed p) (record { means = runs_text (unlexed p) h; only = only_of (unlexed p) h }) refl
+  refused (end.Parse p) h = as_due (unparsed p) (record { means = runs_text (unparsed p) h; only = only_of (unparsed p) h }) refl
   refused (end.Unbuilt p) h = as_due (unbuilt p) (record { means = runs_text (unbuilt p) h; only = only_of (unbuilt p) h }) refl
   refused end.HostFault h = host_failed (Run (record { file = file })) is_run refl
   refused end.LaneFault h = absurd h
@@ -75,15 +79,15 @@ module _ (words : List (List ℕ)) (files : Files) (file : List ℕ) (is_run : R
   is_form : (form : Form) → HasText (files file) (runs form) → IsOutcome words files (runs form)
   is_form form h = record { means = runs_text (runs form) h; only = only_of (runs form) h }
 
-  given : (r : Result Script End) → FileGives (files file) r → Gives words files r
-  given (Ok s) h = (h.0, h.1, is_form h.0 h.2)
+  given : (r : Result Plan End) → FileGives (files file) r → Gives words files r
+  given (Ok p) h = is_form (view_plan p) h
   given (Err e) h = refused e h
 
 -- what the words give over some files, those that are told where any are
-abbrev pub SomeFiles : Option Files → List (List ℕ) → Result Script End → Type 0
+abbrev pub SomeFiles : Option Files → List (List ℕ) → Result Plan End → Type 0
 SomeFiles told words r = (files : Files) × Tells told files × Gives words files r
 
-pub words_given : (told : Option Files) (words : List (List ℕ)) (command : Command) → command_of words ≡ Ok command → (r : Result Script End) → ((held : Option (List ℕ)) × TellsAt told (file_of command) held × FileGives held r) → SomeFiles told words r
+pub words_given : (told : Option Files) (words : List (List ℕ)) (command : Command) → command_of words ≡ Ok command → (r : Result Plan End) → ((held : Option (List ℕ)) × TellsAt told (file_of command) held × FileGives held r) → SomeFiles told words r
 words_given None words (Run run) is_run r h = ((λ path. h.0), tt, given words (λ path. h.0) run.file is_run r h.2)
 words_given (Some files) words (Run run) is_run r h = (files, refl, given words files run.file is_run r (subst (λ held. FileGives held r) h.1 h.2))
 
@@ -93,6 +97,7 @@ misuse words files fault e (misused f) m = ap misused (let q : ◌≡◌ {A = Re
 misuse words files fault e absent m = absurd (no_fault words m.file fault m.runs e)
 misuse words files fault e (runs form) m = absurd (no_fault words m.file fault m.runs e)
 misuse words files fault e (unlexed p) m = absurd (no_fault words m.file fault m.runs e)
+misuse words files fault e (unparsed p) m = absurd (no_fault words m.file fault m.runs e)
 misuse words files fault e (unbuilt p) m = absurd (no_fault words m.file fault m.runs e)
 
 misuse_ends : (words : List (List ℕ)) (files : Files) (fault : UsageFault) → command_of words ≡ Err fault → Ended words files [] (end.Usage fault)

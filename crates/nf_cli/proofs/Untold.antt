@@ -5,7 +5,7 @@ use Rattle.nf_host.specs.Files.{Files}
 use Rattle.nf_host.specs.Whole.{IsWhole}
 use Rattle.nf_host.specs.declared.whole.Whole.{Whole}
 use Rattle.nf_host.specs.declared.whole.Whole.TheVariants as whole
-use Rattle.nf_ast.specs.declared.script.Script.{Script}
+use Rattle.nf_forms.specs.declared.plan.Plan.{Plan}
 use Rattle.nf_lexer.specs.declared.fault.LexFault.TheVariants.{ScriptTooLong}
 use Rattle.nf_lexer.specs.Tokens.{most_bytes}
 use Rattle.nf_cli.specs.declared.ends.End.{End}
@@ -14,7 +14,7 @@ use Rattle.nf_cli.specs.Work.{TextRefused, TextGives, FileRefused, FileGives, Te
 use Rattle.nf_cli.proofs.Outcomes.{unlexed_text, too_long_only}
 
 -- what a file that may be told gives
-abbrev pub SomeFile : Option Files → List ℕ → Result Script End → Type 0
+abbrev pub SomeFile : Option Files → List ℕ → Result Plan End → Type 0
 SomeFile told path r = (held : Option (List ℕ)) × TellsAt told path held × FileGives held r
 
 module _ (file : Option (List ℕ)) (text : List ℕ) (there : file ≡ Some text) where
@@ -25,14 +25,15 @@ module _ (file : Option (List ℕ)) (text : List ℕ) (there : file ≡ Some tex
   text_refused (end.Usage f) h = absurd h
   text_refused end.NoScript h = absurd h
   text_refused (end.Lex p) h = record { text = text; there = there; comes = h }
+  text_refused (end.Parse p) h = record { text = text; there = there; comes = h }
   text_refused (end.Unbuilt p) h = record { text = text; there = there; comes = h }
   text_refused end.HostFault h = absurd h
   text_refused end.LaneFault h = absurd h
   text_refused end.SinkFault h = absurd h
   text_refused end.Mem h = tt
 
-  text_gives : (r : Result Script End) → TextGives text r → FileGives file r
-  text_gives (Ok s) h = (h.0, h.1, record { text = text; there = there; comes = h.2 })
+  text_gives : (r : Result Plan End) → TextGives text r → FileGives file r
+  text_gives (Ok p) h = record { text = text; there = there; comes = h }
   text_gives (Err e) h = text_refused e h
 
 -- the bytes that were read are those of the file
@@ -40,7 +41,7 @@ whole_there : (file : Option (List ℕ)) (text : List ℕ) → IsWhole file most
 whole_there None text h = absurd (let e : whole.Bytes text ≡ whole.Absent = h in cc)
 whole_there (Some b) text h = λ j. Some (sym h.1 j)
 
-pub text_given : (told : Option Files) (path text : List ℕ) (w : Whole) → w ≡ whole.Bytes text → IfSome told (λ f. IsWhole (f path) most_bytes w) → (r : Result Script End) → TextGives text r → SomeFile told path r
+pub text_given : (told : Option Files) (path text : List ℕ) (w : Whole) → w ≡ whole.Bytes text → IfSome told (λ f. IsWhole (f path) most_bytes w) → (r : Result Plan End) → TextGives text r → SomeFile told path r
 text_given None path text w e h r g = (Some text, tt, text_gives (Some text) text refl r g)
 text_given (Some f) path text w e h r g = (f path, refl, text_gives (f path) text (whole_there (f path) text (subst (IsWhole (f path) most_bytes) e h)) r g)
 

@@ -2,25 +2,22 @@
 use Rattle.std.proofs.Common.{◌≡◌, ℕ, List, [], Option, Some, Result, Ok, Err, refl, sym, ◌∙◌, subst}
 use Rattle.nf_value.specs.Plain.{Plain}
 use Rattle.nf_job.specs.declared.report.Report.{Report}
-use Rattle.nf_ast.specs.View.{view_script}
-use Rattle.nf_ast.specs.declared.script.Script.{Script}
+use Rattle.nf_forms.specs.declared.plan.Plan.{Plan}
 use Rattle.nf_host.specs.Files.{Files}
 use Rattle.nf_lane.specs.World.{World}
 use Rattle.nf_core.specs.declared.event.Event.{Event}
 use Rattle.nf_run.specs.declared.runs.RunFault.{RunFault}
 use Rattle.nf_run.specs.declared.runs.RunFault.TheVariants as fault
-use Rattle.nf_run.specs.Form.{Form, form_of}
+use Rattle.nf_forms.specs.Form.{Form}
+use Rattle.nf_forms.specs.View.{view_plan}
 use Rattle.nf_run.specs.Run.{AreBooked, IsHistoryOf, RunGives}
 use Rattle.nf_cli.specs.declared.ends.End.{End}
 use Rattle.nf_cli.specs.declared.ends.End.TheVariants as end
 use Rattle.nf_cli.specs.declared.works.Output.{Output}
-use Rattle.nf_cli.specs.Outcome.{Outcome, runs, misused, absent, unlexed, unbuilt}
+use Rattle.nf_cli.specs.Outcome.{Outcome, runs, misused, absent, unlexed, unparsed, unbuilt}
 use Rattle.nf_cli.specs.Means.{IsOutcome}
 use Rattle.nf_cli.specs.Due.{RunEnds, RanTasks, as_due}
 use Rattle.nf_cli.specs.Work.{Gives, HasRun, HasWorked, FormGives, WorkGives, IsOutputOrEnd, IsOutputOf, end_of_run}
-
-some_is : {A : Type 0} {x y : A} → Some x ≡ Some y → x ≡ y
-some_is e = cc
 
 module _ {L D : Type 0} (Genuine : D → Type 0) (job_of : D → List ℕ) (report_by : D → Report) (number : D → ℕ) (run_count : L → ℕ) (world : L → Option World) where
   -- lanes that ran nothing
@@ -35,6 +32,7 @@ module _ {L D : Type 0} (Genuine : D → Type 0) (job_of : D → List ℕ) (repo
   idle ls free (misused f) = (refl, refl, refl)
   idle ls free absent = (refl, refl, refl)
   idle ls free (unlexed f) = (refl, refl, refl)
+  idle ls free (unparsed f) = (refl, refl, refl)
   idle ls free (unbuilt p) = (refl, refl, refl)
 
   pub nothing_worked : (words : List (List ℕ)) (files : Files) (ls : List L) → Idle ls → (e : End) → Gives words files (Err e)
@@ -45,24 +43,16 @@ module _ {L D : Type 0} (Genuine : D → Type 0) (job_of : D → List ℕ) (repo
       (subst (λ h. HasWorked Genuine job_of report_by number run_count world words files h [] ls ls (Err e)) (sym no_events)
       (record { ran = λ o means. idle ls free o; gives = g })))
 
-  pub nothing_run : (form : Form) (ls : List L) → Idle ls → (h : List Event) (kept : List D) (r : Result Output End) → h ≡ [] → kept ≡ [] → r ≡ Err end.Mem → HasRun Genuine job_of report_by number run_count world form h kept ls ls r
-  nothing_run form ls free h kept r no_events no_dones is =
-      subst (λ r. HasRun Genuine job_of report_by number run_count world form h kept ls ls r) (sym is)
-      (subst (λ k. HasRun Genuine job_of report_by number run_count world form h k ls ls (Err end.Mem)) (sym no_dones)
-      (subst (λ h. HasRun Genuine job_of report_by number run_count world form h [] ls ls (Err end.Mem)) (sym no_events)
-      (record { lawful = tt; booked = free form; gives = tt })))
-
   work_gives : (words : List (List ℕ)) (files : Files) (form : Form) (h : List Event) (r : Result Output End) → IsOutcome words files (runs form) → FormGives form h r → WorkGives words files h r
   work_gives words files form h (Ok o) is g = (form, is, g)
   work_gives words files form h (Err e) is g = as_due (runs form) is g
 
-  pub script_worked : (words : List (List ℕ)) (files : Files) (s : Script) (h : List Event) (kept : List D) (old new : List L) (r : Result Output End) → Gives words files (Ok s)
-      → ((form : Form) → form_of (view_script s) ≡ Some form → HasRun Genuine job_of report_by number run_count world form h kept old new r) → HasWorked Genuine job_of report_by number run_count world words files h kept old new r
-  script_worked words files s h kept old new r g run =
-      let went = run g.0 g.1 in
+  pub plan_worked : (words : List (List ℕ)) (files : Files) (p : Plan) (h : List Event) (kept : List D) (old new : List L) (r : Result Output End) → Gives words files (Ok p)
+      → HasRun Genuine job_of report_by number run_count world (view_plan p) h kept old new r → HasWorked Genuine job_of report_by number run_count world words files h kept old new r
+  plan_worked words files p h kept old new r is went =
       record {
-        ran = λ o means. subst (λ o. RanTasks Genuine job_of report_by number run_count world o h kept old new) (sym (g.2.only o means)) (went.lawful, went.booked);
-        gives = work_gives words files g.0 h r g.2 went.gives;
+        ran = λ o means. subst (λ o. RanTasks Genuine job_of report_by number run_count world o h kept old new) (sym (is.only o means)) (went.lawful, went.booked);
+        gives = work_gives words files (view_plan p) h r is went.gives;
       }
 
 -- ---- how a run ends
@@ -79,15 +69,9 @@ form_gives form h (Ok items) (Err e) g is = subst (RunEnds form h) (sym is) tt
 form_gives form h (Err f) (Ok o) g is = absurd is
 form_gives form h (Err f) (Err e) g is = subst (RunEnds form h) (sym is) (run_ends form h f g)
 
--- the form that was run is the script's
-pub run_gives : (s : Script) (form ran : Form) → form_of (view_script s) ≡ Some form → form_of (view_script s) ≡ Some ran → ran ≡ form
-run_gives s form ran a b = some_is (sym b ∙ a)
-
 pub has_run : {L D : Type 0} (Genuine : D → Type 0) (job_of : D → List ℕ) (report_by : D → Report) (number : D → ℕ) (run_count : L → ℕ) (world : L → Option World)
-    (s : Script) (form ran : Form) → form_of (view_script s) ≡ Some form → form_of (view_script s) ≡ Some ran
-    → (h : List Event) (kept : List D) (old new : List L) (outcome : Result (List Plain) RunFault) (r : Result Output End)
-    → IsHistoryOf ran h → AreBooked Genuine job_of report_by number run_count world ran h kept old new → RunGives ran h outcome → IsOutputOrEnd outcome h r
+    (form : Form) (h : List Event) (kept : List D) (old new : List L) (outcome : Result (List Plain) RunFault) (r : Result Output End)
+    → IsHistoryOf form h → AreBooked Genuine job_of report_by number run_count world form h kept old new → RunGives form h outcome → IsOutputOrEnd outcome h r
     → HasRun Genuine job_of report_by number run_count world form h kept old new r
-has_run Genuine job_of report_by number run_count world s form ran a b h kept old new outcome r lawful booked gives is =
-    subst (λ form. HasRun Genuine job_of report_by number run_count world form h kept old new r) (run_gives s form ran a b)
-    (record { lawful = lawful; booked = booked; gives = form_gives ran h outcome r gives is })
+has_run Genuine job_of report_by number run_count world form h kept old new outcome r lawful booked gives is =
+    record { lawful = lawful; booked = booked; gives = form_gives form h outcome r gives is }

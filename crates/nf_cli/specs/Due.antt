@@ -6,6 +6,7 @@ use Rattle.nf_words.specs.declared.fault.UsageFault.{UsageFault}
 use Rattle.nf_words.specs.Words.{command_of}
 use Rattle.nf_value.specs.declared.place.Place.{Place}
 use Rattle.nf_lexer.specs.declared.fault.LexFault.{LexFault}
+use Rattle.nf_exprs.specs.declared.fault.ParseFault.{ParseFault}
 use Rattle.nf_host.specs.Files.{Files}
 use Rattle.nf_host.specs.Sink.{GrowsByFront}
 use Rattle.nf_job.specs.declared.report.Report.{Report}
@@ -14,13 +15,13 @@ use Rattle.nf_core.specs.declared.event.Event.{Event}
 use Rattle.nf_core.specs.declared.event.Stop.{Stop}
 use Rattle.nf_core.specs.declared.event.Stop.TheVariants as stop
 use Rattle.nf_core.specs.Machine.{starts}
-use Rattle.nf_run.specs.Form.{Form}
+use Rattle.nf_forms.specs.Form.{Form}
 use Rattle.nf_run.specs.Run.{IsHistoryOf, AreBooked, WentWell, HasItemFault, HasTaskFault, LostLane, meant, state_after}
 use Rattle.nf_cli.specs.declared.ends.End.{End}
 use Rattle.nf_cli.specs.declared.ends.End.TheVariants as end
 use Rattle.nf_cli.specs.declared.ends.ItemCause.TheVariants.{Eval}
 use Rattle.nf_cli.specs.Ends.{error_line}
-use Rattle.nf_cli.specs.Outcome.{Outcome, runs, misused, absent, unlexed, unbuilt}
+use Rattle.nf_cli.specs.Outcome.{Outcome, runs, misused, absent, unlexed, unparsed, unbuilt}
 use Rattle.nf_cli.specs.Means.{Means, IsOutcome}
 use Rattle.nf_cli.specs.Report.{report_of, summary}
 
@@ -46,6 +47,13 @@ EndsUnlexed due end.HostFault = Unit {0}
 EndsUnlexed due end.Mem = Unit {0}
 EndsUnlexed due _ = ⊥
 
+-- with a script whose tokens spell none, for this reason
+abbrev pub EndsUnparsed : ParseFault → End → Type 0
+EndsUnparsed due (end.Parse fault) = fault ≡ due
+EndsUnparsed due end.HostFault = Unit {0}
+EndsUnparsed due end.Mem = Unit {0}
+EndsUnparsed due _ = ⊥
+
 -- with a script that is of no form, from this place on
 abbrev pub EndsUnbuilt : Place → End → Type 0
 EndsUnbuilt due (end.Unbuilt place) = place ≡ due
@@ -70,6 +78,7 @@ MayEnd (runs form) h e = RunEnds form h e
 MayEnd (misused due) h e = EndsMisused due e
 MayEnd absent h e = EndsAbsent e
 MayEnd (unlexed due) h e = EndsUnlexed due e
+MayEnd (unparsed due) h e = EndsUnparsed due e
 MayEnd (unbuilt due) h e = EndsUnbuilt due e
 
 -- the end is that of the one outcome of the words over the files, where neither memory nor the host ended the call

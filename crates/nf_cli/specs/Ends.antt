@@ -11,6 +11,8 @@ use Rattle.nf_job.specs.declared.fault.TaskFault.{TaskFault}
 use Rattle.nf_lexer.specs.Fault.{fault_text}
 use Rattle.nf_lexer.specs.declared.fault.LexFault.{LexFault}
 use Rattle.nf_lexer.specs.declared.fault.LexFault.TheVariants as lex
+use Rattle.nf_exprs.specs.declared.fault.ParseFault.{ParseFault}
+use Rattle.nf_exprs.specs.declared.fault.ParseFault.TheVariants as parse
 use Rattle.nf_words.specs.Usage.{usage_text}
 use Rattle.nf_words.specs.declared.fault.UsageFault.{UsageFault}
 use Rattle.nf_words.specs.declared.fault.UsageFault.TheVariants as usage
@@ -26,6 +28,7 @@ status_of (end.ItemFault p c) = 1
 status_of (end.Usage f) = 2
 status_of end.NoScript = 3
 status_of (end.Lex f) = 3
+status_of (end.Parse f) = 3
 status_of (end.Unbuilt p) = 3
 status_of end.HostFault = 4
 status_of end.LaneFault = 4
@@ -45,12 +48,19 @@ task_text process inputs n fault =
 abbrev pub placed : Place → List ℕ → List ℕ
 placed p text = place_text p.line p.col ++ codes ": " ++ text
 
+-- LINE:COL: NAME
+abbrev pub parse_text : ParseFault → List ℕ
+parse_text (parse.Unexpected p) = placed p (codes "Unexpected")
+parse_text (parse.TooDeep p) = placed p (codes "TooDeep")
+parse_text parse.Mem = codes "Mem"
+
 abbrev pub end_text : End → List ℕ
 end_text (end.TaskFailed p i n f) = task_text p i n f
 end_text (end.ItemFault p c) = placed p (cause_text c)
 end_text (end.Usage f) = codes "usage: " ++ usage_text f
 end_text end.NoScript = codes "NoScript"
 end_text (end.Lex f) = fault_text f
+end_text (end.Parse f) = parse_text f
 end_text (end.Unbuilt p) = placed p (codes "Unbuilt")
 end_text end.HostFault = codes "HostFault"
 end_text end.LaneFault = codes "LaneFault"
@@ -68,3 +78,7 @@ end_of_usage fault = end.Usage fault
 abbrev pub end_of_lex : LexFault → End
 end_of_lex lex.Mem = end.Mem
 end_of_lex fault = end.Lex fault
+
+abbrev pub end_of_parse : ParseFault → End
+end_of_parse parse.Mem = end.Mem
+end_of_parse fault = end.Parse fault

@@ -5,14 +5,15 @@ use Rattle.nf_words.specs.declared.command.Command.TheVariants.{Run}
 use Rattle.nf_words.specs.Words.{command_of}
 use Rattle.nf_host.specs.Files.{Files}
 use Rattle.nf_lexer.specs.Tokens.{Breaks}
-use Rattle.nf_cli.specs.Form.{IsForm, BreaksOff}
-use Rattle.nf_cli.specs.Outcome.{Outcome, runs, misused, absent, unlexed, unbuilt}
+use Rattle.nf_cli.specs.Form.{IsForm, BreaksOff, IsUnbuilt}
+use Rattle.nf_cli.specs.Outcome.{Outcome, runs, misused, absent, unlexed, unparsed, unbuilt}
 
 -- what the text of a script comes to
 abbrev pub TextMeans : List ℕ → Outcome → Type 0
 TextMeans text (runs form) = IsForm text form
 TextMeans text (unlexed fault) = Breaks text fault
-TextMeans text (unbuilt place) = BreaksOff text place
+TextMeans text (unparsed fault) = BreaksOff text fault
+TextMeans text (unbuilt place) = IsUnbuilt text place
 TextMeans text (misused fault) = ⊥
 TextMeans text absent = ⊥
 

@@ -2,31 +2,38 @@
 use Rattle.std.specs.Prelude.{◌≡◌, ℕ, List, Result, Ok, Err}
 use Rattle.nf_value.specs.declared.place.Place.{Place}
 use Rattle.nf_ast.specs.Tree.{Tree}
-use Rattle.nf_ast.specs.View.{view_script}
-use Rattle.nf_ast.specs.declared.script.Script.{Script}
+use Rattle.nf_ast.specs.Tops.{view_script}
+use Rattle.nf_ast.specs.declared.tops.Script.{Script}
 use Rattle.nf_lexer.specs.declared.token.Lexeme.{Lexeme}
 use Rattle.nf_lexer.specs.declared.fault.LexFault.{LexFault}
 use Rattle.nf_lexer.specs.declared.fault.LexFault.TheVariants as lex
 use Rattle.nf_lexer.specs.Tokens.{IsTokensOf, Breaks}
-use Rattle.nf_parser.specs.declared.fault.ParseFault.TheVariants as parse
+use Rattle.nf_exprs.specs.declared.fault.ParseFault.{ParseFault}
+use Rattle.nf_exprs.specs.declared.fault.ParseFault.TheVariants as parse
+use Rattle.nf_forms.specs.declared.fault.FormFault.{FormFault}
+use Rattle.nf_forms.specs.declared.fault.FormFault.TheVariants as form_fault
+use Rattle.nf_forms.specs.declared.plan.Plan.{Plan}
+use Rattle.nf_forms.specs.Built.{Built}
+use Rattle.nf_forms.specs.Form.{Form}
+use Rattle.nf_forms.specs.View.{view_plan}
 use Rattle.nf_cli.specs.declared.ends.End.{End}
 use Rattle.nf_cli.specs.declared.ends.End.TheVariants as end
 use Rattle.nf_cli.specs.declared.texts.ScriptFault.{ScriptFault}
 use Rattle.nf_cli.specs.declared.texts.ScriptFault.TheVariants.{Lex, Parse}
-use Rattle.nf_cli.specs.Ends.{end_of_lex}
+use Rattle.nf_cli.specs.Ends.{end_of_lex, end_of_parse}
 use Rattle.nf_cli.specs.Form.{IsScript, BreaksOff}
 
 pub record IsOnlyScript (text : List ℕ) (tree : Tree) : Type 0 where
   pub is : IsScript text tree
   pub only : (other : Tree) → IsScript text other → other ≡ tree
-  pub whole : (place : Place) → BreaksOff text place → ⊥
+  pub whole : (fault : ParseFault) → BreaksOff text fault → ⊥
   pub lexed : (fault : LexFault) → Breaks text fault → ⊥
 
-pub record IsOnlyBreak (text : List ℕ) (place : Place) : Type 0 where
-  pub is : BreaksOff text place
-  pub only : (other : Place) → BreaksOff text other → other ≡ place
+pub record IsOnlyBreak (text : List ℕ) (fault : ParseFault) : Type 0 where
+  pub is : BreaksOff text fault
+  pub only : (other : ParseFault) → BreaksOff text other → other ≡ fault
   pub none : (tree : Tree) → IsScript text tree → ⊥
-  pub lexed : (fault : LexFault) → Breaks text fault → ⊥
+  pub lexed : (other : LexFault) → Breaks text other → ⊥
 
 pub record IsOnlyFault (text : List ℕ) (fault : LexFault) : Type 0 where
   pub is : Breaks text fault
@@ -38,10 +45,14 @@ abbrev pub BreaksRule : List ℕ → LexFault → Type 0
 BreaksRule text lex.Mem = Unit {0}
 BreaksRule text fault = IsOnlyFault text fault
 
+-- the one reason why its tokens spell no script, unless memory ran out
+abbrev pub SpellsNone : List ℕ → ParseFault → Type 0
+SpellsNone text parse.Mem = Unit {0}
+SpellsNone text fault = IsOnlyBreak text fault
+
 abbrev pub BreaksIn : List ℕ → ScriptFault → Type 0
 BreaksIn text (Lex fault) = BreaksRule text fault
-BreaksIn text (Parse (parse.Unbuilt place)) = IsOnlyBreak text place
-BreaksIn text (Parse parse.Mem) = Unit {0}
+BreaksIn text (Parse fault) = SpellsNone text fault
 
 -- the one tree of the text, or the one rule or place where it breaks, unless memory ran out
 abbrev pub ReadsScript : List ℕ → Result Script ScriptFault → Type 0
@@ -50,5 +61,21 @@ ReadsScript text (Err e) = BreaksIn text e
 
 abbrev pub end_of_script : ScriptFault → End
 end_of_script (Lex fault) = end_of_lex fault
-end_of_script (Parse (parse.Unbuilt place)) = end.Unbuilt place
-end_of_script (Parse parse.Mem) = end.Mem
+end_of_script (Parse fault) = end_of_parse fault
+
+-- ---- the form of a tree
+
+abbrev pub end_of_form : FormFault → End
+end_of_form (form_fault.Unbuilt place) = end.Unbuilt place
+end_of_form form_fault.Mem = end.Mem
+
+-- why a tree has no plan: where it is of no form, or want of memory
+abbrev pub FormRefused : Built Form → End → Type 0
+FormRefused due (end.Unbuilt place) = due ≡ Err place
+FormRefused due end.Mem = Unit {0}
+FormRefused due _ = ⊥
+
+-- the plan of a tree, or why it has none
+abbrev pub Plans : Built Form → Result Plan End → Type 0
+Plans due (Ok p) = due ≡ Ok (view_plan p)
+Plans due (Err e) = FormRefused due e

@@ -3,40 +3,37 @@ use Rattle.std.specs.Prelude.{◌≡◌, ℕ, List, [], Option, Some, None, Resu
 use Rattle.nf_value.specs.Plain.{Plain}
 use Rattle.nf_host.specs.Files.{Files}
 use Rattle.nf_job.specs.declared.report.Report.{Report}
-use Rattle.nf_ast.specs.View.{view_script}
-use Rattle.nf_ast.specs.declared.script.Script.{Script}
+use Rattle.nf_forms.specs.declared.plan.Plan.{Plan}
+use Rattle.nf_forms.specs.View.{view_plan}
+use Rattle.nf_forms.specs.Form.{Form}
 use Rattle.nf_lane.specs.World.{World}
 use Rattle.nf_core.specs.declared.event.Event.{Event}
 use Rattle.nf_core.specs.Machine.{starts}
 use Rattle.nf_run.specs.declared.runs.RunFault.{RunFault}
 use Rattle.nf_run.specs.declared.runs.RunFault.TheVariants as fault
-use Rattle.nf_run.specs.Form.{Form, form_of}
 use Rattle.nf_run.specs.Run.{IsHistoryOf, AreBooked, WentWell, meant}
 use Rattle.nf_cli.specs.declared.ends.End.{End}
 use Rattle.nf_cli.specs.declared.ends.End.TheVariants as end
 use Rattle.nf_cli.specs.declared.ends.ItemCause.TheVariants.{Eval}
 use Rattle.nf_cli.specs.declared.works.Output.{Output}
-use Rattle.nf_cli.specs.Outcome.{Outcome, runs, unlexed, unbuilt}
+use Rattle.nf_cli.specs.Outcome.{Outcome, runs, unlexed, unparsed, unbuilt}
 use Rattle.nf_cli.specs.Means.{Means, IsOutcome, IsTextOutcome}
 use Rattle.nf_cli.specs.Report.{report_of, summary}
 use Rattle.nf_cli.specs.Due.{Ended, RunEnds, RanTasks}
 
 -- ---- up to the script
 
--- the script has a form, of which this holds
-abbrev pub HasForm : Script → (Form → Type 0) → Type 0
-HasForm s P = (form : Form) × (form_of (view_script s) ≡ Some form) × P form
-
--- why a text has no script: its own outcome, or want of memory
+-- why a text has no plan: its own outcome, or want of memory
 abbrev pub TextRefused : List ℕ → End → Type 0
 TextRefused text (end.Lex fault) = IsTextOutcome text (unlexed fault)
+TextRefused text (end.Parse fault) = IsTextOutcome text (unparsed fault)
 TextRefused text (end.Unbuilt place) = IsTextOutcome text (unbuilt place)
 TextRefused text end.Mem = Unit {0}
 TextRefused text _ = ⊥
 
--- the script of a text, or why there is none
-abbrev pub TextGives : List ℕ → Result Script End → Type 0
-TextGives text (Ok s) = HasForm s (λ form. IsTextOutcome text (runs form))
+-- the plan of a text, or why there is none
+abbrev pub TextGives : List ℕ → Result Plan End → Type 0
+TextGives text (Ok p) = IsTextOutcome text (runs (view_plan p))
 TextGives text (Err e) = TextRefused text e
 
 -- the file is there, and its text comes to this
@@ -45,18 +42,19 @@ pub record HasText (file : Option (List ℕ)) (outcome : Outcome) : Type 0 where
   pub there : file ≡ Some text
   pub comes : IsTextOutcome text outcome
 
--- why a file has no script: it isn't there, its text's own outcome, an outside fault, or want of memory
+-- why a file has no plan: it isn't there, its text's own outcome, an outside fault, or want of memory
 abbrev pub FileRefused : Option (List ℕ) → End → Type 0
 FileRefused file end.NoScript = file ≡ None
 FileRefused file (end.Lex fault) = HasText file (unlexed fault)
+FileRefused file (end.Parse fault) = HasText file (unparsed fault)
 FileRefused file (end.Unbuilt place) = HasText file (unbuilt place)
 FileRefused file end.HostFault = Unit {0}
 FileRefused file end.Mem = Unit {0}
 FileRefused file _ = ⊥
 
--- the script of a file, or why there is none
-abbrev pub FileGives : Option (List ℕ) → Result Script End → Type 0
-FileGives file (Ok s) = HasForm s (λ form. HasText file (runs form))
+-- the plan of a file, or why there is none
+abbrev pub FileGives : Option (List ℕ) → Result Plan End → Type 0
+FileGives file (Ok p) = HasText file (runs (view_plan p))
 FileGives file (Err e) = FileRefused file e
 
 -- this is what the host tells of the path, where it tells its files
@@ -64,9 +62,9 @@ abbrev pub TellsAt : Option Files → List ℕ → Option (List ℕ) → Type 0
 TellsAt None path file = Unit {0}
 TellsAt (Some told) path file = file ≡ told path
 
--- the script of the words over the files, or how the call ends
-abbrev pub Gives : List (List ℕ) → Files → Result Script End → Type 0
-Gives words files (Ok s) = HasForm s (λ form. IsOutcome words files (runs form))
+-- the plan of the words over the files, or how the call ends
+abbrev pub Gives : List (List ℕ) → Files → Result Plan End → Type 0
+Gives words files (Ok p) = IsOutcome words files (runs (view_plan p))
 Gives words files (Err e) = Ended words files [] e
 
 -- an end before anything is written

@@ -7,6 +7,7 @@ use nf_core::Event;
 use nf_job::TaskFault;
 use nf_lane::{Kept, Lane};
 use nf_lexer::LexFault;
+use nf_parser::ParseFault;
 use nf_value::{EvalFault, Place, Txt, Vals, Value};
 use nf_words::UsageFault;
 
@@ -35,8 +36,10 @@ pub enum End {
     NoScript,
     /// The text breaks a rule of the tokens: the first that is broken, at its place.
     Lex(LexFault),
-    /// The text isn't of a form that is built. `place` is that of the first token that no reading of a form goes on
-    /// with, or of the text's end.
+    /// The text's tokens spell no script: `Unexpected` with the place of the first token that no reading of a script goes on with, or of
+    /// the text's end; `TooDeep` with that of the first token past a limit.
+    Parse(ParseFault),
+    /// The script isn't of a form that is built. `place` is the first, in the order of the text, of what isn't built.
     Unbuilt {
         place: Place,
     },
@@ -82,7 +85,7 @@ impl End {
             End::Ok => 0,
             End::TaskFailed { .. } | End::ItemFault { .. } => 1,
             End::Usage(_) => 2,
-            End::NoScript | End::Lex(_) | End::Unbuilt { .. } => 3,
+            End::NoScript | End::Lex(_) | End::Parse(_) | End::Unbuilt { .. } => 3,
             End::HostFault | End::LaneFault | End::SinkFault => 4,
             End::Mem => 5,
         }

@@ -1,10 +1,11 @@
 //! The lines of text that a call writes.
 
 ghost use Rattle.std.specs.Prelude.{◌≡◌, IfOk, string_bytes};
-ghost use Rattle.nf_cli.specs.Ends.{cause_text, end_text, placed, task_text, error_line as error_line_of};
+ghost use Rattle.nf_cli.specs.Ends.{cause_text, end_text, parse_text, placed, task_text, error_line as error_line_of};
 
 use crate::ends::{End, ItemCause};
 use nf_job::TaskFault;
+use nf_parser::ParseFault;
 use nf_value::{Mem, Place, Txt, Vals, Value, text_of};
 use std::alloc::Global;
 
@@ -37,6 +38,7 @@ fn text_of_end(alloc: Global, end: &End) -> Result<String, Mem>
         End::Usage(fault) => Ok(format!(in alloc; "usage: {fault}")?),
         End::NoScript => Ok(String::from_str(alloc, "NoScript")?),
         End::Lex(fault) => Ok(format!(in alloc; "{fault}")?),
+        End::Parse(fault) => text_of_parse(alloc, *fault),
         End::Unbuilt { place } => at_place(alloc, *place, "Unbuilt"),
         End::HostFault => Ok(String::from_str(alloc, "HostFault")?),
         End::LaneFault => Ok(String::from_str(alloc, "LaneFault")?),
@@ -69,6 +71,16 @@ fn text_of_cause(alloc: Global, cause: &ItemCause) -> Result<String, Mem>
             let item = item.as_str();
             Ok(format!(in alloc; "{kind} on {item}")?)
         }
+    }
+}
+
+fn text_of_parse(alloc: Global, fault: ParseFault) -> Result<String, Mem>
+    ensures { IfOk result (λ s. string_bytes s ≡ parse_text fault) }
+{
+    match fault {
+        ParseFault::Unexpected { place } => at_place(alloc, place, "Unexpected"),
+        ParseFault::TooDeep { place } => at_place(alloc, place, "TooDeep"),
+        ParseFault::Mem => Ok(String::from_str(alloc, "Mem")?),
     }
 }
 

@@ -1,20 +1,17 @@
-//! From the words to the script that they name.
+//! From the words to what the script that they name asks for.
 
-ghost use Rattle.std.specs.Prelude.{◌≡◌, ◌⊎◌, ℕ, ◌≤◌, List, IfOk, IfErr, IsSome, map, string_bytes};
+ghost use Rattle.std.specs.Prelude.{◌≡◌, ℕ, ◌≤◌, List, IfErr, map, string_bytes};
 ghost use Rattle.std.specs.declared.option.Option.{Option};
 ghost use Rattle.nf_host.specs.Faults.{Rose};
 ghost use Rattle.nf_host.specs.Files.{Files};
-ghost use Rattle.nf_ast.specs.View.{view_script};
-ghost use Rattle.nf_ast.specs.Chain.{chain_of};
-ghost use Rattle.nf_ast.specs.Tasks.{tasks_of};
 ghost use Rattle.nf_cli.specs.Ends.{end_of_usage};
 ghost use Rattle.nf_cli.specs.Means.{file_of};
 ghost use Rattle.nf_cli.specs.Due.{OnHostFault, Tells};
 ghost use Rattle.nf_cli.specs.Work.{FileGives, Gives, IsEarly, TellsAt};
 
 use crate::ends::End;
-use crate::texts::script_of_text;
-use nf_ast::Script;
+use crate::texts::plan_of_text;
+use nf_forms::Plan;
 use nf_host::{Host, HostRefusal, Whole, read_whole};
 use nf_lexer::LexFault;
 use nf_words::{Command, UsageFault, read_words};
@@ -23,40 +20,34 @@ use std::alloc::Global;
 /// The most bytes of a script (own).
 pub const SCRIPT_LIMIT: u64 = 1_048_576;
 
-/// The script of a command line over the files of a host.
+/// What the script of a command line asks for, over the files of a host.
 ///
 /// # Errors
 ///
-/// The end of a call that has no script.
-pub fn script_of_words<H: Host>(
-    alloc: Global,
-    words: &[String],
-    host: &mut H,
-) -> Result<Script, End>
+/// The end of a call that has no such script.
+pub fn plan_of_words<H: Host>(alloc: Global, words: &[String], host: &mut H) -> Result<Plan, End>
     ensures later { H.faults host.old ≤ H.faults host.new }
     ensures files { H.files host.new ≡ H.files host.old }
     ensures early { IfErr result IsEarly }
     ensures cause { IfErr result (λ e. OnHostFault e (Rose (H.faults host.old) (H.faults host.new))) }
-    ensures form { IfOk result (λ s. IsSome (chain_of (view_script s)) ⊎ IsSome (tasks_of (view_script s))) }
     ensures gives { (f : Files) × Tells (H.files host.old) f × Gives (map string_bytes words.now) f result }
 {
     match read_words(alloc, words) {
-        Ok(command) => script_of_command(alloc, &command, host),
+        Ok(command) => plan_of_command(alloc, &command, host),
         Err(fault) => Err(usage_end(fault)),
     }
 }
 
-/// The script of a command.
-fn script_of_command<H: Host>(alloc: Global, command: &Command, host: &mut H) -> Result<Script, End>
+/// What the script of a command asks for.
+fn plan_of_command<H: Host>(alloc: Global, command: &Command, host: &mut H) -> Result<Plan, End>
     ensures later { H.faults host.old ≤ H.faults host.new }
     ensures files { H.files host.new ≡ H.files host.old }
     ensures cause { IfErr result (λ e. OnHostFault e (Rose (H.faults host.old) (H.faults host.new))) }
     ensures early { IfErr result IsEarly }
-    ensures form { IfOk result (λ s. IsSome (chain_of (view_script s)) ⊎ IsSome (tasks_of (view_script s))) }
     ensures gives { (held : Option (List ℕ)) × TellsAt (H.files host.old) (file_of command.now) held × FileGives held result }
 {
     match command {
-        Command::Run(run) => script_of_file(alloc, run.file.as_str(), host),
+        Command::Run(run) => plan_of_file(alloc, run.file.as_str(), host),
     }
 }
 
@@ -69,19 +60,18 @@ fn usage_end(fault: UsageFault) -> End
     }
 }
 
-/// The script of a file.
-fn script_of_file<H: Host>(alloc: Global, file: &str, host: &mut H) -> Result<Script, End>
+/// What the script of a file asks for.
+fn plan_of_file<H: Host>(alloc: Global, file: &str, host: &mut H) -> Result<Plan, End>
     ensures later { H.faults host.old ≤ H.faults host.new }
     ensures files { H.files host.new ≡ H.files host.old }
     ensures cause { IfErr result (λ e. OnHostFault e (Rose (H.faults host.old) (H.faults host.new))) }
     ensures early { IfErr result IsEarly }
-    ensures form { IfOk result (λ s. IsSome (chain_of (view_script s)) ⊎ IsSome (tasks_of (view_script s))) }
     ensures gives { (held : Option (List ℕ)) × TellsAt (H.files host.old) file.now held × FileGives held result }
 {
     match read_whole(alloc, host, file, SCRIPT_LIMIT) {
         Ok(Whole::Absent) => Err(End::NoScript),
         Ok(Whole::TooLong) => Err(End::Lex(LexFault::ScriptTooLong)),
-        Ok(Whole::Bytes(text)) => script_of_text(alloc, text.items()),
+        Ok(Whole::Bytes(text)) => plan_of_text(alloc, text.items()),
         Err(HostRefusal::Failed) => Err(End::HostFault),
         Err(HostRefusal::Mem) => Err(End::Mem),
     }

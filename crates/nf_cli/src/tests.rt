@@ -5,6 +5,7 @@ mod tasks;
 use crate::{End, ItemCause, NfEnd, nf_main};
 use nf_host::{MemHost, MemSink};
 use nf_lane::Lane;
+use nf_parser::ParseFault;
 use nf_value::{Value, text_of};
 use std::alloc::{AllocError, Global};
 use std::fmt::Write;
@@ -30,6 +31,10 @@ const DEEP_FAULT: &str =
 
 const DEEP_BREAK: &str =
     "#!a\nworkflow {\n\tchannel.of(1)\n\t\t.map { it\n\t\t* 10 }\n\t\t.view()\n}\n";
+
+/// With the two before them, 65 brackets that are open at once.
+const BRACKETS: &str =
+    "workflow { channel.of([[[[[[[[[[[[[[[[[[[[[[[[[[[[[[[[[[[[[[[[[[[[[[[[[[[[[[[[[[[[[[[";
 
 /// The most bytes of a script.
 const MOST_BYTES: usize = 1_048_576;
@@ -156,8 +161,8 @@ const ROWS: &[Row] = &[
         Some(DEEP_BREAK),
         None,
         None,
-        "3 Unbuilt at 5:3",
-        "error: 5:3: Unbuilt\n",
+        "3 Parse Unexpected at 5:3",
+        "error: 5:3: Unexpected\n",
     ),
     (
         RUN,
@@ -174,6 +179,23 @@ const ROWS: &[Row] = &[
         None,
         "3 Unbuilt at 1:40",
         "error: 1:40: Unbuilt\n",
+    ),
+    // Texts whose tokens spell no script.
+    (
+        RUN,
+        Some("workflow { } }"),
+        None,
+        None,
+        "3 Parse Unexpected at 1:14",
+        "error: 1:14: Unexpected\n",
+    ),
+    (
+        RUN,
+        Some(BRACKETS),
+        None,
+        None,
+        "3 Parse TooDeep at 1:85",
+        "error: 1:85: TooDeep\n",
     ),
     // Texts that break a rule of the tokens.
     (
@@ -380,23 +402,179 @@ fn fronts_of_the_output(rt: HostRuntime) -> Result<(), Fail> {
 fn fronts_of_a_script(rt: HostRuntime) -> Result<(), Fail> {
     for end in 0..EXAMPLE.len() {
         let front = EXAMPLE.as_bytes().get(..end).unwrap_or(&[]);
-        let col = match end {
-            1..8 => 1,
-            12..18 => 12,
-            20 => 20,
-            32..34 => 32,
-            38 => 38,
-            48..51 => 48,
-            _ => end + 1,
+        let (fault, col) = match end {
+            0 => ("Unbuilt", 1),
+            1..8 => ("Unexpected", 1),
+            _ => ("Unexpected", end + 1),
         };
         let mut host = host_with(rt.alloc(), Some(front))?;
         let mut sink = MemSink::new(rt.alloc());
         let found = called(rt.alloc(), RUN, &mut host, &mut sink)?;
-        let want = format!(in rt.alloc(); "3 Unbuilt at 1:{col}")?;
-        let line = format!(in rt.alloc(); "error: 1:{col}: Unbuilt\n")?;
-        assert_eq!(rt; found.as_str(), want.as_str());
+        let line = format!(in rt.alloc(); "error: 1:{col}: {fault}\n")?;
+        assert!(rt; found.as_str().starts_with("3 "));
         assert_eq!(rt; sink.written(), line.as_bytes());
     }
+    Ok(())
+}
+
+/// Scripts of no form that is built, and the place.
+const UNBUILT: &[(&str, &str)] = &[
+    ("workflow { channel.of('a').map { it }.view() }", "1:23"),
+    ("workflow { channel.of(1 + 2).map { it }.view() }", "1:25"),
+    ("workflow { channel.of(x: 1).map { it }.view() }", "1:23"),
+    ("workflow { channel.of().map { it }.view() }", "1:20"),
+    ("workflow { channel.of(1).view() }", "1:26"),
+    ("workflow { channel.of(1)?.map { it }.view() }", "1:27"),
+    ("workflow { channel.of(1).map { it } }", "1:12"),
+    ("workflow { channel.of(1).map { it }.view }", "1:37"),
+    ("workflow { channel.of(1).map { it }.view(1) }", "1:37"),
+    ("workflow { channel.of(1).map { it -> it }.view() }", "1:30"),
+    ("workflow { channel.of(1).map { it % 2 }.view() }", "1:35"),
+    ("workflow { channel.of(1).map { it; it }.view() }", "1:36"),
+    (
+        "workflow { channel.of(1).map { it ? 1 : 2 }.view() }",
+        "1:35",
+    ),
+    (
+        "workflow { channel.of(1).map { (it + 1).x }.view() }",
+        "1:41",
+    ),
+    (
+        "workflow { channel.of(1).map { return it }.view() }",
+        "1:32",
+    ),
+    ("workflow { channel ? 1 : 2 }", "1:20"),
+    (
+        "workflow { channel.of(1).map { it }.view()\nchannel.of(1) }",
+        "2:1",
+    ),
+    ("workflow A { channel.of(1).map { it }.view() }", "1:1"),
+    ("workflow { }", "1:1"),
+    (
+        "workflow { channel.of(1).map { it }.view() }\nprintln 1",
+        "2:1",
+    ),
+    (
+        "def f() { 1 }\nworkflow { channel.of(1).map { it }.view() }",
+        "1:1",
+    ),
+    ("workflow { P(channel.of(1)).view() }", "1:12"),
+    (
+        "process P { input: val x; output: stdout; script: \"echo $x\" }",
+        "1:1",
+    ),
+    (
+        "process P { input: val x; output: stdout; script: \"echo $x\" }\nworkflow { channel.of(1).map { it }.view() }",
+        "2:12",
+    ),
+    (
+        "process P { input: val x; output: stdout; script: \"echo $x\" }\nworkflow { P(channel.of(1).map { it }).view() }",
+        "2:28",
+    ),
+    (
+        "process P { input: val x; output: stdout; script: \"echo $x\" }\nworkflow { P(channel.of(1), 2).view() }",
+        "2:12",
+    ),
+    (
+        "process P { input: val x; output: stdout; script: \"echo $x\" }\nworkflow { P(channel.of(\"a\")).view() }",
+        "2:25",
+    ),
+    (
+        "process P { input: val x; output: stdout; script: \"echo $x\" }\nprocess P { input: val x; output: stdout; script: \"echo $x\" }\nworkflow { P(channel.of(1)).view() }",
+        "2:1",
+    ),
+    (
+        "process P { cpus 2; input: val x; output: stdout; script: \"a\" }\nworkflow { P(channel.of(1)).view() }",
+        "1:13",
+    ),
+    (
+        "process P { input: path x; output: stdout; script: \"a\" }\nworkflow { P(channel.of(1)).view() }",
+        "1:20",
+    ),
+    (
+        "process P { input: val x; output: val x; script: \"a\" }\nworkflow { P(channel.of(1)).view() }",
+        "1:35",
+    ),
+    (
+        "process P { output: val x; input: path x; script: \"a\" }\nworkflow { P(channel.of(1)).view() }",
+        "1:21",
+    ),
+    (
+        "process P { output: stdout; script: \"a\" }\nworkflow { P(channel.of(1)).view() }",
+        "1:1",
+    ),
+    (
+        "process P { input: val x; output: stdout; script: \"echo $y\" }\nworkflow { P(channel.of(1)).view() }",
+        "1:58",
+    ),
+    (
+        "process P { input: val x; output: stdout; script: \"echo ${x.y}\" }\nworkflow { P(channel.of(1)).view() }",
+        "1:61",
+    ),
+];
+
+#[test]
+fn unbuilt_scripts(rt: HostRuntime) -> Result<(), Fail> {
+    for (text, place) in UNBUILT.iter().copied() {
+        let mut host = host_with(rt.alloc(), Some(text.as_bytes()))?;
+        let mut sink = MemSink::new(rt.alloc());
+        let found = called(rt.alloc(), RUN, &mut host, &mut sink)?;
+        let want = format!(in rt.alloc(); "3 Unbuilt at {place}")?;
+        assert_eq!(rt; found.as_str(), want.as_str(), "{text}");
+    }
+    Ok(())
+}
+
+/// Other spellings of a chain, and what is viewed.
+const SPELLINGS: &[(&str, &str)] = &[
+    ("workflow { channel.of(1).map({ it * 2 }).view() }", "2\n"),
+    (
+        "workflow { Channel.of(1).map { (it + 1) * 2 }.view() }",
+        "4\n",
+    ),
+    ("workflow { main: channel.of(1).map { it }.view() }", "1\n"),
+    (
+        "workflow { (channel.of(1)).map { 10 - (it + 2) - 3 }.view() }",
+        "4\n",
+    ),
+];
+
+#[test]
+fn other_spellings(rt: HostRuntime) -> Result<(), Fail> {
+    for (text, shown) in SPELLINGS.iter().copied() {
+        let mut host = host_with(rt.alloc(), Some(text.as_bytes()))?;
+        let mut sink = MemSink::new(rt.alloc());
+        let found = called(rt.alloc(), RUN, &mut host, &mut sink)?;
+        assert_eq!(rt; found.as_str(), "0 Ok", "{text}");
+        let want = format!(in rt.alloc(); "{shown}executed 0 cached 0\n")?;
+        assert_eq!(rt; sink.written(), want.as_bytes(), "{text}");
+    }
+    Ok(())
+}
+
+/// As many brackets as may be open, each the first operand of a full product in a full sum.
+#[test]
+fn deepest_sum(rt: HostRuntime) -> Result<(), Fail> {
+    let mut text = String::from_str(rt.alloc(), "workflow { channel.of(7).map { ")?;
+    for _ in 0..62u32 {
+        text.push_str("(")?;
+    }
+    text.push_str("it")?;
+    for _ in 0..62u32 {
+        text.push_str(")")?;
+        for _ in 0..255u32 {
+            text.push_str("*1")?;
+        }
+        for _ in 0..255u32 {
+            text.push_str("+0")?;
+        }
+    }
+    text.push_str(" }.view() }")?;
+    let mut host = host_with(rt.alloc(), Some(text.as_bytes()))?;
+    let mut sink = MemSink::new(rt.alloc());
+    let found = called(rt.alloc(), RUN, &mut host, &mut sink)?;
+    assert_eq!(rt; found.as_str(), "0 Ok");
+    assert_eq!(rt; sink.written(), "7\nexecuted 0 cached 0\n".as_bytes());
     Ok(())
 }
 
@@ -436,7 +614,7 @@ const LIMITS: &[Limit] = &[
         "+1",
         256,
         " }.view() }",
-        "3 Unbuilt at 1:544",
+        "3 Parse TooDeep at 1:544",
     ),
     (
         "workflow { channel.of(1).map { it",
@@ -450,7 +628,7 @@ const LIMITS: &[Limit] = &[
         "*1",
         256,
         " }.view() }",
-        "3 Unbuilt at 1:544",
+        "3 Parse TooDeep at 1:544",
     ),
     (EXAMPLE, " ", MOST_BYTES - 55, "", "0 Ok"),
     (
@@ -460,7 +638,7 @@ const LIMITS: &[Limit] = &[
         "\n",
         "3 Lex 1:1: ScriptTooLong",
     ),
-    ("", " ", MOST_BYTES, "", "3 Unbuilt at 1:1048577"),
+    ("", " ", MOST_BYTES, "", "3 Unbuilt at 1:1"),
 ];
 
 #[test]
@@ -558,11 +736,21 @@ fn show_end(alloc: Global, out: &mut String, end: &End) -> Result<(), Fail> {
         End::Usage(fault) => write!(out, "Usage {fault}")?,
         End::NoScript => write!(out, "NoScript")?,
         End::Lex(fault) => write!(out, "Lex {fault}")?,
+        End::Parse(fault) => show_parse(out, *fault)?,
         End::Unbuilt { place } => write!(out, "Unbuilt at {place}")?,
         End::HostFault => write!(out, "HostFault")?,
         End::LaneFault => write!(out, "LaneFault")?,
         End::SinkFault => write!(out, "SinkFault")?,
         End::Mem => write!(out, "Mem")?,
+    }
+    Ok(())
+}
+
+fn show_parse(out: &mut String, fault: ParseFault) -> Result<(), Fail> {
+    match fault {
+        ParseFault::Unexpected { place } => write!(out, "Parse Unexpected at {place}")?,
+        ParseFault::TooDeep { place } => write!(out, "Parse TooDeep at {place}")?,
+        ParseFault::Mem => write!(out, "Parse Mem")?,
     }
     Ok(())
 }

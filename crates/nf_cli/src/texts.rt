@@ -1,15 +1,15 @@
-//! The script of a text.
+//! The plan of a text.
 
-ghost use Rattle.std.specs.Prelude.{◌≡◌, ◌⊎◌, IsSome, IfOk};
-ghost use Rattle.nf_ast.specs.View.{view_script};
-ghost use Rattle.nf_ast.specs.Chain.{chain_of};
-ghost use Rattle.nf_ast.specs.Tasks.{tasks_of};
-ghost use Rattle.nf_cli.specs.Ends.{end_of_lex};
-ghost use Rattle.nf_cli.specs.Reads.{ReadsScript, end_of_script};
+ghost use Rattle.std.specs.Prelude.{◌≡◌};
+ghost use Rattle.nf_ast.specs.Tops.{view_script};
+ghost use Rattle.nf_forms.specs.Form.{form_of};
+ghost use Rattle.nf_cli.specs.Ends.{end_of_lex, end_of_parse};
+ghost use Rattle.nf_cli.specs.Reads.{ReadsScript, Plans, end_of_form, end_of_script};
 ghost use Rattle.nf_cli.specs.Work.{TextGives};
 
 use crate::ends::End;
 use nf_ast::Script;
+use nf_forms::{FormFault, Plan, plan_of};
 use nf_lexer::{LexFault, tokens};
 use nf_parser::{ParseFault, script};
 use std::alloc::Global;
@@ -22,18 +22,17 @@ pub enum ScriptFault {
     Parse(ParseFault),
 }
 
-/// The script of a text.
+/// What the script of a text asks for.
 ///
 /// # Errors
 ///
-/// `Lex` exactly where the text breaks a rule of the tokens, with the first that is broken; `Unbuilt` exactly where
-/// its tokens aren't of a form, at their place; `Mem` where there is no memory.
-pub fn script_of_text(alloc: Global, text: &[u8]) -> Result<Script, End>
+/// `Lex` exactly where the text breaks a rule of the tokens, with the first that is broken; `Parse` exactly where its tokens spell no
+/// script, with the place; `Unbuilt` exactly where its script is of no form that is built, with the place; `Mem` where there is no memory.
+pub fn plan_of_text(alloc: Global, text: &[u8]) -> Result<Plan, End>
     ensures gives { TextGives text.now result }
-    ensures form { IfOk result (λ s. IsSome (chain_of (view_script s)) ⊎ IsSome (tasks_of (view_script s))) }
 {
     match read_script(alloc, text) {
-        Ok(script) => Ok(script),
+        Ok(script) => plan_of_script(alloc, &script),
         Err(fault) => Err(script_end(fault)),
     }
 }
@@ -41,12 +40,16 @@ pub fn script_of_text(alloc: Global, text: &[u8]) -> Result<Script, End>
 /// The tree of a text.
 fn read_script(alloc: Global, text: &[u8]) -> Result<Script, ScriptFault>
     ensures reads { ReadsScript text.now result }
-    ensures form { IfOk result (λ s. IsSome (chain_of (view_script s)) ⊎ IsSome (tasks_of (view_script s))) }
 {
     nf_lexer::laws::one_list();
     nf_lexer::laws::one_break();
     nf_lexer::laws::never_both();
-    nf_parser::laws::one_place();
+    nf_parser::laws::one_tree();
+    nf_parser::laws::one_unexpected();
+    nf_parser::laws::one_too_deep();
+    nf_parser::laws::unexpected_spells_none();
+    nf_parser::laws::too_deep_spells_none();
+    nf_parser::laws::not_both();
     match tokens(alloc, text) {
         Ok(tokens) => match script(alloc, &tokens) {
             Ok(script) => Ok(script),
@@ -56,13 +59,31 @@ fn read_script(alloc: Global, text: &[u8]) -> Result<Script, ScriptFault>
     }
 }
 
+/// What a script asks for.
+fn plan_of_script(alloc: Global, script: &Script) -> Result<Plan, End>
+    ensures { Plans (form_of (view_script script.now)) result }
+{
+    match plan_of(alloc, script) {
+        Ok(plan) => Ok(plan),
+        Err(fault) => Err(form_end(fault)),
+    }
+}
+
+fn form_end(fault: FormFault) -> End
+    ensures { result ≡ end_of_form fault }
+{
+    match fault {
+        FormFault::Unbuilt { place } => End::Unbuilt { place },
+        FormFault::Mem => End::Mem,
+    }
+}
+
 fn script_end(fault: ScriptFault) -> End
     ensures { result ≡ end_of_script fault }
 {
     match fault {
         ScriptFault::Lex(fault) => lex_end(fault),
-        ScriptFault::Parse(ParseFault::Unbuilt { place }) => End::Unbuilt { place },
-        ScriptFault::Parse(ParseFault::Mem) => End::Mem,
+        ScriptFault::Parse(fault) => parse_end(fault),
     }
 }
 
@@ -72,5 +93,14 @@ fn lex_end(fault: LexFault) -> End
     match fault {
         LexFault::Mem => End::Mem,
         fault => End::Lex(fault),
+    }
+}
+
+fn parse_end(fault: ParseFault) -> End
+    ensures { result ≡ end_of_parse fault }
+{
+    match fault {
+        ParseFault::Mem => End::Mem,
+        fault => End::Parse(fault),
     }
 }

@@ -1,13 +1,10 @@
 //! All that comes before the writing: the script, its run, and the text of its report.
 
-ghost use Rattle.std.specs.Prelude.{◌≡◌, ◌⊎◌, ℕ, ◌+◌, ◌<◌, ◌≤◌, ◌^◌, [], length, map, sum_by, string_bytes, All, IfOk, IfErr, IsSome, Err, Some};
+ghost use Rattle.std.specs.Prelude.{◌≡◌, ◌+◌, ◌<◌, ◌≤◌, ◌^◌, [], length, map, sum_by, string_bytes, All, IfOk, IfErr, Err};
 ghost use Rattle.nf_host.specs.Faults.{Rose};
 ghost use Rattle.nf_host.specs.Files.{Files};
-ghost use Rattle.nf_ast.specs.View.{view_script};
-ghost use Rattle.nf_ast.specs.Chain.{chain_of};
-ghost use Rattle.nf_ast.specs.Tasks.{tasks_of};
+ghost use Rattle.nf_forms.specs.View.{view_plan};
 ghost use Rattle.nf_core.specs.Machine.{starts as starts_of};
-ghost use Rattle.nf_run.specs.Form.{Form, form_of};
 ghost use Rattle.nf_run.specs.Run.{NoneFell, OneRose};
 ghost use Rattle.nf_cli.specs.Report.{report_of, summary as summary_of};
 ghost use Rattle.nf_cli.specs.Due.{OnHostFault, OnLaneFault, Tells};
@@ -15,12 +12,12 @@ ghost use Rattle.nf_cli.specs.Work.{HasRun, HasWorked, IsEarly, IsOutputOrEnd, I
 
 use crate::ends::{End, ItemCause};
 use crate::report::report;
-use crate::scripts::script_of_words;
-use nf_ast::Script;
+use crate::scripts::plan_of_words;
 use nf_core::Event;
+use nf_forms::Plan;
 use nf_host::Host;
 use nf_lane::{Kept, Lane};
-use nf_run::{Ran, RunFault, laws, plan_of, run_plan, starts};
+use nf_run::{Ran, RunFault, laws, run_plan, starts};
 use nf_value::{Mem, Txt, Vals};
 use std::alloc::Global;
 
@@ -64,8 +61,8 @@ pub fn work_of_words<H: Host, L: Lane>(
     ensures files { H.files host.new ≡ H.files host.old }
 {
     laws::nothing_is_booked(lanes.as_slice());
-    match script_of_words(alloc, words, host) {
-        Ok(script) => run_script(alloc, &script, lanes),
+    match plan_of_words(alloc, words, host) {
+        Ok(plan) => work_of_plan(alloc, &plan, lanes),
         Err(end) => nothing_ran(alloc, end),
     }
 }
@@ -85,12 +82,11 @@ fn nothing_ran<L: Lane>(alloc: Global, end: End) -> Work<L>
     }
 }
 
-/// Runs a script.
-fn run_script<L: Lane>(alloc: Global, script: &Script, lanes: &mut Vec<L>) -> Work<L>
-    requires form { IsSome (chain_of (view_script script.now)) ⊎ IsSome (tasks_of (view_script script.now)) }
+/// Runs a plan, and makes the texts to be written.
+fn work_of_plan<L: Lane>(alloc: Global, plan: &Plan, lanes: &mut Vec<L>) -> Work<L>
     requires some { 1 ≤ length lanes.old.items }
     requires room { All (λ l. L.runs l < 2 ^ 62) lanes.old.items }
-    ensures ran { (form : Form) → form_of (view_script script.now) ≡ Some form → HasRun L.Done.genuine L.Done.job L.Done.told L.Done.number L.runs L.world form result.history.items result.kept.dones.items lanes.old.items lanes.new.items result.outcome }
+    ensures ran { HasRun L.Done.genuine L.Done.job L.Done.told L.Done.number L.runs L.world (view_plan plan.now) result.history.items result.kept.dones.items lanes.old.items lanes.new.items result.outcome }
     ensures refusal { IfErr result.outcome IsRefusal }
     ensures no_host { IfErr result.outcome (λ e. OnHostFault e ⊥) }
     ensures runs { sum_by L.runs lanes.new.items ≡ sum_by L.runs lanes.old.items + starts_of result.history.items }
@@ -98,15 +94,11 @@ fn run_script<L: Lane>(alloc: Global, script: &Script, lanes: &mut Vec<L>) -> Wo
     ensures lane_fault { IfErr result.outcome (λ e. OnLaneFault e (OneRose L.faults lanes.old.items lanes.new.items)) }
     ensures lanes_later { NoneFell L.faults lanes.old.items lanes.new.items }
 {
-    laws::nothing_is_booked(lanes.as_slice());
-    let Ok(plan) = plan_of(alloc, script) else {
-        return nothing_ran(alloc, End::Mem);
-    };
     let Ran {
         history,
         kept,
         outcome,
-    } = run_plan(alloc, &plan, lanes);
+    } = run_plan(alloc, plan, lanes);
     let outcome = output_or_end(alloc, outcome, &history);
     Work {
         history,

@@ -4,5 +4,7 @@
 mod sums;
 #[cfg(test)]
 mod tests;
+mod tree;
 
 pub use sums::sum;
+pub use tree::{Operand, Sum, SumMark};

@@ -1,45 +1,54 @@
 //! Sums over one number.
 
-ghost use Rattle.std.specs.Prelude.{◌≡◌, true};
-ghost use Rattle.nf_ast.specs.View.{view};
-ghost use Rattle.nf_ast.specs.Chain.{is_sum};
-ghost use Rattle.nf_eval.specs.Sum.{sum_of, applied};
+ghost use Rattle.std.specs.Prelude.{◌≡◌, map};
+ghost use Rattle.nf_eval.specs.View.{view, view_operand};
+ghost use Rattle.nf_eval.specs.Sum.{sum_of, going_on, applied};
 
-use nf_ast::{BinaryMark, Expr};
+use crate::tree::{Operand, Sum, SumMark};
 use nf_value::{EvalFault, EvalKind, Place};
 
-/// The value of a sum (numbers, `it`, `+`, `-` and `*`) where `it` is a number of 64 signed bits (Nextflow reference
-/// documentation, "Syntax", "Binary expressions"; that a number has 64 bits and doesn't wrap is this project's own
-/// choice). Takes no memory.
+/// The value of a sum where its item is a number of 64 signed bits (Nextflow reference documentation, "Syntax", "Binary expressions";
+/// that a number has 64 bits and doesn't wrap is this project's own choice). Takes no memory.
 ///
 /// # Errors
 ///
 /// `Overflow` exactly where a result of `+`, `-` or `*` on the way leaves 64 signed bits, also where the whole would
 /// fit again. It has the place of that mark. Of several the first counts: the left operand is taken before the right
 /// one, and both before their mark (own).
-pub fn sum(expr: &Expr, it: i64) -> Result<i64, EvalFault>
-    requires { is_sum (view expr.now) ≡ true }
-    ensures { result ≡ sum_of (view expr.now) it }
+#[cycle(value)]
+pub fn sum(of: &Sum, item: i64) -> Result<i64, EvalFault>
+    ensures { result ≡ sum_of (view of.now) item }
 {
-    match expr {
-        Expr::Number(_, value) => Ok(*value),
-        Expr::Name(_, _) => Ok(it),
-        Expr::Binary(place, mark, left, right) => {
-            let left = sum(left, it)?;
-            let right = sum(right, it)?;
-            apply(*place, *mark, left, right)
+    match of {
+        Sum::Number(value) => Ok(*value),
+        Sum::Item => Ok(item),
+        Sum::Operands(first, rest) => {
+            let first = sum(first, item)?;
+            go_on(first, rest, item)
         }
-        _ => unreachable!(),
     }
 }
 
-fn apply(place: Place, mark: BinaryMark, left: i64, right: i64) -> Result<i64, EvalFault>
+/// The value of a first operand and those after it.
+#[cycle(value)]
+fn go_on(first: i64, rest: &[Operand], item: i64) -> Result<i64, EvalFault>
+    ensures { result ≡ going_on (map view_operand rest.now) item first }
+{
+    let mut value = first;
+    for operand in rest {
+        let right = sum(&operand.sum, item)?;
+        value = apply(operand.place, operand.mark, value, right)?;
+    }
+    Ok(value)
+}
+
+fn apply(place: Place, mark: SumMark, left: i64, right: i64) -> Result<i64, EvalFault>
     ensures { result ≡ applied place mark left right }
 {
     let exact = match mark {
-        BinaryMark::Plus => left.checked_add(right),
-        BinaryMark::Minus => left.checked_sub(right),
-        BinaryMark::Times => left.checked_mul(right),
+        SumMark::Plus => left.checked_add(right),
+        SumMark::Minus => left.checked_sub(right),
+        SumMark::Times => left.checked_mul(right),
     };
     exact.ok_or(EvalFault {
         kind: EvalKind::Overflow,

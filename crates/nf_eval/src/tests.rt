@@ -1,12 +1,7 @@
 //! Sums worked by hand.
 
-ghost use Rattle.std.specs.Prelude.{◌≡◌, true};
-ghost use Rattle.nf_ast.specs.View.{view};
-ghost use Rattle.nf_ast.specs.Chain.{is_sum};
-
-use crate::sum;
-use nf_ast::{BinaryMark, Expr};
-use nf_value::{Mem, Place, Txt};
+use crate::{Operand, Sum, SumMark, sum};
+use nf_value::{Mem, Place};
 use std::alloc::Global;
 use std::test::Fail;
 
@@ -33,13 +28,6 @@ const ROWS: [(&str, i64, &str); 18] = [
     ("it it * it 1 + -", i64::MAX, "Overflow at 1:3"),
 ];
 
-/// A tree that is a sum.
-#[derive(Drop)]
-struct Sum {
-    expr: Expr,
-    ghost is_sum: { is_sum (view expr) ≡ true },
-}
-
 #[test]
 fn sums_have_their_values(rt: HostRuntime) -> Result<(), Fail> {
     for (words, it, want) in ROWS {
@@ -51,7 +39,7 @@ fn sums_have_their_values(rt: HostRuntime) -> Result<(), Fail> {
 }
 
 fn shown(alloc: Global, tree: &Sum, it: i64) -> Result<String, Fail> {
-    match sum(&tree.expr, it) {
+    match sum(tree, it) {
         Ok(value) => Ok(format!(in alloc; "{value}")?),
         Err(fault) => {
             let kind = fault.kind;
@@ -69,54 +57,50 @@ fn tree(alloc: Global, words: &str) -> Result<Sum, Mem> {
         let place = Place { line: 1, col };
         let next = match mark_of(word) {
             Some(mark) => {
-                let right = stack.pop().unwrap_or(number(place, 0));
-                let left = stack.pop().unwrap_or(number(place, 0));
-                joined(alloc, place, mark, left, right)?
+                let right = stack.pop().unwrap_or(Sum::Number(0));
+                let left = stack.pop().unwrap_or(Sum::Number(0));
+                let operand = Operand {
+                    place,
+                    mark,
+                    sum: right,
+                };
+                joined(alloc, left, operand)?
             }
-            None => leaf(alloc, place, word)?,
+            None => leaf(word),
         };
         stack.push(next)?;
     }
-    let none = Place { line: 1, col };
-    Ok(stack.pop().unwrap_or(number(none, 0)))
+    Ok(stack.pop().unwrap_or(Sum::Number(0)))
 }
 
-fn mark_of(word: &str) -> Option<BinaryMark> {
+fn mark_of(word: &str) -> Option<SumMark> {
     match word {
-        "+" => Some(BinaryMark::Plus),
-        "-" => Some(BinaryMark::Minus),
-        "*" => Some(BinaryMark::Times),
+        "+" => Some(SumMark::Plus),
+        "-" => Some(SumMark::Minus),
+        "*" => Some(SumMark::Times),
         _ => None,
     }
 }
 
-fn leaf(alloc: Global, place: Place, word: &str) -> Result<Sum, Mem> {
+fn leaf(word: &str) -> Sum {
     if word == "it" {
-        return it(alloc, place);
+        return Sum::Item;
     }
-    Ok(number(place, word.parse::<i64>().unwrap_or(0)))
+    Sum::Number(word.parse::<i64>().unwrap_or(0))
 }
 
-fn number(place: Place, value: i64) -> Sum {
-    let expr = Expr::number(place, value);
-    Sum { expr }
-}
-
-fn it(alloc: Global, place: Place) -> Result<Sum, Mem> {
-    let name = Txt::of(String::from_str(alloc, "it")?);
-    let expr = Expr::name(place, name);
-    Ok(Sum { expr })
-}
-
-fn joined(
-    alloc: Global,
-    place: Place,
-    mark: BinaryMark,
-    left: Sum,
-    right: Sum,
-) -> Result<Sum, Mem> {
-    let Sum { expr: left } = left;
-    let Sum { expr: right } = right;
-    let expr = Expr::binary(alloc, place, mark, left, right)?;
-    Ok(Sum { expr })
+/// One operand more, in the list of the operands before it.
+fn joined(alloc: Global, left: Sum, operand: Operand) -> Result<Sum, Mem> {
+    match left {
+        Sum::Operands(first, rest) => {
+            let mut rest = rest;
+            rest.push(operand)?;
+            Ok(Sum::Operands(first, rest))
+        }
+        left => {
+            let first = Box::new(alloc, left)?;
+            let rest = vec![in alloc; operand]?;
+            Ok(Sum::Operands(first, rest))
+        }
+    }
 }

@@ -13,7 +13,7 @@ use Rattle.nf_lexer.specs.declared.token.TemplateKind.{TemplateKind}
 use Rattle.nf_lexer.specs.declared.token.Token.{Token}
 use Rattle.nf_lexer.specs.declared.token.Token.TheVariants as t
 use Rattle.nf_lexer.specs.declared.token.Lexeme.{Lexeme}
-use Rattle.nf_tree.specs.Tree.{empty, point, name, text, template, piece}
+use Rattle.nf_ast.specs.Tree.{empty, point, name, text, template, piece}
 use Rattle.nf_exprs.specs.Tokens.{same_mark, same_keyword, mark_at, mark_of, keyword_at, keyword_of, name_at, name_of, word_at, word_of, separator_at, separator, plain_at, plain, open_template_at, open_template, template_text_at, template_text, open_hole_at, open_hole, close_hole_at, close_hole}
 use Rattle.nf_exprs.specs.Parses.{Takes}
 

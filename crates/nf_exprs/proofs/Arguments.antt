@@ -12,8 +12,8 @@ use Rattle.nf_grammar.specs.Outcome.{Out, got, unexpected}
 use Rattle.nf_grammar.proofs.Outcomes.{either_right_got, where_yes, stands_reaches}
 use Rattle.nf_grammar.proofs.Short.{at, ret, takes, seq, seq_far, off, ruled, stop, maybe_not, maybe_is, IsStop}
 use Rattle.nf_grammar.specs.Reads.{stands_first}
-use Rattle.nf_tree.specs.Tree as tree
-use Rattle.nf_tree.specs.Tree.{Tree, empty}
+use Rattle.nf_ast.specs.Tree as tree
+use Rattle.nf_ast.specs.Tree.{Tree, empty}
 use Rattle.nf_exprs.specs.Level.{Expr, Args, Arg}
 use Rattle.nf_exprs.specs.Tokens.{name_of, colon, is_next, after, labels, no_start}
 use Rattle.nf_exprs.specs.Rules.{rules, kind, mark, listed, no_comma, with_name}

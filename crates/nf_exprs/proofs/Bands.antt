@@ -7,12 +7,12 @@ use Rattle.nf_grammar.specs.Parts.{no_next, none_of}
 use Rattle.nf_grammar.specs.Outcome.{Out, got, unexpected, too_deep}
 use Rattle.nf_grammar.proofs.Short.{at, at_deep, ret, takes, sinks, seq, fails, dives, off, ruled, stops, goes, part_fails, part_dives, maybe_not, maybe_is, IsStop}
 use Rattle.nf_exprs.specs.declared.band.Band.{Band}
-use Rattle.nf_tree.specs.declared.marks.InfixMark.{InfixMark}
-use Rattle.nf_tree.specs.declared.expr.Operand.{Operand}
-use Rattle.nf_tree.specs.Tree.{Tree, empty, binary}
+use Rattle.nf_ast.specs.declared.marks.InfixMark.{InfixMark}
+use Rattle.nf_ast.specs.declared.expr.Operand.{Operand}
+use Rattle.nf_ast.specs.Tree.{Tree, empty, binary}
 use Rattle.nf_exprs.specs.Level.{Operands, Gram}
 use Rattle.nf_exprs.specs.Tokens.{infix_of, operator}
-use Rattle.nf_tree.specs.View.{operands, view_operand}
+use Rattle.nf_ast.specs.View.{operands, view_operand}
 use Rattle.nf_exprs.specs.Rules.{rules, operand, operand_next, after_operand, is_single}
 use Rattle.nf_exprs.specs.Parses.{Outcome, Takes}
 use Rattle.nf_exprs.proofs.Leads.{Leads}

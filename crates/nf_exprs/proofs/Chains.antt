@@ -12,9 +12,9 @@ use Rattle.nf_grammar.specs.Gram.{rule, many}
 use Rattle.nf_grammar.specs.Parts.{no_next, none_of}
 use Rattle.nf_grammar.specs.Outcome.{Out, got, unexpected, too_deep}
 use Rattle.nf_grammar.proofs.Short.{sinks, seq, dives, off, first_arm, second_arm, ruled, stop, stops, goes, part_stop, part_dives, IsStop}
-use Rattle.nf_tree.specs.declared.expr.Postfix.{Postfix}
-use Rattle.nf_tree.specs.Tree.{Tree, point}
-use Rattle.nf_tree.specs.View.{applied, postfix, view_postfix}
+use Rattle.nf_ast.specs.declared.expr.Postfix.{Postfix}
+use Rattle.nf_ast.specs.Tree.{Tree, point}
+use Rattle.nf_ast.specs.View.{applied, postfix, view_postfix}
 use Rattle.nf_exprs.specs.Level.{Prim, Post}
 use Rattle.nf_exprs.specs.Tokens.{mark_at, mark_of, same_mark, post_at, no_post}
 use Rattle.nf_exprs.specs.Rules.{rules, property, safe_property, index, call, call_with, post_part}

@@ -9,10 +9,10 @@ use Rattle.nf_grammar.specs.Gram.{rule}
 use Rattle.nf_grammar.specs.Parts.{no_next}
 use Rattle.nf_grammar.specs.Outcome.{Out, got, unexpected, too_deep}
 use Rattle.nf_grammar.proofs.Short.{ret, seq, fails, off, first_arm, second_arm, ruled, maybe_not, maybe_is, stop, IsStop}
-use Rattle.nf_tree.specs.declared.expr.Arm.{Arm}
-use Rattle.nf_tree.specs.Tree as tree
-use Rattle.nf_tree.specs.Tree.{Tree, empty, point}
-use Rattle.nf_tree.specs.View.{choice, view_arm}
+use Rattle.nf_ast.specs.declared.expr.Arm.{Arm}
+use Rattle.nf_ast.specs.Tree as tree
+use Rattle.nf_ast.specs.Tree.{Tree, empty, point}
+use Rattle.nf_ast.specs.View.{choice, view_arm}
 use Rattle.nf_exprs.specs.Level.{Choice, Gram}
 use Rattle.nf_exprs.specs.Tokens.{mark_of, keyword_of}
 use Rattle.nf_exprs.specs.Rules.{rules, arm, block, else_arm, maybe}

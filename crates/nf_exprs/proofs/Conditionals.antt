@@ -10,12 +10,12 @@ use Rattle.nf_grammar.specs.Parts.{no_next}
 use Rattle.nf_grammar.specs.Outcome.{Out, got, unexpected, too_deep}
 use Rattle.nf_grammar.proofs.Outcomes.{arms_first, grouped, alone, ruled_first, maybe_is_then}
 use Rattle.nf_grammar.proofs.Short.{ret, seq, fails, dives, off, first_arm, second_arm, ruled, maybe_not, maybe_is, stop, IsStop}
-use Rattle.nf_tree.specs.declared.marks.BranchMark.{BranchMark}
-use Rattle.nf_tree.specs.declared.marks.BranchMark.TheVariants.{Then, Else, Elvis}
-use Rattle.nf_tree.specs.declared.expr.Branch.{Branch}
-use Rattle.nf_tree.specs.Tree as tree
-use Rattle.nf_tree.specs.Tree.{Tree, empty, point}
-use Rattle.nf_tree.specs.View.{Frame, asked, answered, preferred, ended, turned, framed, BranchTree, conditional, view_branch}
+use Rattle.nf_ast.specs.declared.marks.BranchMark.{BranchMark}
+use Rattle.nf_ast.specs.declared.marks.BranchMark.TheVariants.{Then, Else, Elvis}
+use Rattle.nf_ast.specs.declared.expr.Branch.{Branch}
+use Rattle.nf_ast.specs.Tree as tree
+use Rattle.nf_ast.specs.Tree.{Tree, empty, point}
+use Rattle.nf_ast.specs.View.{Frame, asked, answered, preferred, ended, turned, framed, BranchTree, conditional, view_branch}
 use Rattle.nf_exprs.specs.declared.band.Band.TheVariants as band
 use Rattle.nf_exprs.specs.Level.{Expr, Operands, Gram}
 use Rattle.nf_exprs.specs.Tokens.{colon}
@@ -118,19 +118,19 @@ pub record TurnedAt (fs : List Frame) (xs : List ℕ) (n : ℕ) : Type 0 where
   pub left : waits fs ≡ xs
   pub nested : length fs ≡ n
 
-pub turned_at : (fs : List Frame) (e : Tree) (xs : List ℕ) (n : ℕ) → waits fs ≡ xs ++ n ∷ [] → TurnedAt (turned fs e) xs n
-turned_at [] e xs n h = absurd (push_not_nil xs n (sym h))
-turned_at (asked p c ∷ fs) e xs n h = let r = last_at (waits fs) xs (suc (length fs)) n h in record { left = r.front; nested = r.last }
-turned_at (answered p c a ∷ fs) e xs n h = turned_at fs (tree.conditional p c a e) xs n h
-turned_at (preferred p a ∷ fs) e xs n h = turned_at fs (tree.elvis p a e) xs n h
+pub turned_at : (q : Place) (fs : List Frame) (e : Tree) (xs : List ℕ) (n : ℕ) → waits fs ≡ xs ++ n ∷ [] → TurnedAt (turned q fs e) xs n
+turned_at q [] e xs n h = absurd (push_not_nil xs n (sym h))
+turned_at q (asked p c ∷ fs) e xs n h = let r = last_at (waits fs) xs (suc (length fs)) n h in record { left = r.front; nested = r.last }
+turned_at q (answered p c a ∷ fs) e xs n h = turned_at q fs (tree.conditional p c a e) xs n h
+turned_at q (preferred p a ∷ fs) e xs n h = turned_at q fs (tree.elvis p a e) xs n h
 
-turns : (d : ℕ) (fs : List Frame) (e : Tree) (xs : List ℕ) (n : ℕ) (ts after : List Lexeme) (p : Place) (o : Out Lexeme Tree) → waits fs ≡ xs ++ n ∷ [] → Takes colon ts (point p) after → Outcome (operand_then d (turned fs e)) after o → Outcome (rest d fs e) ts o
+turns : (d : ℕ) (fs : List Frame) (e : Tree) (xs : List ℕ) (n : ℕ) (ts after : List Lexeme) (p : Place) (o : Out Lexeme Tree) → waits fs ≡ xs ++ n ∷ [] → Takes colon ts (point p) after → Outcome (operand_then d (turned p fs e)) after o → Outcome (rest d fs e) ts o
 turns d [] e xs n ts after p o h k q = absurd (push_not_nil xs n (sym h))
 turns d (asked r c ∷ fs) e xs n ts after p o h k q = grouped (took refl k (grouped (inside d fs (rest d (answered r c e ∷ fs)) after o q)))
 turns d (answered r c a ∷ fs) e xs n ts after p o h k q = seq ret (turns d fs (tree.conditional r c a e) xs n ts after p o h k q)
 turns d (preferred r a ∷ fs) e xs n ts after p o h k q = seq ret (turns d fs (tree.elvis r a e) xs n ts after p o h k q)
 
-pub else_goes : (d : ℕ) (fs : List Frame) (e : Tree) (xs : List ℕ) (n : ℕ) (ts after : List Lexeme) (p : Place) → waits fs ≡ xs ++ n ∷ [] → Takes colon ts (point p) after → Going (operand_then d (turned fs e)) after (after_operand d fs e) ts
+pub else_goes : (d : ℕ) (fs : List Frame) (e : Tree) (xs : List ℕ) (n : ℕ) (ts after : List Lexeme) (p : Place) → waits fs ≡ xs ++ n ∷ [] → Takes colon ts (point p) after → Going (operand_then d (turned p fs e)) after (after_operand d fs e) ts
 else_goes d fs e xs n ts after p h k o q =
     let f : no_next question ts ≡ true = subst (λ x. no_next question x ≡ true) (sym (a_mark m.Colon k)) refl in
     let g : no_next elvis ts ≡ true = subst (λ x. no_next elvis x ≡ true) (sym (a_mark m.Colon k)) refl in
@@ -210,7 +210,7 @@ module _ (d : ℕ) (fs : List Frame) (e : Tree) (nested : ℕ) (kept : List ℕ)
   branch_read next left Then due x r2 few some k n r q = record { leads = λ o g. branch_goes next left Then due few some k n r o (seq q g); waiting = ap (λ l. l ++ suc (length fs) ∷ []) r.waiting ∙ ap (λ i. kept ++ suc i ∷ []) r.depth ∙ sym n.0; depth = ap suc r.depth ∙ sym n.1 }
   branch_read next left Elvis due x r2 few some k n r q = record { leads = λ o g. branch_goes next left Elvis due few some k n r o (seq q g); waiting = r.waiting ∙ sym n.0; depth = ap suc r.depth ∙ sym n.1 }
   branch_read next left Else due x r2 few some k n r q =
-      let h = turned_at fs e left next (r.waiting ∙ pending kept (some k.1) n) in
+      let h = turned_at p fs e left next (r.waiting ∙ pending kept (some k.1) n) in
       record { leads = λ o g. branch_goes next left Else due few some k n r o (seq q g); waiting = h.left; depth = h.nested }
     where
       pending : (xs : List ℕ) → (xs ≡ [] → ⊥) → Nests Else xs nested left next → xs ≡ left ++ next ∷ []
@@ -249,11 +249,11 @@ seen_ends d a e xs nested kept ts us due f n g r =
     let s = seen a xs in
     subst (λ z. Outcome (rule (Expr d 0)) us (got z ts (length ts))) (sym (g ∙ state_ends [] a (map view_branch xs))) (branches_end d s.frames s.expr nested kept ts [] us (record { line = 0; col = 0 }) due f n r)
 
-turned_le : (fs : List Frame) (e : Tree) → length (turned fs e) ≤ length fs
-turned_le [] e = omega arith
-turned_le (asked p c ∷ fs) e = omega arith
-turned_le (answered p c a ∷ fs) e = let h = turned_le fs (tree.conditional p c a e) in omega (arith, h)
-turned_le (preferred p a ∷ fs) e = let h = turned_le fs (tree.elvis p a e) in omega (arith, h)
+turned_le : (q : Place) (fs : List Frame) (e : Tree) → length fs ≤ 256 → length (turned q fs e) ≤ 256
+turned_le q [] e few = omega arith
+turned_le q (asked p c ∷ fs) e few = few
+turned_le q (answered p c a ∷ fs) e few = turned_le q fs (tree.conditional p c a e) (omega (arith, few))
+turned_le q (preferred p a ∷ fs) e few = turned_le q fs (tree.elvis p a e) (omega (arith, few))
 
 -- so many stand round what comes after a mark within the limit
 pub next_within : (d : ℕ) (a : Tree) (xs ys : List Branch) (y : Branch) (nested next : ℕ) (kept left : List ℕ) (ts r2 us : List Lexeme) (p : Place) (mark : BranchMark) (x : Tree) → past_branch mark nested ≡ false → nested ≤ 256 → ys ≡ xs ++ y ∷ [] → view_branch y ≡ record { place = p; mark = mark; expr = x } → Reading d (seen a xs) nested kept ts us → Reading d (seen a ys) next left r2 us → next ≤ 256
@@ -265,7 +265,7 @@ next_within d a xs ys y nested next kept left ts r2 us p mark x few le e f old n
     by_mark : (k : BranchMark) (fs : List Frame) (v : Tree) → past_branch k nested ≡ false → length fs ≡ nested → length (framed p k fs v) ≡ next → next ≤ 256
     by_mark Then fs v g h i = let j = within nested g in omega (arith, h, i, j)
     by_mark Elvis fs v g h i = let j = within nested g in omega (arith, h, i, j)
-    by_mark Else fs v g h i = let j = turned_le fs v in omega (arith, h, i, j, le)
+    by_mark Else fs v g h i = let j = turned_le p fs v (omega (arith, h, le)) in omega (arith, i, j)
 
 pub missing_at : (d : ℕ) (a : Tree) (xs : List Branch) (nested : ℕ) (kept : List ℕ) (ts us : List Lexeme) (due : Bool) → (due ≡ false → kept ≡ []) → (kept ≡ [] → ⊥) → NoBranch due ts → Reading d (seen a xs) nested kept ts us → Outcome (rule (Expr d 0)) us (unexpected (length ts))
 missing_at d a xs nested kept ts us false f g n r = absurd (g (f refl))

@@ -12,7 +12,7 @@ use Rattle.nf_grammar.specs.Parts.{none_of}
 use Rattle.nf_grammar.specs.Outcome.{got, unexpected, too_deep}
 use Rattle.nf_grammar.proofs.Outcomes.{bind_short}
 use Rattle.nf_grammar.proofs.Short.{ret, seq, off, fails, maybe_not, stop}
-use Rattle.nf_tree.specs.Tree.{Tree, empty}
+use Rattle.nf_ast.specs.Tree.{Tree, empty}
 use Rattle.nf_exprs.specs.declared.fault.Fault.{Fault}
 use Rattle.nf_exprs.specs.declared.fault.Fault.TheVariants.{Unexpected, TooDeep, Mem}
 use Rattle.nf_exprs.specs.Level.{Gram}

@@ -2,7 +2,7 @@
 use Rattle.std.specs.Prelude.{List, length}
 use Rattle.nf_lexer.specs.declared.token.Lexeme.{Lexeme}
 use Rattle.nf_grammar.specs.Outcome.{Out, got}
-use Rattle.nf_tree.specs.Tree.{Tree}
+use Rattle.nf_ast.specs.Tree.{Tree}
 use Rattle.nf_exprs.specs.Level.{Gram}
 use Rattle.nf_grammar.proofs.Short.{IsStop}
 use Rattle.nf_exprs.specs.Parses.{Outcome}

@@ -14,11 +14,11 @@ use Rattle.nf_grammar.specs.Parts.{no_next, none_of}
 use Rattle.nf_grammar.specs.Outcome.{Out, got, unexpected}
 use Rattle.nf_grammar.proofs.Outcomes.{arms_first, grouped, many_ends}
 use Rattle.nf_grammar.proofs.Short.{at, ret, takes, misses, seq, seq_far, fails, off, first_arm, second_arm, ruled, stop, stops, maybe_not, maybe_is, IsStop}
-use Rattle.nf_tree.specs.Tree as tree
-use Rattle.nf_tree.specs.Tree.{Tree, empty, cons, point, snoc, template}
+use Rattle.nf_ast.specs.Tree as tree
+use Rattle.nf_ast.specs.Tree.{Tree, empty, cons, point, snoc, template}
 use Rattle.nf_exprs.specs.Level.{Expr, Pair, Prim, Gram}
-use Rattle.nf_tree.specs.declared.expr.Expr.{Expr as Expr'}
-use Rattle.nf_tree.specs.View.{view}
+use Rattle.nf_ast.specs.declared.expr.Expr.{Expr as Expr'}
+use Rattle.nf_ast.specs.View.{view}
 use Rattle.nf_exprs.specs.Tokens.{Kind, mark_at, mark_of, name_of, plain, literal_at, literal, open_template_at, open_template, template_text, open_hole, colon, no_start, items_end, is_next, after}
 use Rattle.nf_exprs.specs.Rules.{rules, mark, template_of, piece, hole, plain_template, key, round, square, squared, closure_of, items, pairs, no_pairs, listed, comma_then, ended_by_comma}
 use Rattle.nf_exprs.specs.Parses.{Outcome, Takes}

@@ -12,7 +12,7 @@ use Rattle.nf_grammar.specs.Reads.{Reads, reads_token, reads_gives, reads_bind, 
 use Rattle.nf_grammar.specs.Outcome.{Out, got, unexpected}
 use Rattle.nf_grammar.proofs.Outcomes.{arms_first, either_left, either_right, either_right_got, adds_unexpected, where_yes, stands_reaches}
 use Rattle.nf_grammar.proofs.Short.{at, ret, takes, seq, seq_far, fails, off, first_arm, ruled, stop, stops, part_stop, maybe_not, maybe_is, IsStop}
-use Rattle.nf_tree.specs.Tree.{Tree, empty}
+use Rattle.nf_ast.specs.Tree.{Tree, empty}
 use Rattle.nf_exprs.specs.Level.{Body, Closure, Gram}
 use Rattle.nf_exprs.specs.Tokens.{Kind, mark_of, name_of, colon, is_next, after, labels, no_params, params_from, begins_params, body_ends, stmt_starts_at, on_first}
 use Rattle.nf_exprs.specs.Rules.{rules, kind, mark, closes, closed, comma_then, no_comma, parameters, closure_body, some_labels}

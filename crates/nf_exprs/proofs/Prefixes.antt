@@ -6,12 +6,12 @@ use Rattle.nf_grammar.specs.Gram.{rule, bind}
 use Rattle.nf_grammar.specs.Parts.{no_next}
 use Rattle.nf_grammar.specs.Outcome.{Out, got, unexpected, too_deep}
 use Rattle.nf_grammar.proofs.Short.{at, at_deep, ret, takes, sinks, seq, fails, dives, off, first_arm, second_arm, ruled, IsStop}
-use Rattle.nf_tree.specs.declared.marks.PrefixMark.{PrefixMark}
-use Rattle.nf_tree.specs.declared.expr.Prefix.{Prefix}
-use Rattle.nf_tree.specs.Tree.{Tree, empty, prefix}
+use Rattle.nf_ast.specs.declared.marks.PrefixMark.{PrefixMark}
+use Rattle.nf_ast.specs.declared.expr.Prefix.{Prefix}
+use Rattle.nf_ast.specs.Tree.{Tree, empty, prefix}
 use Rattle.nf_exprs.specs.Level.{Pre, Post, Gram}
 use Rattle.nf_exprs.specs.Tokens.{prefix_mark}
-use Rattle.nf_tree.specs.View.{prefixes}
+use Rattle.nf_ast.specs.View.{prefixes}
 use Rattle.nf_exprs.specs.Rules.{rules, prefixed}
 use Rattle.nf_exprs.specs.Parses.{Outcome, Takes}
 use Rattle.nf_exprs.proofs.Leads.{Leads}

@@ -13,7 +13,7 @@ use Rattle.nf_grammar.specs.Outcome.{unexpected}
 use Rattle.nf_grammar.proofs.Short.{misses, fails, off, second_arm, ruled}
 use Rattle.nf_exprs.specs.declared.band.Band.{Band}
 use Rattle.nf_exprs.specs.declared.band.Band.TheVariants as band
-use Rattle.nf_tree.specs.Tree.{Tree}
+use Rattle.nf_ast.specs.Tree.{Tree}
 use Rattle.nf_exprs.specs.Level.{Expr, Operands, Pre, Post, Prim}
 use Rattle.nf_exprs.specs.Tokens.{name_at, name_of, literal_at, literal, open_template_at, open_template, mark_at, mark_of, prefix_mark_at, prefix_mark, starts_at, no_start, separator_at, separator, at_end}
 use Rattle.nf_exprs.specs.Rules.{rules}

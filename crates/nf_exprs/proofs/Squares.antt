@@ -17,8 +17,8 @@ use Rattle.nf_grammar.specs.Reads.{stands_first, stands_second, stands_left, sta
 use Rattle.nf_grammar.specs.Outcome.{Out, got, unexpected}
 use Rattle.nf_grammar.proofs.Outcomes.{arms_first, either_left, either_right, adds_unexpected, stands_reaches, reaches_all, reads_stands, Reaches}
 use Rattle.nf_grammar.proofs.Short.{ret, takes, misses, seq, fails, off, first_arm, second_arm, ruled, stops, goes, maybe_not, maybe_is}
-use Rattle.nf_tree.specs.Tree as tree
-use Rattle.nf_tree.specs.Tree.{Tree, empty, cons, point, snoc}
+use Rattle.nf_ast.specs.Tree as tree
+use Rattle.nf_ast.specs.Tree.{Tree, empty, cons, point, snoc}
 use Rattle.nf_exprs.specs.Level.{Pair, Prim}
 use Rattle.nf_exprs.specs.Tokens.{Kind, same_mark, mark_at, mark_of, name_of, plain, open_template, close_template_at, close_template, template_text_at, template_text, colon, no_start, is_next, after, pair_next, closes_template, prefix_mark}
 use Rattle.nf_exprs.specs.Rules.{squared, items, pairs, no_pairs, key, template_of, plain_template, pieces, ended_by_comma}

@@ -14,8 +14,8 @@ use Rattle.nf_grammar.specs.Reads.{stands_first, stands_left, stands_right, stan
 use Rattle.nf_grammar.specs.Outcome.{Out, got, unexpected, too_deep}
 use Rattle.nf_grammar.proofs.Outcomes.{arms_first, many_ends, either_left, either_right, adds_unexpected, adds_where, adds_either, not_where, where_yes, stands_reaches, reaches_all, ruled_first}
 use Rattle.nf_grammar.proofs.Short.{at, takes, seq, fails, off, first_arm, second_arm, ruled, stop, stops, maybe_is}
-use Rattle.nf_tree.specs.Tree as tree
-use Rattle.nf_tree.specs.Tree.{Tree, empty, point}
+use Rattle.nf_ast.specs.Tree as tree
+use Rattle.nf_ast.specs.Tree.{Tree, empty, point}
 use Rattle.nf_exprs.specs.declared.fault.Fault.{Fault}
 use Rattle.nf_exprs.specs.declared.fault.Fault.TheVariants.{Unexpected, TooDeep, Mem}
 use Rattle.nf_exprs.specs.Level.{Expr, Prim, Body, Stmt, Choice, Gram}

@@ -8,9 +8,9 @@ use Rattle.nf_grammar.specs.Gram.{token, bind, gives, many, ◌>>=◌}
 use Rattle.nf_grammar.specs.Parts.{no_next, none_of}
 use Rattle.nf_grammar.specs.Outcome.{Out, got, unexpected, too_deep}
 use Rattle.nf_grammar.proofs.Short.{at, at_deep, ret, takes, misses, sinks, seq, dives, goes, stop, part_stop, IsStop}
-use Rattle.nf_tree.specs.Tree.{Tree, empty, cons, snoc, name}
+use Rattle.nf_ast.specs.Tree.{Tree, empty, cons, snoc, name}
 use Rattle.nf_value.specs.declared.place.Place.{Place}
-use Rattle.nf_tree.specs.View.{trees, name_tree}
+use Rattle.nf_ast.specs.View.{trees, name_tree}
 use Rattle.nf_exprs.specs.declared.fault.Fault.{Fault}
 use Rattle.nf_exprs.specs.declared.fault.Fault.TheVariants.{Unexpected, TooDeep, Mem}
 use Rattle.nf_exprs.specs.Level.{Gram}

@@ -13,11 +13,11 @@ use Rattle.nf_grammar.specs.Reads.{stands_first}
 use Rattle.nf_grammar.specs.Outcome.{Out, got, unexpected, too_deep}
 use Rattle.nf_grammar.proofs.Outcomes.{either_left, either_right, adds_unexpected, stands_reaches, reads_stands}
 use Rattle.nf_grammar.proofs.Short.{seq, fails, off, stops, IsStop}
-use Rattle.nf_tree.specs.declared.expr.Piece.{Piece}
-use Rattle.nf_tree.specs.declared.expr.Label.{Label}
-use Rattle.nf_tree.specs.declared.expr.Stmt.{Stmt}
-use Rattle.nf_tree.specs.Tree.{Tree, point}
-use Rattle.nf_tree.specs.View.{view_piece, view_label, view_stmt, trees}
+use Rattle.nf_ast.specs.declared.expr.Piece.{Piece}
+use Rattle.nf_ast.specs.declared.expr.Label.{Label}
+use Rattle.nf_ast.specs.declared.expr.Stmt.{Stmt}
+use Rattle.nf_ast.specs.Tree.{Tree, point}
+use Rattle.nf_ast.specs.View.{view_piece, view_label, view_stmt, trees}
 use Rattle.nf_exprs.specs.Tokens.{mark_of, keyword_of, name_of, template_text, open_hole, is_next, assigns, no_start}
 use Rattle.nf_exprs.specs.Rules as row
 use Rattle.nf_exprs.specs.Rules.{rules, kind, listed, no_comma, no_part, with_sep}

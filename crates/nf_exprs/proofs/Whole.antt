@@ -11,7 +11,7 @@ use Rattle.nf_grammar.specs.Reads as grammar
 use Rattle.nf_grammar.specs.Reads.{stands_first, stands_left, stands_right, stands_rule, stands_after}
 use Rattle.nf_grammar.specs.Outcome.{got}
 use Rattle.nf_grammar.proofs.Short.{seq, off, second_arm, ruled, maybe_not, stops}
-use Rattle.nf_tree.specs.Tree.{Tree}
+use Rattle.nf_ast.specs.Tree.{Tree}
 use Rattle.nf_exprs.specs.declared.band.Band.{Band}
 use Rattle.nf_exprs.specs.declared.band.Band.TheVariants as band
 use Rattle.nf_exprs.specs.Level.{Expr, Operands, Pre, Post, Prim, Gram}

@@ -4,7 +4,7 @@ use Rattle.nf_value.specs.declared.place.Place.{Place}
 use Rattle.nf_lexer.specs.declared.token.Lexeme.{Lexeme}
 use Rattle.nf_grammar.specs.Gram as grammar
 use Rattle.nf_exprs.specs.declared.band.Band.{Band}
-use Rattle.nf_tree.specs.Tree.{Tree}
+use Rattle.nf_ast.specs.Tree.{Tree}
 
 pub data Level : Type 0 where
   -- expressions: how many `?` and `?:` stand round them, or prefix marks before them

@@ -4,17 +4,17 @@ use Rattle.nf_lexer.specs.declared.token.Lexeme.{Lexeme}
 use Rattle.nf_grammar.specs.Gram.{gives, ◌>>=◌}
 use Rattle.nf_grammar.specs.Outcome as grammar
 use Rattle.nf_grammar.specs.Outcome.{Out, got, unexpected, too_deep}
-use Rattle.nf_tree.specs.Tree as tree
-use Rattle.nf_tree.specs.Tree.{Tree, point}
+use Rattle.nf_ast.specs.Tree as tree
+use Rattle.nf_ast.specs.Tree.{Tree, point}
 use Rattle.nf_value.specs.declared.place.Place.{Place}
 use Rattle.nf_grammar.specs.Parts.{no_next}
-use Rattle.nf_tree.specs.View.{ArmTree}
+use Rattle.nf_ast.specs.View.{ArmTree}
 use Rattle.nf_exprs.specs.declared.fault.Fault.{Fault}
 use Rattle.nf_exprs.specs.declared.fault.Fault.TheVariants.{Unexpected, TooDeep, Mem}
 use Rattle.nf_exprs.specs.Level.{Gram}
 use Rattle.nf_exprs.specs.Rules.{rules}
-use Rattle.nf_tree.specs.declared.marks.BranchMark.{BranchMark}
-use Rattle.nf_tree.specs.declared.marks.BranchMark.TheVariants as branch
+use Rattle.nf_ast.specs.declared.marks.BranchMark.{BranchMark}
+use Rattle.nf_ast.specs.declared.marks.BranchMark.TheVariants as branch
 use Rattle.nf_lexer.specs.declared.token.Mark.TheVariants as m
 use Rattle.nf_exprs.specs.Tokens.{Kind, mark_of, labels, after}
 

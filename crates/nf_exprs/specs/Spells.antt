@@ -4,7 +4,7 @@ use Rattle.nf_value.specs.declared.place.Place.{Place}
 use Rattle.nf_lexer.specs.declared.token.Lexeme.{Lexeme}
 use Rattle.nf_grammar.specs.Gram.{rule}
 use Rattle.nf_grammar.specs.Reads as grammar
-use Rattle.nf_tree.specs.Tree.{Tree}
+use Rattle.nf_ast.specs.Tree.{Tree}
 use Rattle.nf_exprs.specs.declared.fault.ParseFault.{ParseFault}
 use Rattle.nf_exprs.specs.declared.fault.ParseFault.TheVariants as parse
 use Rattle.nf_exprs.specs.Level.{Expr}

@@ -13,12 +13,12 @@ use Rattle.nf_lexer.specs.declared.token.Token.{Token}
 use Rattle.nf_lexer.specs.declared.token.Token.TheVariants as t
 use Rattle.nf_lexer.specs.declared.token.Lexeme.{Lexeme}
 use Rattle.nf_grammar.specs.Parts.{no_next}
-use Rattle.nf_tree.specs.declared.marks.InfixMark.{InfixMark}
-use Rattle.nf_tree.specs.declared.marks.InfixMark.TheVariants as i
-use Rattle.nf_tree.specs.declared.marks.PrefixMark.TheVariants as f
+use Rattle.nf_ast.specs.declared.marks.InfixMark.{InfixMark}
+use Rattle.nf_ast.specs.declared.marks.InfixMark.TheVariants as i
+use Rattle.nf_ast.specs.declared.marks.PrefixMark.TheVariants as f
 use Rattle.nf_exprs.specs.declared.band.Band.{Band}
 use Rattle.nf_exprs.specs.declared.band.Band.TheVariants as band
-use Rattle.nf_tree.specs.Tree.{Tree, empty, point, name, number, text, pattern, piece, truth, null, template, prefix, binary}
+use Rattle.nf_ast.specs.Tree.{Tree, empty, point, name, number, text, pattern, piece, truth, null, template, prefix, binary}
 
 -- a kind of token: what a token of it stands for, where it stands
 abbrev pub Kind : Type 0

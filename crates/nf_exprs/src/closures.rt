@@ -2,7 +2,7 @@
 
 ghost use Rattle.std.specs.Prelude.{◌≤◌, ◌<◌, length, map, IfOk, Some, option_map};
 ghost use Rattle.nf_grammar.specs.Gram.{rule};
-ghost use Rattle.nf_tree.specs.View.{view_closure, view_label, params_tree, names as names_tree, trees};
+ghost use Rattle.nf_ast.specs.View.{view_closure, view_label, params_tree, names as names_tree, trees};
 ghost use Rattle.nf_exprs.specs.Level as level;
 ghost use Rattle.nf_exprs.specs.Tokens.{name_of};
 ghost use Rattle.nf_grammar.specs.Parts.{no_next};
@@ -11,8 +11,8 @@ ghost use Rattle.nf_exprs.specs.Parses.{Parses};
 
 use crate::fault::Fault;
 use crate::{expect, exprs, peek, stmts};
+use nf_ast::{Closure, ClosureBody, Label};
 use nf_lexer::{Lexeme, Mark};
-use nf_tree::{Closure, ClosureBody, Label};
 use nf_value::{Place, Txt};
 use std::alloc::Global;
 

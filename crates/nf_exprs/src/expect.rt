@@ -4,7 +4,7 @@ ghost use Rattle.std.specs.Prelude.{length, IfOk, ◌<◌, ◌≤◌, List};
 ghost use Rattle.nf_lexer.specs.declared.token.Lexeme as lexeme;
 ghost use Rattle.nf_grammar.specs.Gram.{bind, gives};
 ghost use Rattle.nf_grammar.specs.Outcome.{got};
-ghost use Rattle.nf_tree.specs.Tree.{Tree, empty, point, name as name_tree};
+ghost use Rattle.nf_ast.specs.Tree.{Tree, empty, point, name as name_tree};
 ghost use Rattle.nf_exprs.specs.Level.{Gram};
 ghost use Rattle.nf_exprs.specs.Tokens as token;
 ghost use Rattle.nf_exprs.specs.Tokens.{mark_of, keyword_of, name_of, word_of, no_start};

@@ -2,7 +2,7 @@
 
 ghost use Rattle.std.specs.Prelude.{◌≡◌, ◌≤◌, ◌<◌, true, false, length, map, IfOk, []};
 ghost use Rattle.nf_grammar.specs.Gram.{rule};
-ghost use Rattle.nf_tree.specs.View.{view, prefixes, operands as operands_of, view_operand, conditional as conditional_of, view_branch};
+ghost use Rattle.nf_ast.specs.View.{view, prefixes, operands as operands_of, view_operand, conditional as conditional_of, view_branch};
 ghost use Rattle.nf_exprs.specs.Level as level;
 ghost use Rattle.nf_exprs.specs.Rules as row;
 ghost use Rattle.nf_exprs.specs.Nested.{Nests, NextMark, NextBranch, past_branch};
@@ -12,8 +12,8 @@ use crate::band::Band;
 use crate::expect::MOST_PARTS;
 use crate::fault::Fault;
 use crate::{peek, posts};
+use nf_ast::{Branch, BranchMark, Expr, InfixMark, Operand, Prefix};
 use nf_lexer::Lexeme;
-use nf_tree::{Branch, BranchMark, Expr, InfixMark, Operand, Prefix};
 use nf_value::{Mem, Place};
 use std::alloc::Global;
 

@@ -2,8 +2,8 @@
 
 ghost use Rattle.std.specs.Prelude.{◌≡◌, ℕ, ◌≤◌, ◌<◌, length, map, IfOk};
 ghost use Rattle.nf_grammar.specs.Gram.{rule};
-ghost use Rattle.nf_tree.specs.Tree.{Tree};
-ghost use Rattle.nf_tree.specs.View.{view, view_postfix, view_arg, applied, postfix, trees};
+ghost use Rattle.nf_ast.specs.Tree.{Tree};
+ghost use Rattle.nf_ast.specs.View.{view, view_postfix, view_arg, applied, postfix, trees};
 ghost use Rattle.nf_exprs.specs.Level as level;
 ghost use Rattle.nf_exprs.specs.Tokens.{no_start};
 ghost use Rattle.nf_exprs.specs.Rules as row;
@@ -12,8 +12,8 @@ ghost use Rattle.nf_exprs.specs.Parses.{Parses};
 use crate::expect::MOST_PARTS;
 use crate::fault::Fault;
 use crate::{closures, expect, exprs, peek, prims};
+use nf_ast::{Arg, Expr, Postfix};
 use nf_lexer::{Lexeme, Mark};
-use nf_tree::{Arg, Expr, Postfix};
 use nf_value::Mem;
 use std::alloc::Global;
 

@@ -2,7 +2,7 @@
 
 ghost use Rattle.std.specs.Prelude.{suc, ◌≤◌, ◌<◌, length, map, IfOk};
 ghost use Rattle.nf_grammar.specs.Gram.{rule};
-ghost use Rattle.nf_tree.specs.View.{view, views, view_pair, view_piece, key_tree, part_of, trees};
+ghost use Rattle.nf_ast.specs.View.{view, views, view_pair, view_piece, key_tree, part_of, trees};
 ghost use Rattle.nf_exprs.specs.Level as level;
 ghost use Rattle.nf_exprs.specs.Tokens.{no_start};
 ghost use Rattle.nf_exprs.specs.Rules as row;
@@ -10,8 +10,8 @@ ghost use Rattle.nf_exprs.specs.Parses.{Parses};
 
 use crate::fault::Fault;
 use crate::{closures, expect, exprs, peek};
+use nf_ast::{Expr, Key, Pair, Piece};
 use nf_lexer::{Lexeme, Mark};
-use nf_tree::{Expr, Key, Pair, Piece};
 use nf_value::{Place, Txt};
 use std::alloc::Global;
 

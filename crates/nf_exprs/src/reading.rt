@@ -1,13 +1,13 @@
 //! An expression in a list of tokens.
 
 ghost use Rattle.std.specs.Prelude.{◌≡◌, ◌-◌, ◌≤◌, IfOk, IfErr, length, drop};
-ghost use Rattle.nf_tree.specs.View.{view};
+ghost use Rattle.nf_ast.specs.View.{view};
 ghost use Rattle.nf_exprs.specs.Spells.{IsExpr, Refuses, first_place};
 
 use crate::exprs;
 use crate::fault::{Fault, ParseFault};
+use nf_ast::Expr;
 use nf_lexer::{Lexeme, Tokens};
-use nf_tree::Expr;
 use nf_value::Place;
 use std::alloc::Global;
 

@@ -2,8 +2,8 @@
 
 ghost use Rattle.std.specs.Prelude.{◌≤◌, ◌<◌, length, map, IfOk};
 ghost use Rattle.nf_grammar.specs.Gram.{rule};
-ghost use Rattle.nf_tree.specs.Tree as tree;
-ghost use Rattle.nf_tree.specs.View.{view_stmt, view_stmts, view_arm};
+ghost use Rattle.nf_ast.specs.Tree as tree;
+ghost use Rattle.nf_ast.specs.View.{view_stmt, view_stmts, view_arm};
 ghost use Rattle.nf_exprs.specs.Level as level;
 ghost use Rattle.nf_exprs.specs.Rules as row;
 ghost use Rattle.nf_exprs.specs.Parses.{Parses, ParsesToLabel, ParsesThen, arm_tree};
@@ -11,8 +11,8 @@ ghost use Rattle.nf_exprs.specs.Parses.{Parses, ParsesToLabel, ParsesThen, arm_t
 use crate::expect::MOST_PARTS;
 use crate::fault::Fault;
 use crate::{closures, expect, exprs, peek, prims};
+use nf_ast::{Arm, Stmt};
 use nf_lexer::{Keyword, Lexeme, Mark};
-use nf_tree::{Arm, Stmt};
 use std::alloc::Global;
 
 /// Statements, each with its separator.

@@ -1,7 +1,2 @@
-pub mod Gram
-pub mod Rules
+pub mod Ends
 pub mod Spells
-pub mod Outcome
-pub mod Parses
-pub mod Item
-pub mod Unbuilt

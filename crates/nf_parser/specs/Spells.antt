@@ -1,37 +1,75 @@
--- What tokens spell, and where a reading stands.
-use Rattle.std.specs.Prelude.{◌≡◌, ℕ, suc, Bool, true, List, [], ◌∷◌, Option, Some}
-use Rattle.nf_ast.specs.Tree.{Tree}
+-- The script that tokens spell, and where tokens that spell none go wrong.
+use Rattle.std.specs.Prelude.{◌≡◌, ℕ, ◌≤◌, List, [], length, Result, Ok, Err}
+use Rattle.nf_value.specs.declared.place.Place.{Place}
 use Rattle.nf_lexer.specs.declared.token.Lexeme.{Lexeme}
-use Rattle.nf_parser.specs.Gram.{Level, Script, Gram, token, gives, bind, either, only_where, many, rule}
-use Rattle.nf_parser.specs.Rules.{rules}
-
--- `Reads g tokens tree rest`: g spells the tree by the tokens before the rest
-pub data Reads : Gram → List Lexeme → Tree → List Lexeme → Type 0 where
-  reads_token : {p : Lexeme → Option Tree} {t : Lexeme} {ts : List Lexeme} {v : Tree} → p t ≡ Some v → Reads (token p) (t ∷ ts) v ts
-  reads_gives : {v : Tree} {ts : List Lexeme} → Reads (gives v) ts v ts
-  reads_bind : {g : Gram} {k : Tree → Gram} {ts mid rest : List Lexeme} {a b : Tree} → Reads g ts a mid → Reads (k a) mid b rest → Reads (bind g k) ts b rest
-  reads_left : {g h : Gram} {ts rest : List Lexeme} {v : Tree} → Reads g ts v rest → Reads (either g h) ts v rest
-  reads_right : {g h : Gram} {ts rest : List Lexeme} {v : Tree} → Reads h ts v rest → Reads (either g h) ts v rest
-  reads_where : {c : List Lexeme → Bool} {g : Gram} {ts rest : List Lexeme} {v : Tree} → c ts ≡ true → Reads g ts v rest → Reads (only_where c g) ts v rest
-  reads_end : {c : List Lexeme → Bool} {f : ℕ → Tree → Gram} {n : ℕ} {a : Tree} {ts : List Lexeme} → c ts ≡ true → Reads (many c f n a) ts a ts
-  reads_more : {c : List Lexeme → Bool} {f : ℕ → Tree → Gram} {n : ℕ} {a b v : Tree} {ts mid rest : List Lexeme} → Reads (f n a) ts b mid → Reads (many c f (suc n) b) mid v rest → Reads (many c f n a) ts v rest
-  reads_rule : {l : Level} {ts rest : List Lexeme} {v : Tree} → Reads (rules l) ts v rest → Reads (rule l) ts v rest
-
--- `Stands g tokens rest`: a reading of g has read exactly the tokens before the rest
-pub data Stands : Gram → List Lexeme → List Lexeme → Type 0 where
-  stands_before : {p : Lexeme → Option Tree} {ts : List Lexeme} → Stands (token p) ts ts
-  stands_after : {p : Lexeme → Option Tree} {t : Lexeme} {ts : List Lexeme} {v : Tree} → p t ≡ Some v → Stands (token p) (t ∷ ts) ts
-  stands_gives : {v : Tree} {ts : List Lexeme} → Stands (gives v) ts ts
-  stands_first : {g : Gram} {k : Tree → Gram} {ts r : List Lexeme} → Stands g ts r → Stands (bind g k) ts r
-  stands_second : {g : Gram} {k : Tree → Gram} {ts mid r : List Lexeme} {a : Tree} → Reads g ts a mid → Stands (k a) mid r → Stands (bind g k) ts r
-  stands_left : {g h : Gram} {ts r : List Lexeme} → Stands g ts r → Stands (either g h) ts r
-  stands_right : {g h : Gram} {ts r : List Lexeme} → Stands h ts r → Stands (either g h) ts r
-  stands_where : {c : List Lexeme → Bool} {g : Gram} {ts r : List Lexeme} → c ts ≡ true → Stands g ts r → Stands (only_where c g) ts r
-  stands_end : {c : List Lexeme → Bool} {f : ℕ → Tree → Gram} {n : ℕ} {a : Tree} {ts : List Lexeme} → c ts ≡ true → Stands (many c f n a) ts ts
-  stands_part : {c : List Lexeme → Bool} {f : ℕ → Tree → Gram} {n : ℕ} {a : Tree} {ts r : List Lexeme} → Stands (f n a) ts r → Stands (many c f n a) ts r
-  stands_more : {c : List Lexeme → Bool} {f : ℕ → Tree → Gram} {n : ℕ} {a b : Tree} {ts mid r : List Lexeme} → Reads (f n a) ts b mid → Stands (many c f (suc n) b) mid r → Stands (many c f n a) ts r
-  stands_rule : {l : Level} {ts r : List Lexeme} → Stands (rules l) ts r → Stands (rule l) ts r
+use Rattle.nf_grammar.specs.Gram.{rule}
+use Rattle.nf_grammar.specs.Reads.{Reads, Stands, Deep}
+use Rattle.nf_ast.specs.Tree.{Tree}
+use Rattle.nf_exprs.specs.declared.fault.Fault.{Fault}
+use Rattle.nf_exprs.specs.declared.fault.Fault.TheVariants as fault
+use Rattle.nf_exprs.specs.Level as level
+use Rattle.nf_exprs.specs.Rules.{rules}
+use Rattle.nf_exprs.specs.declared.fault.ParseFault.{ParseFault}
+use Rattle.nf_exprs.specs.declared.fault.ParseFault.TheVariants as parse
+use Rattle.nf_exprs.specs.Spells.{first_place}
 
 -- all the tokens spell this script
-abbrev pub Spells : List Lexeme → Tree → Type 0
-Spells ts v = Reads (rule Script) ts v []
+abbrev pub Whole : List Lexeme → Tree → Type 0
+Whole ts v = Reads rules (rule level.Script) ts v []
+
+-- a reading of a script has read the tokens before the rest
+abbrev pub Reaches : List Lexeme → List Lexeme → Type 0
+Reaches = Stands rules (rule level.Script)
+
+-- a reading of a script passes a limit at the first token of the rest
+abbrev pub Passes : List Lexeme → List Lexeme → Type 0
+Passes = Deep rules (rule level.Script)
+
+-- all the tokens spell this script, and no reading of them passes a limit
+pub record Spells (ts : List Lexeme) (v : Tree) : Type 0 where
+  pub whole : Whole ts v
+  pub shallow : (r : List Lexeme) → Passes ts r → ⊥
+
+-- the tokens spell no script, no reading passes a limit, and this is the farthest place where a reading stands
+pub record IsUnexpected (ts : List Lexeme) (end p : Place) : Type 0 where
+  pub none : (v : Tree) → Whole ts v → ⊥
+  pub shallow : (r : List Lexeme) → Passes ts r → ⊥
+  pub rest : List Lexeme
+  pub stands : Reaches ts rest
+  pub farthest : (r : List Lexeme) → Reaches ts r → length rest ≤ length r
+  pub place : p ≡ first_place end rest
+
+-- a reading passes a limit, and this is the earliest place where one does
+pub record IsTooDeep (ts : List Lexeme) (end p : Place) : Type 0 where
+  pub rest : List Lexeme
+  pub deep : Passes ts rest
+  pub earliest : (r : List Lexeme) → Passes ts r → length r ≤ length rest
+  pub place : p ≡ first_place end rest
+
+-- an error other than want of memory names the place
+abbrev pub Refuses : List Lexeme → Place → ParseFault → Type 0
+Refuses ts end (parse.Unexpected p) = IsUnexpected ts end p
+Refuses ts end (parse.TooDeep p) = IsTooDeep ts end p
+Refuses ts end parse.Mem = Unit {0}
+
+-- ---- by the number of tokens left
+
+pub record StopsAt (ts : List Lexeme) (left : ℕ) : Type 0 where
+  pub none : (v : Tree) → Whole ts v → ⊥
+  pub shallow : (r : List Lexeme) → Passes ts r → ⊥
+  pub stands : (r : List Lexeme) × Reaches ts r × (length r ≡ left)
+  pub farthest : (r : List Lexeme) → Reaches ts r → left ≤ length r
+
+pub record SinksAt (ts : List Lexeme) (left : ℕ) : Type 0 where
+  pub deep : (r : List Lexeme) × Passes ts r × (length r ≡ left)
+  pub earliest : (r : List Lexeme) → Passes ts r → length r ≤ left
+
+abbrev pub Stops : List Lexeme → Fault → Type 0
+Stops ts fault.Mem = Unit {0}
+Stops ts (fault.Unexpected left) = StopsAt ts left
+Stops ts (fault.TooDeep left) = SinksAt ts left
+
+-- the one script that all the tokens spell
+abbrev pub Answers : {X : Type 0} → (X → Tree) → List Lexeme → Result X Fault → Type 0
+Answers tree ts (Ok x) = Spells ts (tree x) × ((v : Tree) → Whole ts v → v ≡ tree x)
+Answers tree ts (Err e) = Stops ts e

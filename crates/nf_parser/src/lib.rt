@@ -1,16 +1,17 @@
 //! The tree of a script from its tokens.
 #![tactic(auto)]
 
-mod build;
-mod expect;
-mod fault;
+mod definitions;
+mod inputs;
 pub mod laws;
+mod outputs;
 mod parser;
-mod peek;
-mod rows;
-mod tasks;
+mod processes;
+mod sections;
 #[cfg(test)]
 mod tests;
+mod tops;
+mod workflows;
 
-pub use fault::ParseFault;
+pub use nf_exprs::ParseFault;
 pub use parser::script;

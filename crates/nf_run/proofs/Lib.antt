@@ -1,4 +1,3 @@
 pub mod Chains
-pub mod Few
 pub mod Nothing
 pub mod Tasks

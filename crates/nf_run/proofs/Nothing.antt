@@ -2,7 +2,7 @@
 use Rattle.std.proofs.Common.{◌≤◌, ℕ, List, [], ◌∷◌, length, Option, Some, None, IfSome, refl, arith}
 use Rattle.nf_job.specs.declared.report.Report.{Report}
 use Rattle.nf_lane.specs.World.{World}
-use Rattle.nf_run.specs.Form.{Form}
+use Rattle.nf_forms.specs.Form.{Form}
 use Rattle.nf_run.specs.Run.{AreBooked}
 
 untold : (world : Option World) → IfSome world (λ w. Unit {0})

@@ -9,7 +9,7 @@ use Rattle.nf_core.specs.declared.event.Outside.TheVariants.{Lane}
 use Rattle.nf_core.specs.Serial as serial
 use Rattle.nf_run.specs.declared.runs.RunFault.{RunFault}
 use Rattle.nf_run.specs.declared.runs.RunFault.TheVariants as fault
-use Rattle.nf_run.specs.Form.{tasks}
+use Rattle.nf_forms.specs.Form.{tasks}
 use Rattle.nf_run.specs.Meaning.{process_rules}
 use Rattle.nf_run.specs.Run.{RunGives, RunFails, HasTaskFault, IsFaultBy, NoneFell}
 

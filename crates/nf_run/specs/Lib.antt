@@ -1,4 +1,2 @@
-pub mod Form
 pub mod Meaning
 pub mod Run
-pub mod View

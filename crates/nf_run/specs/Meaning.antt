@@ -1,9 +1,9 @@
 -- What a script means under outcomes, with no item in motion.
-use Rattle.std.specs.Prelude.{ℤ, List, [], ◌∷◌, Ok, Err}
+use Rattle.std.specs.Prelude.{ℤ, List, [], ◌∷◌, Ok, Err, map}
 use Rattle.nf_value.specs.Plain.{Plain, int, null}
 use Rattle.nf_value.specs.declared.fault.EvalFault.{EvalFault}
 use Rattle.nf_job.specs.declared.fault.TaskFault.{TaskFault}
-use Rattle.nf_ast.specs.Tree.{Tree, cons, number}
+use Rattle.nf_eval.specs.Tree.{SumTree}
 use Rattle.nf_eval.specs.Sum.{sum_of}
 use Rattle.nf_process.specs.declared.process.ProcessSpec.{ProcessSpec}
 use Rattle.nf_process.specs.Parts.{parts_of}
@@ -11,7 +11,7 @@ use Rattle.nf_process.specs.Outcome.{outputs_of}
 use Rattle.nf_core.specs.Chain.{Answered, Imaged, images}
 use Rattle.nf_core.specs.Rules.{Rules, rules_by}
 use Rattle.nf_core.specs.Tasks.{Instance, Outcomes, Meaning, meaning}
-use Rattle.nf_run.specs.Form.{Form, chain, tasks}
+use Rattle.nf_forms.specs.Form.{Form, chain, tasks}
 
 -- ---- a chain
 
@@ -24,18 +24,13 @@ int_answer (Ok n) = Ok (int n)
 int_answer (Err f) = Err f
 
 -- the sum's value where `it` is the item, a number
-abbrev pub answer : Tree → Plain → Answered Plain
+abbrev pub answer : SumTree → Plain → Answered Plain
 answer sum (int i) = int_answer (sum_of sum i)
 answer sum _ = Ok null
 
--- the values of the numbers
-abbrev pub numbers : Tree → List Plain
-numbers (cons (number p n) xs) = int n ∷ numbers xs
-numbers _ = []
-
 -- the images of the numbers, or the first that has a fault
-abbrev pub chain_images : Tree → Tree → Imaged
-chain_images ns sum = images (answer sum) (numbers ns)
+abbrev pub chain_images : List ℤ → SumTree → Imaged
+chain_images ns sum = images (answer sum) (map int ns)
 
 -- ---- tasks
 

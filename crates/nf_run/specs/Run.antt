@@ -8,8 +8,6 @@ use Rattle.nf_host.specs.Faults.{Rose}
 use Rattle.nf_job.specs.declared.fault.TaskFault.{TaskFault}
 use Rattle.nf_job.specs.declared.fault.TaskFault.TheVariants.{BadStdout}
 use Rattle.nf_job.specs.declared.report.Report.{Report}
-use Rattle.nf_ast.specs.Chain.{are_numbers, is_sum}
-use Rattle.nf_ast.specs.Tasks.{most_items}
 use Rattle.nf_core.specs.declared.event.Event.{Event}
 use Rattle.nf_core.specs.declared.event.Stop.{Stop}
 use Rattle.nf_core.specs.declared.event.Stop.TheVariants as stop
@@ -23,7 +21,7 @@ use Rattle.nf_core.specs.Going.{IsBooked}
 use Rattle.nf_lane.specs.World.{World}
 use Rattle.nf_run.specs.declared.runs.RunFault.{RunFault}
 use Rattle.nf_run.specs.declared.runs.RunFault.TheVariants as fault
-use Rattle.nf_run.specs.Form.{Form, chain, tasks}
+use Rattle.nf_forms.specs.Form.{Form, chain, tasks}
 use Rattle.nf_run.specs.Meaning.{ScriptMeaning, script_meaning, process_rules}
 
 -- ---- the form's machine
@@ -124,12 +122,6 @@ OnLane fault.Lane rose = rose
 OnLane (fault.Item item f) rose = Unit {0}
 OnLane (fault.Task process inputs n f) rose = Unit {0}
 OnLane fault.Mem rose = Unit {0}
-
--- ---- what can be run
-
-abbrev pub IsRunnable : Form → Type 0
-IsRunnable (chain ns sum) = (are_numbers ns ≡ true) × (is_sum sum ≡ true)
-IsRunnable (tasks s xs) = length xs ≤ most_items
 
 -- the fault of a chain as that of a run
 abbrev pub fault_of_chain : ChainFault → RunFault

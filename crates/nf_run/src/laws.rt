@@ -1,7 +1,7 @@
 //! Laws of the definitions.
 
 ghost use Rattle.std.specs.Prelude.{◌≤◌, [], length};
-ghost use Rattle.nf_run.specs.Form.{Form};
+ghost use Rattle.nf_forms.specs.Form.{Form};
 ghost use Rattle.nf_run.specs.Run.{AreBooked, NoneFell};
 
 use nf_lane::Lane;

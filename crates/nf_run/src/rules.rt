@@ -1,12 +1,12 @@
 //! What answers the items of a chain, and the tasks of a process.
 
-ghost use Rattle.std.specs.Prelude.{◌≡◌, true, IfOk};
-ghost use Rattle.nf_ast.specs.View.{view, views};
-ghost use Rattle.nf_ast.specs.Chain.{is_sum, are_numbers};
-ghost use Rattle.nf_run.specs.Meaning.{answer, IsNumber, process_rules, numbers as numbers_of};
+ghost use Rattle.std.specs.Prelude.{◌≡◌, IfOk, map};
+ghost use Rattle.nf_value.specs.Plain.{int};
+ghost use Rattle.nf_eval.specs.View.{view};
+ghost use Rattle.nf_run.specs.Meaning.{answer, IsNumber, process_rules};
 
-use nf_ast::Expr;
 use nf_core::{Rules, TaskRules};
+use nf_eval::{Sum, sum};
 use nf_job::{Job, Outputs, Report, TaskRefusal};
 use nf_process::{ProcessSpec, emit_of, laws};
 use nf_value::{EvalRefusal, Mem, Vals, Value};
@@ -15,19 +15,19 @@ use std::alloc::Global;
 /// The answers of a sum, where `it` is the item.
 #[derive(Clone, Copy)]
 pub struct SumRules<'a> {
-    pub sum: &'a Expr,
+    pub sum: &'a Sum,
 }
 
 impl Rules for SumRules<'_> {
     ghost gives = { λ s. answer (view s.sum.now) };
 
-    ghost takes = { λ s item. (is_sum (view s.sum.now) ≡ true) × IsNumber item };
+    ghost takes = { λ s item. IsNumber item };
 
     fn gives(&self, _alloc: Global, item: &Value) -> Result<Value, EvalRefusal> {
         let Value::Int(number) = item else {
             unreachable!()
         };
-        match nf_eval::sum(self.sum, *number) {
+        match sum(self.sum, *number) {
             Ok(value) => Ok(Value::Int(value)),
             Err(fault) => Err(EvalRefusal::Fault(fault)),
         }
@@ -39,15 +39,12 @@ impl Rules for SumRules<'_> {
 /// # Errors
 ///
 /// `Mem` where there is no memory for them.
-pub fn numbers(alloc: Global, exprs: &[Expr]) -> Result<Vals, Mem>
-    requires { are_numbers (views exprs.now) ≡ true }
-    ensures { IfOk result (λ v. v ≡ numbers_of (views exprs.now)) }
+pub fn values(alloc: Global, numbers: &[i64]) -> Result<Vals, Mem>
+    ensures { IfOk result (λ v. v ≡ map int numbers.now) }
 {
-    let mut values = Vec::with_capacity(alloc, exprs.len())?;
-    for expr in exprs {
-        if let Expr::Number(_, value) = expr {
-            values.push(Value::Int(*value))?;
-        }
+    let mut values = Vec::with_capacity(alloc, numbers.len())?;
+    for number in numbers {
+        values.push(Value::Int(*number))?;
     }
     Ok(Vals::of(values))
 }

@@ -1,21 +1,20 @@
 //! The run of a script.
 
 ghost use Rattle.std.specs.Prelude.{◌≡◌, ℕ, ◌+◌, ◌<◌, ◌≤◌, ◌^◌, [], true, length, map, sum_by, All, IfErr, Ok};
-ghost use Rattle.nf_ast.specs.View.{view, views};
-ghost use Rattle.nf_ast.specs.Chain.{is_sum, are_numbers};
-ghost use Rattle.nf_ast.specs.Tasks.{most_items};
+ghost use Rattle.nf_eval.specs.View.{view};
+ghost use Rattle.nf_forms.specs.Built.{most_items};
+ghost use Rattle.nf_forms.specs.Form.{chain, tasks};
+ghost use Rattle.nf_forms.specs.View.{view_plan};
 ghost use Rattle.nf_core.specs.Chain.{Answered};
 ghost use Rattle.nf_core.specs.Outcome.{Chained};
 ghost use Rattle.nf_core.specs.Machine.{starts as starts_of};
-ghost use Rattle.nf_run.specs.Form.{chain, tasks};
 ghost use Rattle.nf_run.specs.Meaning.{chain_images};
-ghost use Rattle.nf_run.specs.Run.{AreBooked, fault_of_chain, IsFaultBy, IsHistoryOf, IsRunnable, NoneFell, OneRose, OnLane, RunGives};
-ghost use Rattle.nf_run.specs.View.{view_plan};
+ghost use Rattle.nf_run.specs.Run.{AreBooked, fault_of_chain, IsFaultBy, IsHistoryOf, NoneFell, OneRose, OnLane, RunGives};
 
-use crate::plans::Plan;
-use crate::rules::{ProcessRules, SumRules, numbers};
-use nf_ast::Chain;
+use crate::rules::{ProcessRules, SumRules, values};
 use nf_core::{ChainFault, Event, Stop, TasksEnd, serial};
+use nf_eval::Sum;
+use nf_forms::Plan;
 use nf_job::TaskFault;
 use nf_lane::{Kept, Lane};
 use nf_process::ProcessSpec;
@@ -56,8 +55,7 @@ pub struct Ran<L: Lane> {
 
 /// Runs a plan. Its tasks run on the first of the lanes, one after another in the order of the items; after a failing task, or
 /// where the lane failed, no further item is taken (own).
-pub fn run_plan<L: Lane>(alloc: Global, plan: &Plan<'_>, lanes: &mut Vec<L>) -> Ran<L>
-    requires runnable { IsRunnable (view_plan plan.now) }
+pub fn run_plan<L: Lane>(alloc: Global, plan: &Plan, lanes: &mut Vec<L>) -> Ran<L>
     requires some { 1 ≤ length lanes.old.items }
     requires room { All (λ l. L.runs l < 2 ^ 62) lanes.old.items }
     // Each event is legal in the state before it.
@@ -74,18 +72,16 @@ pub fn run_plan<L: Lane>(alloc: Global, plan: &Plan<'_>, lanes: &mut Vec<L>) -> 
     ensures later { NoneFell L.faults lanes.old.items lanes.new.items }
 {
     match plan {
-        Plan::Chain(chain) => run_chain(alloc, chain),
-        Plan::Tasks(spec, items) => run_tasks(alloc, spec, items, lanes),
+        Plan::Chain(numbers, sum) => run_chain(alloc, numbers, sum),
+        Plan::Tasks(spec, items) => run_tasks(alloc, spec, items.list(), lanes),
     }
 }
 
-/// The images of a chain's numbers. It has no tasks.
-fn run_chain<L: Lane>(alloc: Global, parts: &Chain<'_>) -> Ran<L>
-    requires numbers { are_numbers (views parts.now.numbers.now) ≡ true }
-    requires sum { is_sum (view parts.now.sum.now) ≡ true }
+/// The images of a chain's numbers by its sum. It has no tasks.
+fn run_chain<L: Lane>(alloc: Global, numbers: &[i64], sum: &Sum) -> Ran<L>
     ensures history { result.history.items ≡ [] }
     ensures kept { result.kept.dones.items ≡ [] }
-    ensures gives { RunGives (chain (views parts.now.numbers.now) (view parts.now.sum.now)) [] result.outcome }
+    ensures gives { RunGives (chain numbers.now (view sum.now)) [] result.outcome }
     ensures no_lane { IfErr result.outcome (λ e. OnLane e ⊥) }
 {
     Ran {
@@ -93,31 +89,27 @@ fn run_chain<L: Lane>(alloc: Global, parts: &Chain<'_>) -> Ran<L>
         kept: Kept {
             dones: Vec::new(alloc),
         },
-        outcome: chain_outcome(alloc, parts),
+        outcome: chain_outcome(alloc, numbers, sum),
     }
 }
 
 /// What the view of a chain gets.
-fn chain_outcome(alloc: Global, parts: &Chain<'_>) -> Result<Vals, RunFault>
-    requires numbers { are_numbers (views parts.now.numbers.now) ≡ true }
-    requires sum { is_sum (view parts.now.sum.now) ≡ true }
-    ensures gives { RunGives (chain (views parts.now.numbers.now) (view parts.now.sum.now)) [] result }
+fn chain_outcome(alloc: Global, numbers: &[i64], sum: &Sum) -> Result<Vals, RunFault>
+    ensures gives { RunGives (chain numbers.now (view sum.now)) [] result }
     ensures no_lane { IfErr result (λ e. OnLane e ⊥) }
 {
-    match images(alloc, parts) {
+    match images(alloc, numbers, sum) {
         Ok(items) => Ok(items),
         Err(fault) => Err(item_fault(fault)),
     }
 }
 
-/// The images of a chain's numbers.
-fn images(alloc: Global, parts: &Chain<'_>) -> Result<Vals, ChainFault>
-    requires numbers { are_numbers (views parts.now.numbers.now) ≡ true }
-    requires sum { is_sum (view parts.now.sum.now) ≡ true }
-    ensures { Chained (chain_images (views parts.now.numbers.now) (view parts.now.sum.now)) result }
+/// The images of a chain's numbers by its sum.
+fn images(alloc: Global, numbers: &[i64], sum: &Sum) -> Result<Vals, ChainFault>
+    ensures { Chained (chain_images numbers.now (view sum.now)) result }
 {
-    let items = numbers(alloc, parts.numbers)?;
-    nf_core::chain(alloc, &items, &SumRules { sum: parts.sum })
+    let items = values(alloc, numbers)?;
+    nf_core::chain(alloc, &items, &SumRules { sum })
 }
 
 fn item_fault(fault: ChainFault) -> RunFault

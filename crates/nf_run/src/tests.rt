@@ -3,10 +3,11 @@
 ghost use Rattle.std.specs.Prelude.{◌≡◌, ◌<◌, ◌≤◌, ◌^◌, All, IfOk, length};
 ghost use Rattle.nf_lane.specs.TableLane.{runs_of};
 
-use crate::{Ran, RunFault, laws, plan_of, run_plan, starts};
-use nf_ast::{Expr, Process, Script, Stmt, Top, Workflow};
+use crate::{Ran, RunFault, laws, run_plan, starts};
+use nf_forms::{Items, Plan};
 use nf_job::{Captured, Found, Report};
 use nf_lane::{Table, TableLane};
+use nf_process::{Piece, Pieces, ProcessSpec};
 use nf_value::{Mem, Place, Txt, Vals, Value, text_of};
 use std::alloc::Global;
 use std::test::Fail;
@@ -17,49 +18,19 @@ fn text(alloc: Global, from: &str) -> Result<Txt, Mem> {
     Ok(Txt::of(String::from_str(alloc, from)?))
 }
 
-fn name(alloc: Global, from: &str) -> Result<Expr, Mem> {
-    Ok(Expr::name(AT, text(alloc, from)?))
-}
-
-/// `"printf $x"`
-fn printf(alloc: Global) -> Result<Expr, Mem> {
-    let before = Expr::text(AT, text(alloc, "printf ")?);
-    let parts = vec![in alloc; before, name(alloc, "x")?]?;
-    Ok(Expr::template(AT, parts))
-}
-
-/// `of.word(args)`
-fn method(alloc: Global, of: Expr, word: &str, args: Vec<Expr>) -> Result<Expr, Mem> {
-    let word = text(alloc, word)?;
-    let property = Expr::property(alloc, AT, of, word)?;
-    Expr::call(alloc, AT, property, args)
-}
-
-/// `P(channel.of('a', 'b')).view()`
-fn viewed(alloc: Global) -> Result<Expr, Mem> {
-    let first = Expr::text(AT, text(alloc, "a")?);
-    let second = Expr::text(AT, text(alloc, "b")?);
-    let items = vec![in alloc; first, second]?;
-    let source = method(alloc, name(alloc, "channel")?, "of", items)?;
-    let args = vec![in alloc; source]?;
-    let called = Expr::call(alloc, AT, name(alloc, "P")?, args)?;
-    method(alloc, called, "view", Vec::new(alloc))
-}
-
-/// The process P with its workflow.
-fn with_a_process(alloc: Global) -> Result<Script, Mem> {
-    let process = Process {
-        place: AT,
-        name_place: AT,
+/// The process P, whose script is `"printf $x"`, over `'a'` and `'b'`.
+fn with_a_process(alloc: Global) -> Result<Option<Plan>, Mem> {
+    let before = Piece::Text(text(alloc, "printf ")?);
+    let pieces = vec![in alloc; before, Piece::Input]?;
+    let spec = ProcessSpec {
         name: text(alloc, "P")?,
-        input_place: AT,
-        input: text(alloc, "x")?,
-        script: printf(alloc)?,
+        input: AT,
+        script: Pieces::of(pieces),
     };
-    let body = vec![in alloc; Stmt::expr(viewed(alloc)?)]?;
-    let workflow = Workflow { place: AT, body };
-    let tops = vec![in alloc; Top::Process(process), Top::Workflow(workflow)]?;
-    Ok(Script { tops })
+    let first = Value::Text(text(alloc, "a")?);
+    let second = Value::Text(text(alloc, "b")?);
+    let items = Vals::of(vec![in alloc; first, second]?);
+    Ok(Items::of(items).map(|items| Plan::Tasks(spec, items)))
 }
 
 /// A lane that knows the job of `'a'`.
@@ -115,11 +86,9 @@ fn shown(alloc: Global, outcome: Result<Vals, RunFault>) -> Result<String, Fail>
 #[test]
 fn runs_up_to_a_failing_task(rt: HostRuntime) -> Result<(), Fail> {
     let alloc = rt.alloc();
-    let script = with_a_process(alloc)?;
-    if script.tasks().is_none() {
-        return Err(Fail::from("no process"));
-    }
-    let plan = plan_of(alloc, &script)?;
+    let Some(plan) = with_a_process(alloc)? else {
+        return Err(Fail::from("too many items"));
+    };
     let mut lanes = lanes(alloc)?;
     laws::nothing_is_booked(lanes.as_slice());
     let Ran {

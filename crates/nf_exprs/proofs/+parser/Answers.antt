@@ -7,9 +7,9 @@ use Rattle.nf_grammar.specs.Gram.{rule, gives, ◌>>=◌}
 use Rattle.nf_grammar.specs.Parts.{no_next}
 use Rattle.nf_grammar.specs.Outcome.{got, too_deep}
 use Rattle.nf_grammar.proofs.Short.{ret, seq, off, stop, sees, stops, maybe_not, maybe_is, ruled, fails}
-use Rattle.nf_tree.specs.Tree as tree
-use Rattle.nf_tree.specs.Tree.{Tree}
-use Rattle.nf_tree.specs.View as view
+use Rattle.nf_ast.specs.Tree as tree
+use Rattle.nf_ast.specs.Tree.{Tree}
+use Rattle.nf_ast.specs.View as view
 use Rattle.nf_exprs.specs.declared.band.Band.TheVariants as band
 use Rattle.nf_exprs.specs.Level.{Expr, Operands, Pre, Post, Prim, Args, Arg, Pair, Closure, Body, Stmt, Choice}
 use Rattle.nf_exprs.specs.Tokens.{mark_of, keyword_of, name_of, open_template, close_template, close_hole, colon, no_start, no_post, labels, assigns, items_end, body_ends}

@@ -1,7 +1,7 @@
 use Rattle.std.proofs.Common.{length, map, ℕ, ◌+◌, ◌*◌, ◌≤◌, ◌<◌}
 use Rattle.nf_grammar.specs.Gram.{rule, many}
 use Rattle.nf_grammar.specs.Parts.{no_next}
-use Rattle.nf_tree.specs.View.{view, views, view_arg, view_pair, view_piece, view_label, view_stmts, view_operand, operands, prefixes, trees}
+use Rattle.nf_ast.specs.View.{view, views, view_arg, view_pair, view_piece, view_label, view_stmts, view_operand, operands, prefixes, trees}
 use Rattle.nf_exprs.specs.declared.band.Band.{Band}
 use Rattle.nf_exprs.specs.declared.band.Band.TheVariants as band
 use Rattle.nf_exprs.specs.Level.{Expr, Pre, Arg, Pair}

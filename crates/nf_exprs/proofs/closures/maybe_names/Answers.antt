@@ -1,7 +1,7 @@
 use Rattle.std.proofs.Common.{sym, ap, ◌∙◌}
 use Rattle.nf_grammar.specs.Parts.{no_next}
 use Rattle.nf_grammar.proofs.Short.{off, sees, maybe_not, maybe_is}
-use Rattle.nf_tree.specs.View as view
+use Rattle.nf_ast.specs.View as view
 use Rattle.nf_exprs.specs.Level.{Prim}
 use Rattle.nf_exprs.specs.Tokens.{name_of}
 use Rattle.nf_exprs.specs.Rules as row

@@ -1,7 +1,7 @@
 use Rattle.std.proofs.Common.{suc, length, ap, arith}
 use Rattle.std.proofs.lemmas.Result.{err_from_is_err_and}
 use Rattle.nf_grammar.proofs.Short.{off, stop, stops}
-use Rattle.nf_tree.specs.View as view
+use Rattle.nf_ast.specs.View as view
 use Rattle.nf_exprs.specs.Level.{Prim}
 use Rattle.nf_exprs.specs.Tokens.{name_of}
 use Rattle.nf_exprs.specs.Rules as row

@@ -1,6 +1,6 @@
 use Rattle.std.proofs.Common.{length, ℕ, ◌<◌}
 use Rattle.nf_grammar.specs.Gram.{many}
-use Rattle.nf_tree.specs.View.{names}
+use Rattle.nf_ast.specs.View.{names}
 use Rattle.nf_exprs.specs.Tokens.{name_of}
 use Rattle.nf_exprs.specs.Rules.{comma_then, no_comma, kind}
 use Rattle.nf_exprs.specs.Rules as row

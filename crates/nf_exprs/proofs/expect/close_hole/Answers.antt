@@ -1,4 +1,4 @@
-use Rattle.nf_tree.specs.Tree.{point}
+use Rattle.nf_ast.specs.Tree.{point}
 use Rattle.nf_exprs.specs.Tokens.{close_hole}
 use Rattle.nf_exprs.proofs.Steps.{expected}
 use Rattle.nf_exprs.proofs.expect.close_hole.Goals as goal

@@ -1,4 +1,4 @@
-use Rattle.nf_tree.specs.Tree.{name}
+use Rattle.nf_ast.specs.Tree.{name}
 use Rattle.nf_exprs.specs.Tokens.{name_of}
 use Rattle.nf_exprs.proofs.Steps.{expected}
 use Rattle.nf_exprs.proofs.expect.name.Goals as goal

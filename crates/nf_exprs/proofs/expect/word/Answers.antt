@@ -1,4 +1,4 @@
-use Rattle.nf_tree.specs.Tree.{name}
+use Rattle.nf_ast.specs.Tree.{name}
 use Rattle.nf_exprs.specs.Tokens.{word_of}
 use Rattle.nf_exprs.proofs.Steps.{expected}
 use Rattle.nf_exprs.proofs.expect.word.Goals as goal

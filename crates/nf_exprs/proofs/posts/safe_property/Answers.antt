@@ -2,9 +2,9 @@ use Rattle.std.proofs.Common.{ℕ, List, ap, ◌∙◌}
 use Rattle.std.proofs.lemmas.Result.{err_from_is_err_and}
 use Rattle.nf_lexer.specs.declared.token.Mark.TheVariants as m
 use Rattle.nf_grammar.proofs.Short.{ret, seq, stop, sees}
-use Rattle.nf_tree.specs.Tree as tree
-use Rattle.nf_tree.specs.Tree.{Tree}
-use Rattle.nf_tree.specs.View as view
+use Rattle.nf_ast.specs.Tree as tree
+use Rattle.nf_ast.specs.Tree.{Tree}
+use Rattle.nf_ast.specs.View as view
 use Rattle.nf_exprs.specs.Level.{Prim}
 use Rattle.nf_exprs.specs.Tokens.{mark_of, name_of}
 use Rattle.nf_exprs.specs.Rules as row

@@ -1,8 +1,8 @@
 use Rattle.std.proofs.Common.{ℕ, List, refl, ap}
 use Rattle.std.proofs.lemmas.Result.{err_from_is_err_and}
 use Rattle.nf_grammar.proofs.Short.{ret, seq, off, stop, sees}
-use Rattle.nf_tree.specs.Tree as tree
-use Rattle.nf_tree.specs.Tree.{Tree}
+use Rattle.nf_ast.specs.Tree as tree
+use Rattle.nf_ast.specs.Tree.{Tree}
 use Rattle.nf_exprs.specs.Level.{Prim}
 use Rattle.nf_exprs.specs.Tokens.{close_template}
 use Rattle.nf_exprs.specs.Rules as row

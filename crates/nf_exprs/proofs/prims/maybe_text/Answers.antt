@@ -1,7 +1,7 @@
 use Rattle.std.proofs.Common.{ℕ, List, refl, ap}
 use Rattle.nf_grammar.proofs.Short.{ret, off, sees, maybe_not, maybe_is}
-use Rattle.nf_tree.specs.Tree as tree
-use Rattle.nf_tree.specs.Tree.{Tree}
+use Rattle.nf_ast.specs.Tree as tree
+use Rattle.nf_ast.specs.Tree.{Tree}
 use Rattle.nf_exprs.specs.Level.{Prim}
 use Rattle.nf_exprs.proofs.Steps.{comes, took}
 use Rattle.nf_exprs.proofs.prims.maybe_text.Goals as goal

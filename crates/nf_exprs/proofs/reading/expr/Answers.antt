@@ -2,7 +2,7 @@ use Rattle.std.proofs.Common.{◌-◌, length, drop, ap, ◌∙◌, List, subst}
 use Rattle.nf_lexer.specs.declared.token.Lexeme.{Lexeme}
 use Rattle.nf_grammar.specs.Gram.{rule}
 use Rattle.nf_grammar.specs.Outcome.{got}
-use Rattle.nf_tree.specs.View.{view}
+use Rattle.nf_ast.specs.View.{view}
 use Rattle.nf_exprs.specs.Level.{Expr}
 use Rattle.nf_exprs.specs.Parses.{Outcome}
 use Rattle.nf_exprs.specs.Spells.{first_place}

@@ -1,0 +1,42 @@
+-- What of a script is built: what a part stands for, or the first place, in the order of the text, of what isn't built.
+use Rattle.std.specs.Prelude.{◌≡◌, ℕ, Option, Some, None, Result, Ok, Err}
+use Rattle.nf_value.specs.declared.place.Place.{Place}
+use Rattle.nf_forms.specs.declared.fault.FormFault.{FormFault}
+use Rattle.nf_forms.specs.declared.fault.FormFault.TheVariants as fault
+
+abbrev pub Built : Type 0 → Type 0
+Built A = Result A Place
+
+infixl 10 ◌>>=◌
+abbrev pub ◌>>=◌ : {A B : Type 0} → Built A → (A → Built B) → Built B
+(Ok x) >>= f = f x
+(Err p) >>= f = Err p
+
+-- a part, and then something at this place that isn't built
+abbrev pub then_at : {A B : Type 0} → Built A → Place → Built B
+then_at (Ok x) p = Err p
+then_at (Err q) p = Err q
+
+-- a part, and then something at this place, where there is something
+abbrev pub unless : {A : Type 0} → Option Place → A → Built A
+unless None x = Ok x
+unless (Some p) x = Err p
+
+-- each part of a list; at most so many
+abbrev pub most_items : ℕ
+most_items = 10000
+
+-- the place of the script's first letter
+abbrev pub first_place : Place
+first_place = record { line = 1; col = 1 }
+
+-- an answer is what is built, or names the place; or memory ran out
+abbrev pub Builds : {A X : Type 0} → (X → A) → Built A → Result X FormFault → Type 0
+Builds see due (Ok x) = due ≡ Ok (see x)
+Builds see due (Err (fault.Unbuilt p)) = due ≡ Err p
+Builds see due (Err fault.Mem) = Unit {0}
+
+-- the same where no memory is asked for
+abbrev pub Names : {A X : Type 0} → (X → A) → Built A → Result X Place → Type 0
+Names see due (Ok x) = due ≡ Ok (see x)
+Names see due (Err p) = due ≡ Err p

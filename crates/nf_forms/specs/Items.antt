@@ -1,0 +1,76 @@
+-- The items of `channel.of(..)`, and the script of a process: literals.
+use Rattle.std.specs.Prelude.{ℤ, ℕ, suc, Bool, true, false, nat_lt, List, [], ◌∷◌, Option, Some, None, Ok, Err, bytes_eq, if◌then◌else◌}
+use Rattle.nf_value.specs.declared.place.Place.{Place}
+use Rattle.nf_value.specs.Plain.{Plain}
+use Rattle.nf_value.specs.Plain as plain
+use Rattle.nf_ast.specs.Tree as tree
+use Rattle.nf_ast.specs.Tree.{Tree}
+use Rattle.nf_process.specs.declared.template.Piece.{Piece}
+use Rattle.nf_process.specs.declared.template.Piece.TheVariants as piece
+use Rattle.nf_forms.specs.Built.{Built, ◌>>=◌, unless, most_items}
+use Rattle.nf_forms.specs.Leaf.{LeafTree, First, number, text, template, name, leaf_of, begins_at}
+
+-- ---- items
+
+abbrev pub number_in : LeafTree → First → Built ℤ
+number_in l (number n) = unless l.after n
+number_in l _ = Err l.place
+
+-- a number alone
+abbrev pub number_item : Tree → Built ℤ
+number_item e = number_in (leaf_of e) (leaf_of e).first
+
+abbrev pub plain_in : LeafTree → First → Built Plain
+plain_in l (number n) = unless l.after (plain.int n)
+plain_in l (text s) = unless l.after (plain.text s)
+plain_in l _ = Err l.place
+
+-- a number or a plain string alone
+abbrev pub plain_item : Tree → Built Plain
+plain_item e = plain_in (leaf_of e) (leaf_of e).first
+
+abbrev pub within : {A : Type 0} → ℕ → Tree → Built A → Built A
+within n x b = if nat_lt n most_items then b else Err (begins_at x)
+
+-- each argument, after so many others
+abbrev pub each : {A : Type 0} → (Tree → Built A) → ℕ → Tree → Built (List A)
+each item n (tree.cons x xs) = within n x (item x) >>= λ v. each item (suc n) xs >>= λ vs. Ok (v ∷ vs)
+each item n _ = Ok []
+
+-- no argument, and the one argument
+abbrev pub is_empty : Tree → Bool
+is_empty tree.empty = true
+is_empty _ = false
+
+abbrev pub single : Tree → Option Tree
+single (tree.cons x tree.empty) = Some x
+single _ = None
+
+-- at least one; the name of the method has this place
+abbrev pub some_items : {A : Type 0} → (Tree → Built A) → Place → Tree → Built (List A)
+some_items item p xs = if is_empty xs then Err p else each item 0 xs
+
+-- ---- scripts of processes
+
+abbrev pub input_in : List ℕ → LeafTree → First → Built Piece
+input_in input l (name n) = if bytes_eq n input then unless l.after piece.Input else Err l.place
+input_in input l _ = Err l.place
+
+-- a text, or a hole that is the input's name alone
+abbrev pub piece_from : List ℕ → Tree → Built Piece
+piece_from input (tree.piece p s) = Ok (piece.Text s)
+piece_from input (tree.hole p e) = input_in input (leaf_of e) (leaf_of e).first
+piece_from input e = Err (begins_at e)
+
+abbrev pub pieces_from : List ℕ → Tree → Built (List Piece)
+pieces_from input (tree.cons x xs) = piece_from input x >>= λ v. pieces_from input xs >>= λ vs. Ok (v ∷ vs)
+pieces_from input _ = Ok []
+
+abbrev pub script_in : List ℕ → LeafTree → First → Built (List Piece)
+script_in input l (text s) = unless l.after (piece.Text s ∷ [])
+script_in input l (template xs) = pieces_from input xs >>= unless l.after
+script_in input l _ = Err l.place
+
+-- a string alone
+abbrev pub script_from : List ℕ → Tree → Built (List Piece)
+script_from input e = script_in input (leaf_of e) (leaf_of e).first

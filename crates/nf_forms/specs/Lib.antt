@@ -1,0 +1,10 @@
+pub mod Built
+pub mod Leaf
+pub mod Items
+pub mod Sums
+pub mod Links
+pub mod Chains
+pub mod Processes
+pub mod Naming
+pub mod Form
+pub mod View

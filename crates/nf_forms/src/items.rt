@@ -1,0 +1,205 @@
+//! Literals: the items of `channel.of(..)`, and the script of a process.
+
+ghost use Rattle.std.specs.Prelude.{◌≡◌, ◌≤◌, ◌↔◌, IfSome, IsSome, map, option_map, length};
+ghost use Rattle.nf_value.specs.View.{plain_of};
+ghost use Rattle.nf_ast.specs.View.{view, view_arg, view_piece, trees};
+ghost use Rattle.nf_forms.specs.Built.{Builds, most_items, unless as unless_of};
+ghost use Rattle.nf_forms.specs.Leaf.{view_leaf, view_kind};
+ghost use Rattle.nf_forms.specs.Items.{number_in, number_item, plain_in, plain_item, is_empty, single as single_of, some_items, each, input_in, piece_from, pieces_from, script_from};
+ghost use Rattle.nf_forms.specs.Processes.{task_from};
+
+use crate::fault::FormFault;
+use crate::leaf::{Kind, Leaf, argument, first_of};
+use nf_ast::{Arg, Expr, Piece as Part};
+use nf_process::{Piece, Pieces};
+use nf_value::{Place, Vals, Value};
+use std::alloc::Global;
+
+/// How many items `of` takes at most (own).
+const MOST_ITEMS: usize = 10000;
+
+/// Some items, at most 10,000.
+#[derive(Drop)]
+pub struct Items {
+    list: Vals,
+    ghost few: { length list ≤ most_items },
+}
+
+impl Items {
+    /// These items, where there are at most 10,000. Takes no memory.
+    pub fn of(list: Vals) -> Option<Items>
+        ensures some { IfSome result (λ i. i.list ≡ list) }
+        ensures few { IsSome result ↔ (length list ≤ most_items) }
+    {
+        if list.len() <= MOST_ITEMS {
+            Some(Items { list })
+        } else {
+            None
+        }
+    }
+
+    /// The items in their order. Takes no memory.
+    pub fn list(&self) -> &Vals
+        ensures list { result.now ≡ self.now.list }
+        ensures few { length result.now ≤ most_items }
+    {
+        &self.list
+    }
+}
+
+/// A value that stands alone, or the place of what follows it.
+pub fn unless<T: Drop>(after: Option<Place>, value: T) -> Result<T, FormFault>
+    ensures { Builds (λ x. x) (unless_of after value) result }
+{
+    match after {
+        None => Ok(value),
+        Some(place) => Err(FormFault::Unbuilt { place }),
+    }
+}
+
+/// A number alone.
+fn number(leaf: &Leaf<'_>) -> Result<i64, FormFault>
+    ensures { Builds (λ x. x) (number_in (view_leaf leaf.now) (view_kind leaf.now.kind)) result }
+{
+    match &leaf.kind {
+        Kind::Number(number) => unless(leaf.after, *number),
+        _ => Err(FormFault::Unbuilt { place: leaf.place }),
+    }
+}
+
+/// A number or a plain string alone.
+fn plain(leaf: &Leaf<'_>) -> Result<Value, FormFault>
+    ensures { Builds plain_of (plain_in (view_leaf leaf.now) (view_kind leaf.now.kind)) result }
+{
+    match &leaf.kind {
+        Kind::Number(number) => unless(leaf.after, Value::Int(*number)),
+        Kind::Text(text) => {
+            let text = text.copy()?;
+            unless(leaf.after, Value::Text(text))
+        }
+        _ => Err(FormFault::Unbuilt { place: leaf.place }),
+    }
+}
+
+/// Whether there is no argument.
+pub fn are_none(args: &[Arg]) -> bool
+    ensures { result ≡ is_empty (trees (map view_arg args.now)) }
+{
+    match args {
+        [] => true,
+        [_, ..] => false,
+    }
+}
+
+/// The one argument.
+pub fn single(args: &[Arg]) -> Option<&Arg>
+    ensures { option_map (λ a. view_arg a.now) result ≡ single_of (trees (map view_arg args.now)) }
+{
+    match args {
+        [] => None,
+        [only] => Some(only),
+        [_, _, ..] => None,
+    }
+}
+
+/// The numbers of `of`, whose name stands at this place.
+pub fn read_numbers(alloc: Global, of: Place, args: &[Arg]) -> Result<Vec<i64>, FormFault>
+    ensures { Builds (λ v. v.items) (some_items number_item of (trees (map view_arg args.now))) result }
+{
+    if are_none(args) {
+        return Err(FormFault::Unbuilt { place: of });
+    }
+    all_numbers(alloc, args)
+}
+
+/// Numbers, at most 10,000.
+fn all_numbers(alloc: Global, args: &[Arg]) -> Result<Vec<i64>, FormFault>
+    ensures { Builds (λ v. v.items) (each number_item 0 (trees (map view_arg args.now))) result }
+{
+    let mut all = Vec::new(alloc);
+    for arg in args {
+        let leaf = argument(arg);
+        if all.len() >= MOST_ITEMS {
+            return Err(FormFault::Unbuilt { place: leaf.place });
+        }
+        all.push(number(&leaf)?)?;
+    }
+    Ok(all)
+}
+
+/// The numbers and plain strings of `of`, whose name stands at this place.
+pub fn read_items(alloc: Global, of: Place, args: &[Arg]) -> Result<Items, FormFault>
+    ensures { Builds (λ i. i.list) (some_items plain_item of (trees (map view_arg args.now))) result }
+{
+    if are_none(args) {
+        return Err(FormFault::Unbuilt { place: of });
+    }
+    all_items(alloc, args)
+}
+
+/// Numbers and plain strings, at most 10,000.
+fn all_items(alloc: Global, args: &[Arg]) -> Result<Items, FormFault>
+    ensures { Builds (λ i. i.list) (each plain_item 0 (trees (map view_arg args.now))) result }
+{
+    let mut all = Vec::new(alloc);
+    for arg in args {
+        let leaf = argument(arg);
+        if all.len() >= MOST_ITEMS {
+            return Err(FormFault::Unbuilt { place: leaf.place });
+        }
+        all.push(plain(&leaf)?)?;
+    }
+    let list = Vals::of(all);
+    Ok(Items { list })
+}
+
+/// A hole of a script: the input's name alone.
+fn hole(input: &str, leaf: &Leaf<'_>) -> Result<Piece, FormFault>
+    ensures { Builds (λ x. x) (input_in input.now (view_leaf leaf.now) (view_kind leaf.now.kind)) result }
+{
+    match &leaf.kind {
+        Kind::Name(name) if name.as_str() == input => unless(leaf.after, Piece::Input),
+        _ => Err(FormFault::Unbuilt { place: leaf.place }),
+    }
+}
+
+/// A text or a hole of a script.
+fn piece(input: &str, part: &Part) -> Result<Piece, FormFault>
+    ensures { Builds (λ x. x) (piece_from input.now (view_piece part.now)) result }
+{
+    match part {
+        Part::Plain(_, text) => Ok(Piece::Text(text.copy()?)),
+        Part::Hole(_, expr) => hole(input, &first_of(expr)),
+    }
+}
+
+/// The texts and holes of a script.
+fn pieces(alloc: Global, input: &str, parts: &[Part]) -> Result<Pieces, FormFault>
+    ensures { Builds (λ x. x) (pieces_from input.now (trees (map view_piece parts.now))) result }
+{
+    let mut all = Vec::new(alloc);
+    for part in parts {
+        all.push(piece(input, part)?)?;
+    }
+    Ok(Pieces::of(all))
+}
+
+/// The script of a process: a string alone.
+pub fn read_script(alloc: Global, input: &str, expr: &Expr) -> Result<Pieces, FormFault>
+    ensures alone { Builds (λ x. x) (script_from input.now (view expr.now)) result }
+    ensures task { Builds (λ x. x) (task_from input.now (view expr.now)) result }
+{
+    let leaf = first_of(expr);
+    match &leaf.kind {
+        Kind::Text(text) => {
+            let piece = Piece::Text(text.copy()?);
+            let all = vec![in alloc; piece]?;
+            unless(leaf.after, Pieces::of(all))
+        }
+        Kind::Template(parts) => {
+            let all = pieces(alloc, input, parts)?;
+            unless(leaf.after, all)
+        }
+        _ => Err(FormFault::Unbuilt { place: leaf.place }),
+    }
+}

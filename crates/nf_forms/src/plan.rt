@@ -1,0 +1,230 @@
+//! What a script asks for.
+
+ghost use Rattle.std.specs.Prelude.{◌≡◌, None, map};
+ghost use Rattle.nf_ast.specs.View.{view_stmt, trees};
+ghost use Rattle.nf_ast.specs.Tops.{view_top, view_script, view_process, view_workflow, view_workflow_body, view_parts, view_section, view_take, view_emits, maybe};
+ghost use Rattle.nf_forms.specs.Built.{Builds};
+ghost use Rattle.nf_forms.specs.Chains.{view_role, view_made};
+ghost use Rattle.nf_forms.specs.Links.{made_from};
+ghost use Rattle.nf_forms.specs.Form.{form_of, role_of as role_found, no_tops, add as add_of, add_process as add_process_of, add_workflow as add_workflow_of, add_all, whole as whole_of, statement_from, body_from, parts_from, workflow_from};
+ghost use Rattle.nf_forms.specs.View.{view_plan, view_tops};
+
+use crate::fault::FormFault;
+use crate::items::Items;
+use crate::leaf::{expression, statement_place};
+use crate::links::{Made, Role, read_made};
+use crate::processes::read_process;
+use nf_ast::{Parts, Process, Script, Stmt, Top, Workflow, WorkflowBody};
+use nf_eval::Sum;
+use nf_process::ProcessSpec;
+use nf_value::Place;
+use std::alloc::Global;
+
+/// What a script asks for (own). Contracts see its form, by `view_plan`.
+#[derive(Drop)]
+pub enum Plan {
+    /// The images of some numbers, by a sum.
+    Chain(Vec<i64>, Sum),
+    /// The tasks of a process, one for each of these items.
+    Tasks(ProcessSpec, Items),
+}
+
+/// The definitions of a script that were read.
+#[derive(Drop)]
+pub struct Tops {
+    /// Its process.
+    pub process: Option<ProcessSpec>,
+    /// What its workflow makes.
+    pub made: Option<Made>,
+}
+
+/// What a script asks for. There are two forms: `workflow { channel.of(NUMBER, ..).map { SUM }.view() }`, and one process with `workflow {
+/// NAME(channel.of(ITEM, ..)).view() }`, in either order (Nextflow reference documentation, "Syntax", "Workflow" and "Process"; "Channel
+/// factories", `of`; "Operators", `map` and `view`). A SUM has numbers, `it`, `+`, `-` and `*`; an ITEM is a number or a plain string. The
+/// process has no directive and no stub, one input `val NAME`, the output `stdout` without options, and a string as its script, whose
+/// holes are the input's name. Limit (own): 10,000 items. Takes memory for the plan.
+///
+/// # Errors
+///
+/// `Unbuilt` exactly where the script is of no such form, with the first place, in the order of the text, of what isn't built: of a
+/// script without a workflow that of its first letter; of a wrong number of arguments that of the method's name; of a chain that ends
+/// too early where it begins, or its last method's name. `Mem` where there is no memory for the plan.
+pub fn plan_of(alloc: Global, script: &Script) -> Result<Plan, FormFault>
+    ensures { Builds view_plan (form_of (view_script script.now)) result }
+{
+    let role = role_of(&script.tops);
+    let tops = read_tops(alloc, &role, &script.tops)?;
+    whole(tops)
+}
+
+/// A workflow stands by itself, or calls the first process.
+fn role_of(tops: &[Top]) -> Role<'_>
+    ensures { view_role result ≡ role_found (trees (map view_top tops.now)) }
+{
+    for top in tops {
+        if let Top::Process(process) = top {
+            return Role::Calling(process.name.as_str());
+        }
+    }
+    Role::Alone
+}
+
+fn read_tops(alloc: Global, role: &Role<'_>, tops: &[Top]) -> Result<Tops, FormFault>
+    ensures { Builds view_tops (add_all (view_role role.now) (trees (map view_top tops.now)) no_tops) result }
+{
+    let mut all = Tops {
+        process: None,
+        made: None,
+    };
+    for top in tops {
+        all = add(alloc, role, top, all)?;
+    }
+    Ok(all)
+}
+
+/// One more definition.
+fn add(alloc: Global, role: &Role<'_>, top: &Top, all: Tops) -> Result<Tops, FormFault>
+    ensures { Builds view_tops (add_of (view_role role.now) (view_top top.now) (view_tops all)) result }
+{
+    match top {
+        Top::Process(process) => add_process(alloc, process, all),
+        Top::Workflow(workflow) => add_workflow(alloc, role, workflow, all),
+        Top::Function(function) => Err(FormFault::Unbuilt {
+            place: function.place,
+        }),
+        Top::Parameter(parameter) => Err(FormFault::Unbuilt {
+            place: parameter.place,
+        }),
+        Top::Println(place, _) => Err(FormFault::Unbuilt { place: *place }),
+        Top::Log(place, _, _, _) => Err(FormFault::Unbuilt { place: *place }),
+        Top::Dsl(place) => Err(FormFault::Unbuilt { place: *place }),
+    }
+}
+
+fn add_process(alloc: Global, process: &Process, all: Tops) -> Result<Tops, FormFault>
+    ensures { Builds view_tops (add_process_of (view_process process.now) (view_tops all).process (view_tops all).made) result }
+{
+    let Tops {
+        process: None,
+        made,
+    } = all
+    else {
+        return Err(FormFault::Unbuilt {
+            place: process.place,
+        });
+    };
+    let process = read_process(alloc, process)?;
+    Ok(Tops {
+        process: Some(process),
+        made,
+    })
+}
+
+fn add_workflow(
+    alloc: Global,
+    role: &Role<'_>,
+    workflow: &Workflow,
+    all: Tops,
+) -> Result<Tops, FormFault>
+    ensures { Builds view_tops (add_workflow_of (view_role role.now) (view_workflow workflow.now) (view_tops all).process (view_tops all).made) result }
+{
+    let Tops {
+        process,
+        made: None,
+    } = all
+    else {
+        return Err(FormFault::Unbuilt {
+            place: workflow.place,
+        });
+    };
+    let made = read_workflow(alloc, role, workflow)?;
+    Ok(Tops {
+        process,
+        made: Some(made),
+    })
+}
+
+/// What a workflow without a name makes.
+fn read_workflow(alloc: Global, role: &Role<'_>, workflow: &Workflow) -> Result<Made, FormFault>
+    ensures { Builds view_made (workflow_from (view_role role.now) (view_workflow workflow.now)) result }
+{
+    match &workflow.name {
+        None => read_body(alloc, role, workflow.place, &workflow.body),
+        Some(_) => Err(FormFault::Unbuilt {
+            place: workflow.place,
+        }),
+    }
+}
+
+/// What the body of a workflow makes, whose word stands at this place.
+fn read_body(
+    alloc: Global,
+    role: &Role<'_>,
+    place: Place,
+    body: &WorkflowBody,
+) -> Result<Made, FormFault>
+    ensures { Builds view_made (body_from (view_role role.now) place (view_workflow_body body.now)) result }
+{
+    match body {
+        WorkflowBody::Statements(body) => read_statements(alloc, role, place, body),
+        WorkflowBody::Parts(parts) => read_parts(alloc, role, parts),
+    }
+}
+
+/// What the section `main:` makes, which stands alone.
+fn read_parts(alloc: Global, role: &Role<'_>, parts: &Parts) -> Result<Made, FormFault>
+    ensures { Builds view_made (parts_from (view_role role.now) (maybe view_take parts.now.take) (view_section parts.now.main) (maybe view_emits parts.now.emit)) result }
+{
+    if let Some(take) = &parts.take {
+        return Err(FormFault::Unbuilt { place: take.place });
+    }
+    let made = read_statements(alloc, role, parts.main.place, &parts.main.body)?;
+    match &parts.emit {
+        None => Ok(made),
+        Some(emit) => Err(FormFault::Unbuilt { place: emit.place }),
+    }
+}
+
+/// What the one statement of a workflow makes.
+fn read_statements(
+    alloc: Global,
+    role: &Role<'_>,
+    place: Place,
+    body: &[Stmt],
+) -> Result<Made, FormFault>
+    ensures { Builds view_made (statement_from (view_role role.now) place (trees (map view_stmt body.now))) result }
+{
+    match body {
+        [] => Err(FormFault::Unbuilt { place }),
+        [only] => read_statement(alloc, role, only),
+        [first, second, ..] => {
+            read_statement(alloc, role, first)?;
+            Err(FormFault::Unbuilt {
+                place: statement_place(second),
+            })
+        }
+    }
+}
+
+fn read_statement(alloc: Global, role: &Role<'_>, stmt: &Stmt) -> Result<Made, FormFault>
+    ensures { Builds view_made (made_from (view_role role.now) (view_stmt stmt.now)) result }
+{
+    match expression(stmt) {
+        Ok(expr) => read_made(alloc, role, expr),
+        Err(place) => Err(FormFault::Unbuilt { place }),
+    }
+}
+
+/// The plan of a script's definitions.
+fn whole(tops: Tops) -> Result<Plan, FormFault>
+    ensures { Builds view_plan (whole_of (view_tops tops).process (view_tops tops).made) result }
+{
+    let Tops { process, made } = tops;
+    match (process, made) {
+        (None, Some(Made::Chain(numbers, sum))) => Ok(Plan::Chain(numbers, sum)),
+        (Some(process), Some(Made::Call(items))) => Ok(Plan::Tasks(process, items)),
+        _ => Err(FormFault::Unbuilt {
+            place: Place { line: 1, col: 1 },
+        }),
+    }
+}

@@ -1,7 +1,0 @@
-use Rattle.nf_ast.specs.Tree.{name}
-use Rattle.nf_parser.specs.Rules.{any_name}
-use Rattle.nf_parser.proofs.Short.{expected}
-use Rattle.nf_parser.proofs.expect.any_name.Goals as goal
-
-pub returns : goal.returns
-returns c = rw c.ok_or.ensures.value (expected (λ x. name x.0 x.1.now) (λ x. x.2.now) any_name c.args.tokens.now c.any_name.result c.any_name.ensures)

@@ -1,7 +1,0 @@
-use Rattle.nf_ast.specs.Tree.{point}
-use Rattle.nf_parser.specs.Rules.{open_hole}
-use Rattle.nf_parser.proofs.Short.{expected}
-use Rattle.nf_parser.proofs.expect.open_hole.Goals as goal
-
-pub returns : goal.returns
-returns c = rw c.ok_or.ensures.value (expected (λ x. point x.0) (λ x. x.1.now) open_hole c.args.tokens.now c.open_hole.result c.open_hole.ensures)

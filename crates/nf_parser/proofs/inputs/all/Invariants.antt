@@ -1,0 +1,16 @@
+use Rattle.std.proofs.Common.{◌≤◌, ℕ, length, map}
+use Rattle.nf_lexer.specs.declared.token.Lexeme.{Lexeme}
+use Rattle.nf_grammar.specs.Gram.{many}
+use Rattle.nf_grammar.specs.Outcome.{Out}
+use Rattle.nf_ast.specs.Tree.{Tree}
+use Rattle.nf_ast.specs.View.{trees}
+use Rattle.nf_ast.specs.Tops.{view_input}
+use Rattle.nf_exprs.specs.Parses.{Outcome}
+use Rattle.nf_exprs.specs.Rules as row
+use Rattle.nf_parser.proofs.inputs.all.Given as goal
+
+abbrev pub invariant-loop-alloc : goal.invariant-loop-alloc
+invariant-loop-alloc l = (length l.rest ≤ length l.fn.tokens) × (n : ℕ) × ((o : Out Lexeme Tree) → Outcome (many (row.no_word row.input_words) (row.separated (row.some_input)) n (trees (map view_input l.all.items))) l.rest o → Outcome (row.inputs) l.fn.tokens o)
+
+abbrev pub decreases-loop-alloc : goal.decreases-loop-alloc
+decreases-loop-alloc l = length l.rest

@@ -1,0 +1,23 @@
+use Rattle.std.proofs.lemmas.Result.{err_from_is_err_and}
+use Rattle.nf_grammar.proofs.Short.{ret, seq, stop}
+use Rattle.nf_exprs.specs.Rules.{rules}
+use Rattle.nf_exprs.proofs.Steps.{lift_fault}
+use Rattle.nf_exprs.specs.Rules as row
+use Rattle.nf_parser.proofs.inputs.input.Goals as goal
+
+pub returns-in_err-input-clause-parses : goal.returns-in_err-input-clause-parses
+unfolding rules
+returns-in_err-input-clause-parses c =
+    let p = err_from_is_err_and c.from_residual.result c.from_residual.ensures.1 in
+    rw (p.1, p.2) (lift_fault (row.some_input) (row.with_sep row.some_input) _ _ c.in_err-input.field-0.0 (λ o s q. stop o s q) (c.in_err-input.ensures.parses))
+
+pub returns-in_err-rest-clause-parses : goal.returns-in_err-rest-clause-parses
+unfolding rules
+returns-in_err-rest-clause-parses c =
+    let p = err_from_is_err_and c.from_residual-in_err-rest.result c.from_residual-in_err-rest.ensures.1 in
+    rw (p.1, p.2) (lift_fault (row.sep) (row.with_sep row.some_input) _ _ c.in_err-rest.field-0.0 (λ o s q. seq c.in_ok-input.ensures.parses (stop o s q)) (c.in_err-rest.ensures.parses))
+
+pub returns-clause-parses : goal.returns-clause-parses
+unfolding rules
+returns-clause-parses c =
+    seq c.in_ok-input.ensures.parses (seq c.in_ok-rest.ensures.parses ret)

@@ -1,0 +1,36 @@
+use Rattle.std.proofs.Common.{◌≤◌, suc, length, ap, arith, map}
+use Rattle.std.proofs.lemmas.Result.{err_from_is_err_and}
+use Rattle.nf_grammar.specs.Gram.{rule}
+use Rattle.nf_grammar.proofs.Short.{with_acc}
+use Rattle.nf_ast.specs.View.{trees}
+use Rattle.nf_ast.specs.Tops.{view_directive}
+use Rattle.nf_exprs.specs.Rules.{rules}
+use Rattle.nf_exprs.proofs.Steps.{lift_fault, views_push, each_goes, each_stops}
+use Rattle.nf_parser.proofs.Words.{goes_here, ends_here}
+use Rattle.nf_parser.proofs.Stray.{list_ends, directive_misses, directive_at_label}
+use Rattle.nf_exprs.specs.Level as level
+use Rattle.nf_exprs.specs.Tokens as kind
+use Rattle.nf_exprs.specs.Rules as row
+use Rattle.nf_parser.proofs.processes.directives.Goals as goal
+
+pub loop-alloc-init : goal.loop-alloc-init
+unfolding rules
+loop-alloc-init c =
+    (omega arith, 0, λ o p. with_acc (ap (λ xs. trees (map view_directive xs)) c.new-all.ensures.items) p)
+
+pub returns-in_err-directive-clause-parses : goal.returns-in_err-directive-clause-parses
+unfolding rules
+returns-in_err-directive-clause-parses c =
+    let p = err_from_is_err_and c.from_residual.result c.from_residual.ensures.1 in
+    rw (p.1, p.2) (lift_fault (row.with_sep (rule level.Directive)) (row.directives) _ _ c.in_err-directive.field-0.0 (λ o s q. c.loop-alloc.invariant.2 o (each_stops kind.directives_end (row.with_sep (rule level.Directive)) _ _ _ (goes_here _ _ c.starts_name.ensures c.loop-alloc-test.true) o s q)) (c.in_err-directive.ensures.parses))
+
+pub loop-alloc-preserved : goal.loop-alloc-preserved
+unfolding rules
+loop-alloc-preserved c =
+    let shorter : length c.in_ok-directive.after.now ≤ length c.args.tokens.now = omega (arith, c.loop-alloc.invariant.0, c.in_ok-directive.ensures.shorter) in
+    (shorter, suc c.loop-alloc.invariant.1, λ o p. c.loop-alloc.invariant.2 o (each_goes kind.directives_end (row.with_sep (rule level.Directive)) _ _ _ _ _ o (goes_here _ _ c.starts_name.ensures c.loop-alloc-test.true) (c.in_ok-directive.ensures.parses) (with_acc (views_push view_directive _ _ _ c.in_ok-push.ensures.items) p)))
+
+pub returns-clause-parses : goal.returns-clause-parses
+unfolding rules
+returns-clause-parses c =
+    c.loop-alloc.invariant.2 _ (list_ends (rule level.Directive) _ _ _ (ends_here _ _ c.starts_name.ensures c.loop-alloc-test.false) (λ h. directive_misses _ h) (λ l. directive_at_label _ l))

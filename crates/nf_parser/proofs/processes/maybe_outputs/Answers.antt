@@ -1,0 +1,28 @@
+use Rattle.std.proofs.Common.{ap, ◌∙◌}
+use Rattle.std.specs.Prelude.{codes, not}
+use Rattle.std.proofs.lemmas.Result.{err_from_is_err_and}
+use Rattle.nf_grammar.specs.Gram.{rule}
+use Rattle.nf_grammar.proofs.Short.{maybe_is}
+use Rattle.nf_exprs.specs.Rules.{rules}
+use Rattle.nf_exprs.proofs.Steps.{comes, lift_fault}
+use Rattle.nf_parser.proofs.Words.{word_came, word_missed}
+use Rattle.nf_parser.proofs.Stray.{maybe_outputs_miss}
+use Rattle.nf_exprs.specs.Level as level
+use Rattle.nf_exprs.specs.Rules as row
+use Rattle.nf_parser.proofs.processes.maybe_outputs.Goals as goal
+
+pub returns-then-is_none-clause-parses : goal.returns-then-is_none-clause-parses
+unfolding rules
+returns-then-is_none-clause-parses c =
+    maybe_outputs_miss _ (word_missed (codes "output") c.args.tokens.now c.word.result c.word.ensures (c.is_none.ensures ∙ ap not c.if-is_none.true))
+
+pub returns-in_err-outputs-clause-parses : goal.returns-in_err-outputs-clause-parses
+unfolding rules
+returns-in_err-outputs-clause-parses c =
+    let p = err_from_is_err_and c.from_residual.result c.from_residual.ensures.1 in
+    rw (p.1, p.2) (lift_fault (rule level.Outputs) (row.maybe_section (codes "output") (rule level.Outputs)) _ _ c.in_err-outputs.field-0.0 (λ o s q. maybe_is (comes (word_came (codes "output") c.args.tokens.now c.word.result c.word.ensures (c.is_none.ensures ∙ ap not c.if-is_none.false)).takes) q) (c.in_err-outputs.ensures.parses))
+
+pub returns-clause-parses : goal.returns-clause-parses
+unfolding rules
+returns-clause-parses c =
+    maybe_is (comes (word_came (codes "output") c.args.tokens.now c.word.result c.word.ensures (c.is_none.ensures ∙ ap not c.if-is_none.false)).takes) c.in_ok-outputs.ensures.parses

@@ -1,6 +1,0 @@
-use Rattle.nf_tops.proofs.Whole.{one_too_deep}
-use Rattle.nf_tops.proofs.laws.one_too_deep.Goals as goal
-
-pub returns : goal.returns
-returns c =
-    one_too_deep

@@ -1,6 +1,0 @@
-use Rattle.nf_tops.proofs.Whole.{one_unexpected}
-use Rattle.nf_tops.proofs.laws.one_unexpected.Goals as goal
-
-pub returns : goal.returns
-returns c =
-    one_unexpected
