@@ -1,0 +1,3 @@
+workflow {
+    channel.of(1, 2).filter { it > 1 }.view()
+}
