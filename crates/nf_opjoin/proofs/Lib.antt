@@ -5,6 +5,9 @@ pub mod Promised
 pub mod Listing
 pub mod Combining
 pub mod Groups
+pub mod Cells
+pub mod Gathering
+pub mod Grouping
 pub mod Joins
 pub mod Splitting
 pub mod Entering

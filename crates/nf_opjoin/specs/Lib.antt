@@ -2,8 +2,10 @@ pub mod Pairing
 pub mod Tuples
 pub mod Combined
 pub mod After
+pub mod Columns
 pub mod Entered
 pub mod Grouped
+pub mod Held
 pub mod Joined
 pub mod Kept
 pub mod Listed

@@ -34,7 +34,7 @@ pub fn joined()
     sorting();
 }
 
-/// `groupTuple` emits its bag, whatever the order of its items, if its state answers the close as its definition does. There is no such state yet.
+/// `groupTuple` emits its bag, whatever the order of its items.
 pub fn grouped()
     ensures { (n : ℕ) → (sort : Bool) → IsOperator (group_row n sort) }
 {

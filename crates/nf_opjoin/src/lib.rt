@@ -1,7 +1,10 @@
 //! Operators that pair and group items by their keys: each with its meaning over whole inputs, and the promise that the order of its items doesn't matter.
 #![tactic(auto)]
 
+mod columns;
 mod combine;
+mod gathered;
+mod group;
 mod join;
 mod keyed;
 pub mod laws;
@@ -9,6 +12,7 @@ mod leftovers;
 mod tuples;
 
 pub use combine::CombineState;
+pub use group::GroupState;
 pub use join::JoinState;
 
 #[cfg(test)]

@@ -2,19 +2,19 @@
 
 ghost use Rattle.std.specs.Prelude.{◌≡◌, IfSome};
 
-use crate::{CombineState, JoinState};
+use crate::{CombineState, GroupState, JoinState};
 use nf_bag::{OpFault, OpOpts, Total, sorted};
 use nf_value::{Mem, Txt, Vals, Value, text_of};
 use std::alloc::Global;
 use std::test::Fail;
 
-fn options(by: Option<u32>, remainder: bool) -> OpOpts
+fn options(by: Option<u32>, remainder: bool, sort: bool) -> OpOpts
     ensures { result.by ≡ by }
 {
     OpOpts {
         by,
         remainder,
-        sort: false,
+        sort,
         flat: true,
         start: None,
         total: Total::Sum,
@@ -97,7 +97,7 @@ fn joined(
     remainder: bool,
 ) -> Result<Vec<(u32, Value)>, OpFault> {
     let mut emits = Vec::new(alloc);
-    let mut state = JoinState::begin(alloc, &options(by, remainder))?;
+    let mut state = JoinState::begin(alloc, &options(by, remainder, false))?;
     for (port, key, number) in given {
         let item = item(alloc, key, *number)?;
         add(&mut emits, state.push(*port, item, Value::Null))?;
@@ -151,7 +151,7 @@ fn combined(alloc: Global, given: &[Given], by: Option<u32>) -> Result<Vec<(u32,
     requires { IfSome by (λ n. n ≡ 0) }
 {
     let mut emits = Vec::new(alloc);
-    let mut state = CombineState::begin(alloc, &options(by, false))?;
+    let mut state = CombineState::begin(alloc, &options(by, false, false))?;
     for (port, key, number) in given {
         let item = item(alloc, key, *number)?;
         add(&mut emits, state.push(*port, item, Value::Null))?;
@@ -171,5 +171,118 @@ fn combine_pairs_items(rt: HostRuntime) -> Result<(), Fail> {
     assert_eq!(rt; found.as_str(), "[[k, 1, 3], [k, 1, 4]]");
     let found = shown(alloc, combined(alloc, mixed, Some(0)))?;
     assert_eq!(rt; found.as_str(), "NotATuple");
+    Ok(())
+}
+
+/// A tuple of texts, or null where there is none.
+type Words = &'static [&'static str];
+
+/// `by`, `sort`, items, and what is emitted of them.
+type Grouping = (Option<u32>, bool, &'static [Words], &'static str);
+
+const GROUPINGS: &[Grouping] = &[
+    (
+        None,
+        false,
+        &[
+            &["1", "A"],
+            &["1", "B"],
+            &["2", "C"],
+            &["1", "C"],
+            &["2", "A"],
+        ],
+        "[[1, [A, B, C]], [2, [A, C]]]",
+    ),
+    (
+        Some(0),
+        true,
+        &[
+            &["2", "A"],
+            &["1", "C"],
+            &["1", "A"],
+            &["2", "C"],
+            &["1", "B"],
+        ],
+        "[[1, [A, B, C]], [2, [A, C]]]",
+    ),
+    (
+        Some(1),
+        false,
+        &[
+            &["A", "1"],
+            &["B", "1"],
+            &["C", "2"],
+            &["C", "1"],
+            &["A", "2"],
+        ],
+        "[[[A, B, C], 1], [[A, C], 2]]",
+    ),
+    (
+        None,
+        false,
+        &[&["k", "a", "x"], &["k", "b"], &["k", "c", "y"]],
+        "[[k, [a, b, c], [x, y]]]",
+    ),
+    (None, false, &[&["k"], &["l", "a"]], "[[k], [l, [a]]]"),
+    (
+        None,
+        false,
+        &[&["k", "b", "1"], &["k", "a", "2"]],
+        "[[k, [a, b], [2, 1]]]",
+    ),
+    (
+        None,
+        true,
+        &[&["k", "b", "1"], &["k", "a", "2"]],
+        "[[k, [a, b], [1, 2]]]",
+    ),
+    (None, false, &[&["1", "A"], &["1", "A"]], "[[1, [A, A]]]"),
+    (None, false, &[], "[]"),
+    (None, false, &[&["1", "A"], &[]], "NotATuple"),
+    (Some(1), false, &[&["A", "1"], &["B"]], "NotATuple"),
+];
+
+fn tuples(alloc: Global, given: &[Words]) -> Result<Vec<Value>, Mem> {
+    let mut tuples = Vec::new(alloc);
+    for words in given.iter().copied() {
+        tuples.push(words_of(alloc, words)?)?;
+    }
+    Ok(tuples)
+}
+
+fn words_of(alloc: Global, words: &[&str]) -> Result<Value, Mem> {
+    if words.is_empty() {
+        return Ok(Value::Null);
+    }
+    let mut items = Vec::new(alloc);
+    for word in words.iter().copied() {
+        items.push(text(alloc, word)?)?;
+    }
+    Ok(Value::List(Vals::of(items)))
+}
+
+fn grouped(alloc: Global, opts: &OpOpts, items: Vec<Value>) -> Result<Vec<(u32, Value)>, OpFault> {
+    let mut emits = Vec::new(alloc);
+    let mut state = GroupState::begin(alloc, opts)?;
+    for item in items {
+        add(&mut emits, state.push(0, item, Value::Null))?;
+    }
+    add(&mut emits, state.close())?;
+    Ok(emits)
+}
+
+/// The items are pushed in their order and from the last on.
+#[test]
+fn group_tuple_gathers_tuples(rt: HostRuntime) -> Result<(), Fail> {
+    let alloc = rt.alloc();
+    for (by, sort, given, wanted) in GROUPINGS.iter().copied() {
+        let opts = options(by, false, sort);
+        let found = shown(alloc, grouped(alloc, &opts, tuples(alloc, given)?))?;
+        assert_eq!(rt; found.as_str(), wanted);
+        let mut turned = tuples(alloc, given)?;
+        turned.reverse();
+        let found = shown(alloc, grouped(alloc, &opts, turned))?;
+        assert_eq!(rt; found.as_str(), wanted);
+    }
     Ok(())
 }
