@@ -1,7 +1,6 @@
 -- Pairs of one item with a list of others.
-use Rattle.std.proofs.Common.{◌≡◌, ℕ, suc, ◌+◌, ◌<◌, List, [], ◌∷◌, ◌++◌, length, drop, get_or, false, refl, ap, sym, ◌∙◌, append_assoc, append-nil, add-one, arith, drop-cons}
-use Rattle.std.specs.Prelude.{Ok, Err, nat_eq, not, is_some, slice_get}
-use Rattle.std.proofs.lemmas.Bool.Decides.{nat_tests}
+use Rattle.std.proofs.Common.{◌≡◌, ℕ, ◌+◌, ◌<◌, List, [], ◌∷◌, ◌++◌, map, length, drop, get_or, refl, ap, sym, ◌∙◌, append_assoc, append-nil, add-one, drop-cons}
+use Rattle.std.specs.Prelude.{Ok, Err}
 use Rattle.std.proofs.lemmas.List.{map-append}
 use Rattle.nf_value.specs.Plain.{Plain, plains_of}
 use Rattle.nf_value.specs.View.{plain_of}
@@ -10,7 +9,7 @@ use Rattle.nf_value.specs.declared.value.Value.TheVariants as v
 use Rattle.nf_opstream.specs.Nested.{items_of}
 use Rattle.nf_opstream.specs.Promise.{emit_of, emits_of}
 use Rattle.nf_opjoin.specs.Pairing.{Due, and_then}
-use Rattle.nf_opjoin.specs.Tuples.{parts_of, key_at}
+use Rattle.nf_opjoin.specs.Tuples.{parts_of}
 use Rattle.nf_opjoin.specs.Listed.{all_paired}
 
 pub items_of-plains_of : (vs : List Plain) → items_of (plains_of vs) ≡ vs
@@ -19,16 +18,6 @@ items_of-plains_of (v ∷ vs) = ap (λ ws. v ∷ ws) (items_of-plains_of vs)
 
 pub parts_listed : (w : Value) (vs : List Plain) → w ≡ v.List vs → vs ≡ parts_of (plain_of w)
 parts_listed w vs is = sym (items_of-plains_of vs) ∙ ap (λ z. parts_of (plain_of z)) (sym is)
-
-first_there : (vs : List Plain) → not (nat_eq (length vs) 0) ≡ is_some (slice_get vs 0)
-first_there [] = refl
-first_there (v ∷ vs) = ap not (some (length vs))
-  where
-    some : (n : ℕ) → nat_eq (suc n) 0 ≡ false
-    some n = grind (arith, nat_tests)
-
-pub first_listed : (w : Value) (vs : List Plain) (n : ℕ) → w ≡ v.List vs → n ≡ length vs → not (nat_eq n 0) ≡ is_some (key_at 0 (plain_of w))
-first_listed w vs n is len = ap (λ k. not (nat_eq k 0)) len ∙ first_there vs ∙ ap (λ xs. is_some (slice_get xs 0)) (sym (items_of-plains_of vs)) ∙ ap (λ z. is_some (key_at 0 (plain_of z))) (sym is)
 
 -- laws of what comes one after the other
 pub then_nothing : (r : Due) → and_then r (Ok []) ≡ r
@@ -45,19 +34,24 @@ then_assoc (Ok es) (Ok fs) (Err g) = refl
 then_assoc (Ok es) (Err f) t = refl
 then_assoc (Err f) s t = refl
 
-pub all_paired-append : (h : List Plain → Due) (bs : List (List Plain)) (b : List Plain) → all_paired h (bs ++ b ∷ []) ≡ and_then (all_paired h bs) (h b)
+pub all_paired-append : {A : Type 0} (h : A → Due) (bs : List A) (b : A) → all_paired h (bs ++ b ∷ []) ≡ and_then (all_paired h bs) (h b)
 all_paired-append h [] b = then_nothing (h b) ∙ sym (nothing_then (h b))
 all_paired-append h (c ∷ bs) b = ap (and_then (h c)) (all_paired-append h bs b) ∙ sym (then_assoc (h c) (all_paired h bs) (h b))
 
 -- the loop over the others
-pub step : (h : List Plain → Due) (bs : List (List Plain)) (i : ℕ) (b : List Plain) → i < length bs → b ≡ get_or bs i b → all_paired h (drop i bs) ≡ and_then (h b) (all_paired h (drop (i + 1) bs))
+pub step : {A : Type 0} (h : A → Due) (bs : List A) (i : ℕ) (b : A) → i < length bs → b ≡ get_or bs i b → all_paired h (drop i bs) ≡ and_then (h b) (all_paired h (drop (i + 1) bs))
 step h bs i b lt at = ap (all_paired h) (drop-cons bs i b lt) ∙ (λ k. and_then (h (sym at k)) (all_paired h (drop (sym (add-one i) k) bs)))
 
-pub goes_on : (h : List Plain → Due) (bs : List (List Plain)) (i : ℕ) (b : List Plain) (so_far more : List (ℕ × Plain)) (whole : Due) → i < length bs → b ≡ get_or bs i b → h b ≡ Ok more
+pub goes_on : {A : Type 0} (h : A → Due) (bs : List A) (i : ℕ) (b : A) (so_far more : List (ℕ × Plain)) (whole : Due) → i < length bs → b ≡ get_or bs i b → h b ≡ Ok more
     → and_then (Ok so_far) (all_paired h (drop i bs)) ≡ whole → and_then (Ok (so_far ++ more)) (all_paired h (drop (i + 1) bs)) ≡ whole
 goes_on h bs i b so_far more whole lt at is inv =
     then_assoc (Ok so_far) (Ok more) (all_paired h (drop (i + 1) bs)) ∙ ap (λ r. and_then (Ok so_far) (and_then r (all_paired h (drop (i + 1) bs)))) (sym is) ∙ ap (and_then (Ok so_far)) (sym (step h bs i b lt at)) ∙ inv
 
-pub appended_emits : (h : List Plain → Due) (bs : List (List Plain)) (i : ℕ) (new old more : List (ℕ × Value)) (whole : Due) → new ≡ old ++ more
+pub appended_emits : {A : Type 0} (h : A → Due) (bs : List A) (i : ℕ) (new old more : List (ℕ × Value)) (whole : Due) → new ≡ old ++ more
     → and_then (Ok (emits_of old ++ emits_of more)) (all_paired h (drop (i + 1) bs)) ≡ whole → and_then (Ok (emits_of new)) (all_paired h (drop (i + 1) bs)) ≡ whole
 appended_emits h bs i new old more whole is e = ap (λ es. and_then (Ok es) (all_paired h (drop (i + 1) bs))) (ap emits_of is ∙ map-append emit_of old more) ∙ e
+
+-- rests in memory
+pub all_paired-map : (h : Plain → Due) (vs : List Value) → all_paired (λ v. h (plain_of v)) vs ≡ all_paired h (map plain_of vs)
+all_paired-map h [] = refl
+all_paired-map h (v ∷ vs) = ap (and_then (h (plain_of v))) (all_paired-map h vs)

@@ -1,29 +1,38 @@
 -- What the states keep of the pushes so far, none of them a fault.
-use Rattle.std.specs.Prelude.{◌≡◌, ℕ, nat_lt, List, [], ◌∷◌, ◌++◌, Bool, cond, not, is_some, unwrap_or}
+use Rattle.std.specs.Prelude.{◌≡◌, ◌&&◌, ℕ, nat_lt, List, [], ◌∷◌, ◌++◌, Bool, true, false, cond, Some, is_some, unwrap_or}
 use Rattle.std.specs.BTreeMap.{IsOrdered}
-use Rattle.nf_value.specs.Plain.{Plain}
+use Rattle.nf_value.specs.Plain.{Plain, list, plains_of}
 use Rattle.nf_bag.specs.Bag.{count, IsSameBag}
 use Rattle.nf_opstream.specs.Push.{Push}
 use Rattle.nf_opstream.specs.Operator.{AreFine}
-use Rattle.nf_opjoin.specs.Tuples.{parts_of, is_left}
+use Rattle.nf_opjoin.specs.Tuples.{same_key}
+use Rattle.nf_opjoin.specs.After.{on_side}
 use Rattle.nf_opjoin.specs.Combined.{combine_row}
 use Rattle.nf_opjoin.specs.Entered.{by_order}
 use Rattle.nf_opjoin.specs.Grouped.{keys_in, rests_with, group_row}
 use Rattle.nf_opjoin.specs.Held.{held_at}
+use Rattle.nf_opjoin.specs.Listed.{pair_key, pair_rest}
 use Rattle.nf_opjoin.specs.declared.combine.CombineState.{CombineState}
 use Rattle.nf_opjoin.specs.declared.group.GroupState.{GroupState}
 
--- the parts of the items that pass a test, in the order of arrival
-abbrev pub parts_in : (Push → Bool) → List Push → List (List Plain)
-parts_in test [] = []
-parts_in test (x ∷ p) = cond (test x) (parts_in test p ++ parts_of x.item ∷ []) (parts_in test p)
+-- whether an item is of this input and is paired by this key
+abbrev pub paired_with : Bool → Bool → Plain → Push → Bool
+paired_with by_first first k y = on_side first y && same_key (Some k) (pair_key by_first y.item)
 
--- the parts of the items of each input
+abbrev pub rest_listed : Bool → Push → Plain
+rest_listed by_first y = list (plains_of (pair_rest by_first y.item))
+
+-- the rests of the items of this input that have this key, each as a list, in the order of arrival
+abbrev pub rests_in : Bool → Bool → Plain → List Push → List Plain
+rests_in by_first first k [] = []
+rests_in by_first first k (y ∷ p) = cond (paired_with by_first first k y) (rests_in by_first first k p ++ rest_listed by_first y ∷ []) (rests_in by_first first k p)
+
+-- the rests of the items of each input, by their keys
 pub record IsCombineAfter (by_first : Bool) (p : List Push) (s : CombineState) : Type 0 where
   pub fine : AreFine (combine_row by_first) p
   pub by : s.by_first ≡ by_first
-  pub left : s.left.items ≡ parts_in is_left p
-  pub right : s.right.items ≡ parts_in (λ x. not (is_left x)) p
+  pub left : (k : Plain) → unwrap_or (held_at k s.left.entries) [] ≡ rests_in by_first true k p
+  pub right : (k : Plain) → unwrap_or (held_at k s.right.entries) [] ≡ rests_in by_first false k p
 
 -- the rests of the items by their keys
 pub record IsGroupAfter (n : ℕ) (sort : Bool) (p : List Push) (s : GroupState) : Type 0 where

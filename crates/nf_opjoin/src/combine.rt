@@ -1,31 +1,31 @@
 //! `combine`, which emits the pairs of items of its two inputs.
 
-ghost use Rattle.std.specs.Prelude.{◌≡◌, List, [], ◌∷◌, ◌++◌, Bool, true, false, is_some, Ok, IfOk, IsOk, OnOk, MatchResult};
+ghost use Rattle.std.specs.Prelude.{List, [], ◌∷◌, Bool, is_some, IfOk, IsOk, MatchResult};
 ghost use Rattle.nf_value.specs.View.{plain_of};
 ghost use Rattle.nf_opstream.specs.Push.{Push, push_of};
-ghost use Rattle.nf_opstream.specs.Promise.{emits_of, IsFault, HasEmitted, HasEnded, PushRefused, CloseRefused};
+ghost use Rattle.nf_opstream.specs.Promise.{emits_of, HasEmitted, HasEnded, PushRefused, CloseRefused};
 ghost use Rattle.nf_opjoin.specs.Combined.{combine_row};
-ghost use Rattle.nf_opjoin.specs.Listed.{paired_as, all_paired};
 ghost use Rattle.nf_opjoin.specs.Options.{IsCombineOptions};
 
 use crate::laws;
-use crate::tuples::{paired, parts, refuses};
+use crate::meeting::{meet, paired_by};
 use nf_bag::{OpFault, OpOpts};
 use nf_opstream::PassState;
 use nf_opstream::laws::promises;
 use nf_value::{Mem, Vals, Value};
 use std::alloc::Global;
+use std::collections::BTreeMap;
 
 /// The state of `combine`: each item of the first input with each of the second is emitted as one list, in which an item that is no list counts as a
 /// list of itself; with `by: 0` of the options only those with equal first items are, as the key, the rest of the first and the rest of the second
-/// (Nextflow reference, "Operators: combine"). It keeps all items, and looks at all of the other input for each.
+/// (Nextflow reference, "Operators: combine"). It keeps all items by their keys, so n pushes take some n log n comparisons of keys, and the pairs.
 #[derive(Drop)]
 pub struct CombineState {
     alloc: Global,
     out: PassState,
     by_first: bool,
-    left: Vec<Vals>,
-    right: Vec<Vals>,
+    left: BTreeMap<Value, Vals>,
+    right: BTreeMap<Value, Vals>,
 }
 
 impl CombineState {
@@ -46,8 +46,8 @@ impl CombineState {
             alloc,
             out,
             by_first: opts.by.is_some(),
-            left: Vec::new(alloc),
-            right: Vec::new(alloc),
+            left: BTreeMap::new(alloc),
+            right: BTreeMap::new(alloc),
         })
     }
 
@@ -68,57 +68,30 @@ impl CombineState {
     {
         laws::combined();
         promises();
-        if refuses(self.by_first, &item) {
-            return Err(OpFault::NotATuple { item });
-        }
-        let parts = parts(self.alloc, item)?;
-        if port == 0 {
-            self.push_left(parts)
-        } else {
-            self.push_right(parts)
-        }
-    }
-
-    fn push_left(&mut self, parts: Vals) -> Result<Vec<(u32, Value)>, OpFault>
-        ensures emits { let due = all_paired (paired_as self.old.by_first true parts) self.old.right.items in MatchResult result (λ es. due ≡ Ok (emits_of es.items)) (IsFault due) }
-        ensures left { OnOk result (self.new.left.items ≡ self.old.left.items ++ parts ∷ []) }
-        ensures right { self.new.right.items ≡ self.old.right.items }
-        ensures by { self.new.by_first ≡ self.old.by_first }
-    {
-        match paired(
-            self.alloc,
-            &mut self.out,
-            self.by_first,
-            true,
-            &parts,
-            self.right.as_slice(),
-        ) {
+        match paired_by(self.alloc, self.by_first, item) {
             Err(fault) => Err(fault),
-            Ok(emits) => {
-                self.left.push(parts)?;
-                Ok(emits)
-            }
-        }
-    }
-
-    fn push_right(&mut self, parts: Vals) -> Result<Vec<(u32, Value)>, OpFault>
-        ensures emits { let due = all_paired (paired_as self.old.by_first false parts) self.old.left.items in MatchResult result (λ es. due ≡ Ok (emits_of es.items)) (IsFault due) }
-        ensures left { self.new.left.items ≡ self.old.left.items }
-        ensures right { OnOk result (self.new.right.items ≡ self.old.right.items ++ parts ∷ []) }
-        ensures by { self.new.by_first ≡ self.old.by_first }
-    {
-        match paired(
-            self.alloc,
-            &mut self.out,
-            self.by_first,
-            false,
-            &parts,
-            self.left.as_slice(),
-        ) {
-            Err(fault) => Err(fault),
-            Ok(emits) => {
-                self.right.push(parts)?;
-                Ok(emits)
+            Ok(keyed) => {
+                if port == 0 {
+                    meet(
+                        self.alloc,
+                        &mut self.out,
+                        self.by_first,
+                        true,
+                        keyed,
+                        &mut self.left,
+                        &self.right,
+                    )
+                } else {
+                    meet(
+                        self.alloc,
+                        &mut self.out,
+                        self.by_first,
+                        false,
+                        keyed,
+                        &mut self.right,
+                        &self.left,
+                    )
+                }
             }
         }
     }

@@ -9,6 +9,7 @@ mod join;
 mod keyed;
 pub mod laws;
 mod leftovers;
+mod meeting;
 mod tuples;
 
 pub use combine::CombineState;
