@@ -1,8 +1,10 @@
 //! Reaches layers that the program doesn't reach yet. `nf_bench OPERATION COUNT` does one operation on a list of COUNT numbers, or on
-//! a text that repeats a few bytes COUNT times, prints what came of it, and on standard error how many microseconds the operation
-//! took. `nf_bench codes` reads codes of values from standard input, one a line, and prints what they say.
+//! a text that repeats a few bytes COUNT times, or pushes COUNT items into an operator (COUNT pairs into `join`). It prints what came
+//! of it, and on standard error how many microseconds the operation took. `nf_bench codes` reads codes of values from standard input,
+//! one a line, and prints what they say.
 #![tactic(auto)]
 
+mod operators;
 mod table;
 
 use anyhow::{Context, Result, bail};
@@ -28,6 +30,8 @@ fn run<R: Env + Clock + AllocGlobal + Input + Print + Eprint>(rt: &R) -> Result<
         "lex-names" => lex(rt, "a_name1\n", count),
         "lex-holes" => lex(rt, "\"${", count),
         "lex-brackets" => lex(rt, "({[", count),
+        "unique" => operators::unique(rt, count),
+        "join" => operators::join(rt, count),
         "lex-strings" => lex(rt, "'\\u0041' \"$a.b\" /* c */\n", count),
         operation => values(rt, operation, numbers(rt.alloc(), count)?),
     }
