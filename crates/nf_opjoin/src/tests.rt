@@ -286,3 +286,47 @@ fn group_tuple_gathers_tuples(rt: HostRuntime) -> Result<(), Fail> {
     }
     Ok(())
 }
+
+/// A tuple of a key and of a list in a list, so often.
+fn deep(alloc: Global, depth: u32) -> Result<Value, Mem> {
+    let mut value = Value::Int(0);
+    for _ in 0..depth {
+        let mut items = Vec::new(alloc);
+        items.push(value)?;
+        value = Value::List(Vals::of(items));
+    }
+    let mut items = Vec::new(alloc);
+    items.push(Value::Null)?;
+    items.push(value)?;
+    Ok(Value::List(Vals::of(items)))
+}
+
+fn deep_join(alloc: Global) -> Result<Vec<(u32, Value)>, OpFault> {
+    let mut emits = Vec::new(alloc);
+    let mut state = JoinState::begin(alloc, &options(None, false, false))?;
+    add(&mut emits, state.push(0, deep(alloc, 64)?, Value::Null))?;
+    add(&mut emits, state.push(1, deep(alloc, 1)?, Value::Null))?;
+    Ok(emits)
+}
+
+fn deep_combine(alloc: Global) -> Result<Vec<(u32, Value)>, OpFault> {
+    let mut emits = Vec::new(alloc);
+    let mut state = CombineState::begin(alloc, &options(None, false, false))?;
+    add(&mut emits, state.push(1, deep(alloc, 1)?, Value::Null))?;
+    add(&mut emits, state.push(0, deep(alloc, 64)?, Value::Null))?;
+    Ok(emits)
+}
+
+#[test]
+fn tuples_are_at_most_64_deep(rt: HostRuntime) -> Result<(), Fail> {
+    let alloc = rt.alloc();
+    let found = shown(alloc, deep_join(alloc))?;
+    assert_eq!(rt; found.as_str(), "TooDeep");
+    let found = shown(alloc, deep_combine(alloc))?;
+    assert_eq!(rt; found.as_str(), "TooDeep");
+    let mut items = Vec::new(alloc);
+    items.push(deep(alloc, 63)?)?;
+    let found = shown(alloc, grouped(alloc, &options(None, false, false), items))?;
+    assert_eq!(rt; found.as_str(), "TooDeep");
+    Ok(())
+}
