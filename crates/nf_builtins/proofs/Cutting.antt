@@ -1,5 +1,5 @@
 -- Texts cut at separators.
-use Rattle.std.proofs.Common.{◌≡◌, ◌≢◌, ℕ, ◌+◌, ◌<◌, ◌≤◌, Bool, true, false, ◌&&◌, cond, List, [], ◌∷◌, ◌++◌, length, take, drop, Option, Some, None, MatchOption, IfSome, Bor, refl, ap, sym, ◌∙◌, arith, append_assoc, length-append, length-drop}
+use Rattle.std.proofs.Common.{◌≡◌, ℕ, ◌<◌, Bool, true, false, ◌&&◌, List, [], ◌∷◌, ◌++◌, length, drop, Option, Some, None, MatchOption, IfSome, Bor, refl, ap, sym, ◌∙◌, arith, append_assoc}
 use Rattle.std.specs.List.{slice_split, onto_first}
 use Rattle.std.specs.Str.{chars, IsUtf8, NonePass}
 use Rattle.std.specs.Str.Pattern.{FindsBy, SplitsAroundMatch}

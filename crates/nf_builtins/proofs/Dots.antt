@@ -1,11 +1,11 @@
 -- Names and their last dots.
-use Rattle.std.proofs.Common.{◌≡◌, ◌≢◌, ℕ, suc, ◌+◌, ◌<◌, ◌≤◌, ◌==◌, nat_eq, Bool, true, false, cond, List, [], ◌∷◌, ◌++◌, length, take, drop, get_or, Option, Some, None, MatchOption, Bor, refl, ap, sym, ◌∙◌, arith}
+use Rattle.std.proofs.Common.{◌≡◌, ◌≢◌, ℕ, suc, ◌+◌, ◌<◌, ◌≤◌, ◌==◌, true, false, List, [], ◌∷◌, ◌++◌, length, take, drop, get_or, Option, Some, None, MatchOption, Bor, refl, ap, sym, ◌∙◌, arith}
 use Rattle.std.specs.Str.Pattern.{RFindsChar}
 use Rattle.std.specs.Str.{NoCharPasses}
 use Rattle.std.proofs.lemmas.Bool.Decides.{nat_tests}
 use Rattle.std.proofs.lemmas.List.{take-append-drop}
 use Rattle.std.proofs.lemmas.Str.Pattern.{drop_at_char, NoCharPasses-char}
-use Rattle.nf_builtins.specs.Files.{is_dot, after_one, last_cut, cut_base, cut_end, base_name_of, extension_of}
+use Rattle.nf_builtins.specs.Files.{after_one, last_cut, cut_base, cut_end, base_name_of, extension_of}
 
 no_cut : (bs : List ℕ) → ((k : ℕ) → k < length bs → get_or bs k 0 ≢ 46) → last_cut bs ≡ None
 no_cut [] h = refl

@@ -1,14 +1,12 @@
 -- The pairs of maps.
-use Rattle.std.proofs.Common.{◌≡◌, ℕ, suc, ◌+◌, ◌<◌, ◌≤◌, Bool, true, false, ◌||◌, List, [], ◌∷◌, length, take, drop, map, get_or, refl, ap, sym, ◌∙◌, arith, add-one, drop-cons}
-use Rattle.std.specs.Cmp.Lexicographic.{pointwise}
-use lib.Dec.{eqb}
+use Rattle.std.proofs.Common.{◌≡◌, ℕ, ◌+◌, ◌<◌, ◌≤◌, List, [], ◌∷◌, length, take, drop, map, get_or, refl, ap, sym, ◌∙◌, arith, add-one, drop-cons}
 use Rattle.std.proofs.lemmas.List.{length-map, take_min}
 use Rattle.std.proofs.Math.Seq.{take-length}
-use Rattle.nf_value.specs.Plain.{Plain, text, Plains, item, plains_of, plain_pairs_of}
+use Rattle.nf_value.specs.Plain.{Plain, text, item, plains_of, plain_pairs_of}
 use Rattle.nf_value.specs.Code.{count_pairs}
-use Rattle.nf_value.specs.View.{plain_of, pair_of}
+use Rattle.nf_value.specs.View.{pair_of}
 use Rattle.nf_value.specs.declared.value.Value.{Value}
-use Rattle.nf_builtins.specs.Maps.{has_key, keys_of, values_of}
+use Rattle.nf_builtins.specs.Maps.{keys_of, values_of}
 
 pub count_pairs-plain_pairs_of : (ps : List (List ℕ × Plain)) → count_pairs (plain_pairs_of ps) ≡ length ps
 count_pairs-plain_pairs_of [] = refl

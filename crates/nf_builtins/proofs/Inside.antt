@@ -1,5 +1,5 @@
 -- The items of a list, taken out of it again.
-use Rattle.std.proofs.Common.{◌≡◌, List, [], ◌∷◌, ℕ, ◌+◌, ◌<◌, ◌≤◌, length, get_or, map, refl, ap, subst, arith, zero, suc}
+use Rattle.std.proofs.Common.{◌≡◌, List, [], ◌∷◌, ℕ, ◌<◌, ◌≤◌, length, get_or, map, refl, ap, subst, arith, zero, suc}
 use Rattle.nf_value.specs.Plain.{Plain, Plains, no_items, item, PlainPairs, no_pairs, pair, plains_of, plain_pairs_of, nodes, nodes_all, nodes_pairs}
 use Rattle.nf_value.specs.View.{plain_of, pair_of}
 use Rattle.nf_value.specs.declared.value.Value.{Value}

@@ -15,3 +15,5 @@ pub mod Leading
 pub mod Cutting
 pub mod Parts
 pub mod Lines
+pub mod Read
+pub mod ReadRows

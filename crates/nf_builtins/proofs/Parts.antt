@@ -1,14 +1,14 @@
 -- The parts of a text as texts.
-use Rattle.std.proofs.Common.{◌≡◌, ℕ, ◌+◌, ◌≤◌, ◌^◌, min, ◌==◌, nat_eq, Bool, true, false, cond, List, [], ◌∷◌, ◌++◌, length, map, refl, ap, sym, ◌∙◌, arith, append_assoc, append-nil, length-append, flat_map}
+use Rattle.std.proofs.Common.{◌≡◌, ℕ, ◌+◌, ◌^◌, min, ◌==◌, Bool, true, false, List, [], ◌∷◌, ◌++◌, length, refl, ap, sym, ◌∙◌, arith, append_assoc, append-nil, length-append, flat_map}
 use Rattle.std.specs.List.{slice_split}
 use Rattle.std.specs.Str.{chars, IsUtf8}
-use lib.Utf8.{encode, encodes}
+use lib.Utf8.{encodes}
 use Rattle.std.proofs.lemmas.Bool.Decides.{nat_tests}
 use Rattle.std.proofs.lemmas.Str.{chars-nil, encodes-chars}
 use Rattle.nf_value.specs.Plain.{Plain, text, plains_of}
 use Rattle.nf_value.specs.Code.{code, all_code}
 use Rattle.nf_builtins.specs.Outcome.{AreTexts}
-use Rattle.nf_builtins.specs.Texts.{text_of, token_of, token_texts}
+use Rattle.nf_builtins.specs.Texts.{token_of, token_texts}
 
 pub empty_part : (s : List ℕ) → (length s == 0) ≡ true → token_of (chars s) ≡ []
 empty_part [] h = ap token_of chars-nil

@@ -1,10 +1,9 @@
 -- The characters of a text from the back.
-use Rattle.std.proofs.Common.{◌≡◌, ℕ, List, [], ◌∷◌, ◌++◌, length, Result, Ok, Err, refl, ap, sym, ◌∙◌, arith, append_assoc, append-nil}
+use Rattle.std.proofs.Common.{◌≡◌, ℕ, List, [], ◌∷◌, ◌++◌, length, Result, Ok, Err, ap, sym, ◌∙◌, append_assoc, append-nil}
 use mathlib.Core.List.{reverse, reverse-cons, reverse-reverse}
 use Rattle.std.specs.Bool.{⊤}
 use Rattle.std.specs.Result.{MatchResult, IfOk}
 use Rattle.std.specs.Str.{chars, IsUtf8}
-use Rattle.std.specs.Char.{encode_utf8}
 use Rattle.std.specs.Str.Iter.{chars_rest, chars_steps_back}
 use Rattle.std.specs.Iterator.{Yields, DrainsIf}
 use Rattle.std.specs.Iterator.Adapters.{rev_source, rev_steps}

@@ -1,6 +1,5 @@
 -- How long the texts of values are.
-use Rattle.std.proofs.Common.{◌≡◌, ℕ, suc, ◌+◌, ◌*◌, ◌<◌, ◌≤◌, ◌^◌, min, max, List, [], ◌∷◌, ◌++◌, length, map, drop, get_or, refl, ap, sym, ◌∙◌, arith, codes, length-append, flat_map, add-one, drop-cons}
-use Rattle.std.specs.List.{join_by}
+use Rattle.std.proofs.Common.{◌≡◌, ℕ, ◌+◌, ◌<◌, ◌≤◌, ◌^◌, min, max, List, [], ◌∷◌, ◌++◌, length, map, drop, get_or, refl, ap, arith, codes, length-append, flat_map, add-one, drop-cons}
 use Rattle.nf_value.specs.Plain.{Plain, PlainPairs, no_pairs, pair, plains_of, plain_pairs_of}
 use Rattle.nf_value.specs.View.{plain_of, pair_of}
 use Rattle.nf_value.specs.Text.{value_text, bracketed, with_commas, entries_text, item_texts, pair_texts}

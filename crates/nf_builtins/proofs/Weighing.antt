@@ -1,5 +1,5 @@
 -- What texts weigh.
-use Rattle.std.proofs.Common.{◌≡◌, ℕ, suc, [], ◌∷◌, ◌+◌, ◌<◌, ◌≤◌, ◌^◌, min, nat_lt, Bool, true, false, List, length, Result, Ok, Err, refl, ap, sym, ◌∙◌, arith, codes, length-append, inl, inr}
+use Rattle.std.proofs.Common.{◌≡◌, ℕ, suc, [], ◌∷◌, ◌+◌, ◌<◌, ◌≤◌, ◌^◌, min, nat_lt, true, false, List, length, Ok, Err, refl, ap, ◌∙◌, arith, codes, length-append, inl, inr}
 use Rattle.std.proofs.lemmas.Bool.{cases_lt}
 use Rattle.std.proofs.lemmas.Bool.Decides.{nat_tests}
 use Rattle.nf_value.specs.Plain.{Plain, text, list, plains_of}

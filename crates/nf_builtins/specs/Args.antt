@@ -3,7 +3,7 @@ use Rattle.std.specs.Prelude.{ℕ, ℤ, List, [], ◌∷◌, Result, Ok, Err}
 use Rattle.nf_value.specs.Plain.{Plain, null, truth, int, text, file, list, table, Plains, no_items, item, PlainPairs}
 use Rattle.nf_value.specs.declared.fault.EvalKind.{EvalKind}
 use Rattle.nf_value.specs.declared.fault.EvalKind.TheVariants.{Arity, WrongKind, NoMethod}
-use Rattle.nf_builtins.specs.Outcome.{Outcome, ◌>>=◌}
+use Rattle.nf_builtins.specs.Outcome.{◌>>=◌}
 
 -- a text, or else this fault
 abbrev pub text_or : EvalKind → Plain → Result (List ℕ) EvalKind

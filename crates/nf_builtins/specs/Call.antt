@@ -1,5 +1,5 @@
 -- What each row gives.
-use Rattle.std.specs.Prelude.{ℕ, List, Bool, true, false, Err}
+use Rattle.std.specs.Prelude.{◌≡◌, ◌<◌, ℕ, List, Bool, true, false, Err, IfSome, slice_get}
 use Rattle.nf_value.specs.Plain.{Plain, null, truth, int, text, file, list, table, PlainPairs}
 use Rattle.nf_value.specs.declared.fault.EvalKind.TheVariants.{NoMethod}
 use Rattle.nf_builtins.specs.declared.method.Method.{Method}
@@ -7,6 +7,7 @@ use Rattle.nf_builtins.specs.declared.method.Method.TheVariants as m
 use Rattle.nf_builtins.specs.declared.rows.Builtin.{Builtin}
 use Rattle.nf_builtins.specs.declared.rows.TheConstants.{ROWS}
 use Rattle.nf_builtins.specs.Outcome.{Outcome}
+use Rattle.nf_builtins.specs.Rows.{is_closure}
 use Rattle.nf_builtins.specs.Args.{items_of}
 use Rattle.nf_builtins.specs.Numbers.{math_abs, math_max, math_min, intdiv, is_integer, to_integer}
 use Rattle.nf_builtins.specs.Texts.{text_take, text_drop, text_starts_with, text_ends_with, text_is_empty, text_size, text_length, text_reverse, to_lower_case, to_upper_case, substring, text_contains, text_index_of, replace, trim, tokenize}
@@ -18,6 +19,10 @@ use Rattle.nf_builtins.specs.Files.{file_name, file_base_name, file_extension, f
 -- the rows of the table
 abbrev pub builtin_rows : List Builtin
 builtin_rows = ROWS.now
+
+-- a row that takes no closure
+abbrev pub IsPlainRow : ℕ → Type 0
+IsPlainRow row = (row < 48) × IfSome (slice_get builtin_rows row) (λ b. is_closure b.form ≡ false)
 
 -- what a row gives for texts, lists and maps, where it is read on these
 abbrev pub by_kind : Plain → (List ℕ → Outcome) → (List Plain → Outcome) → (PlainPairs → Outcome) → Outcome

@@ -1,7 +1,7 @@
 -- Texts of values, one after another.
-use Rattle.std.specs.Prelude.{ℕ, List, map, Ok, Err}
+use Rattle.std.specs.Prelude.{ℕ, List, Ok, Err}
 use Rattle.std.specs.List.{join_by}
-use Rattle.nf_value.specs.Plain.{Plain, null, truth, int, text, file, list, table}
+use Rattle.nf_value.specs.Plain.{Plain, null, text}
 use Rattle.nf_value.specs.Text.{value_text}
 use Rattle.nf_value.specs.declared.fault.EvalKind.TheVariants.{NoMethod}
 use Rattle.nf_builtins.specs.Outcome.{Outcome, ◌>>=◌}

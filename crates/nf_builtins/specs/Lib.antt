@@ -10,4 +10,5 @@ pub mod Maps
 pub mod Files
 pub mod Joined
 pub mod Call
+pub mod Reading
 pub mod Natives

@@ -1,5 +1,5 @@
 -- What maps can do.
-use Rattle.std.specs.Prelude.{ℕ, pos, nat_eq, ◌==◌, Bool, true, false, ◌||◌, List, [], ◌∷◌, Ok}
+use Rattle.std.specs.Prelude.{ℕ, pos, nat_eq, ◌==◌, Bool, false, ◌||◌, List, Ok}
 use Rattle.std.specs.Cmp.Lexicographic.{pointwise}
 use Rattle.nf_value.specs.Plain.{Plain, text, int, truth, list, Plains, no_items, item, PlainPairs, no_pairs, pair}
 use Rattle.nf_value.specs.Code.{count_pairs}

@@ -1,9 +1,8 @@
 -- What numbers can do.
-use Rattle.std.specs.Prelude.{ℕ, ℤ, pos, negsuc, neg_ℤ, int_le, int_lt, int_div, ◌^◌, ◌==◌, nat_lt, nat_le, Bool, true, false, ◌&&◌, not, length, drop, List, slice_index, if◌then◌else◌, Result, Ok, Err, Option, Some, None, is_some}
+use Rattle.std.specs.Prelude.{ℕ, ℤ, pos, negsuc, neg_ℤ, int_le, int_lt, int_div, ◌^◌, ◌==◌, nat_lt, nat_le, Bool, ◌&&◌, not, length, drop, List, slice_index, if◌then◌else◌, Ok, Err, Option, Some, None, is_some}
 use Rattle.std.specs.Str.{all_ascii_digits}
 use Rattle.std.specs.Str.Parse.{digits_value}
 use Rattle.nf_value.specs.Plain.{Plain, null, truth, int, text, file, list, table}
-use Rattle.nf_value.specs.declared.fault.EvalKind.{EvalKind}
 use Rattle.nf_value.specs.declared.fault.EvalKind.TheVariants.{Overflow, DivZero, NoMethod, NotNumber}
 use Rattle.nf_builtins.specs.Outcome.{Outcome, ◌>>=◌}
 use Rattle.nf_builtins.specs.Args.{int_or, no_args, int_arg, int_args, on_text}

@@ -1,6 +1,6 @@
 -- On what values a row is read, and how.
 use Rattle.std.specs.Prelude.{Bool, true, false}
-use Rattle.nf_value.specs.Plain.{Plain, null, truth, int, text, file, list, table}
+use Rattle.nf_value.specs.Plain.{Plain, null, int, text, file, list, table}
 use Rattle.nf_builtins.specs.declared.rows.Form.{Form}
 use Rattle.nf_builtins.specs.declared.rows.Form.TheVariants as form
 use Rattle.nf_builtins.specs.declared.rows.On.{On}

@@ -1,12 +1,12 @@
 -- What texts can do. They are counted in characters.
-use Rattle.std.specs.Prelude.{ℕ, zero, suc, ℤ, pos, negsuc, nat_lt, nat_eq, nat_le, ◌+◌, ◌-◌, ◌==◌, Bool, true, false, ◌||◌, List, [], ◌∷◌, ◌++◌, length, take, drop, map, reverse, Result, Ok, Err, Option, Some, None, is_some, if◌then◌else◌}
+use Rattle.std.specs.Prelude.{ℕ, zero, suc, ℤ, pos, negsuc, nat_eq, nat_le, ◌+◌, ◌-◌, ◌==◌, Bool, List, [], ◌∷◌, ◌++◌, length, take, drop, reverse, Result, Ok, Err, Option, Some, None, is_some, if◌then◌else◌}
 use Rattle.std.specs.List.{starts_with, ends_with, list_any, slice_split, flat_map}
 use Rattle.std.specs.Str.{chars, encode_utf8_all, str_to_ascii_lowercase, str_to_ascii_uppercase}
-use Rattle.nf_value.specs.Plain.{Plain, null, truth, int, text, file, list, table, plains_of}
+use Rattle.nf_value.specs.Plain.{Plain, truth, int, text, list, plains_of}
 use Rattle.nf_value.specs.declared.fault.EvalKind.{EvalKind}
 use Rattle.nf_value.specs.declared.fault.EvalKind.TheVariants.{WrongKind, Arity}
 use Rattle.nf_builtins.specs.Outcome.{Outcome, ◌>>=◌}
-use Rattle.nf_builtins.specs.Args.{on_text, no_args, one_arg, text_arg, text_args, int_arg, int_or, text_or}
+use Rattle.nf_builtins.specs.Args.{on_text, no_args, text_arg, text_args, int_arg, int_or, text_or}
 
 -- the text of these characters
 abbrev pub text_of : List ℕ → Plain

@@ -1,10 +1,9 @@
 //! Calls of methods.
 
-ghost use Rattle.std.specs.Prelude.{◌≡◌, ◌<◌, true, false, slice_get, IfSome};
+ghost use Rattle.std.specs.Prelude.{◌≡◌, true, slice_get, IfSome};
 ghost use Rattle.nf_value.specs.View.{plain_of};
 ghost use Rattle.nf_builtins.specs.Outcome.{Gives};
-ghost use Rattle.nf_builtins.specs.Rows.{is_closure};
-ghost use Rattle.nf_builtins.specs.Call.{builtin_rows, answer_of, is_plain, contains_row, drop_row, take_row, index_of_row, reverse_row, is_empty_row, size_row};
+ghost use Rattle.nf_builtins.specs.Call.{builtin_rows, IsPlainRow, answer_of, is_plain, contains_row, drop_row, take_row, index_of_row, reverse_row, is_empty_row, size_row};
 
 use crate::fault::CallFault;
 use crate::method::Method;
@@ -23,8 +22,7 @@ use std::alloc::Global;
 /// or an empty text to be replaced; then `DivZero`, `Overflow` and `NotNumber` by the row. `TooLarge` comes where the value would weigh more than
 /// 16,777,216, and else `TooDeep` where it would be deeper than 64. `Mem` where there is no memory for it.
 pub fn call(alloc: Global, row: usize, recv: &Value, args: &Vals) -> Result<Value, CallFault>
-    requires row { row < 48 }
-    requires plain { IfSome (slice_get builtin_rows row) (λ b. is_closure b.form ≡ false) }
+    requires { IsPlainRow row }
     ensures { IfSome (slice_get builtin_rows row) (λ b. Gives (answer_of b.method (plain_of recv.now) args.now) result) }
 {
     answer(alloc, ROWS[row].method, recv, args)

@@ -8,6 +8,7 @@ mod fault;
 mod files;
 mod items;
 mod joining;
+pub mod laws;
 mod lengths;
 mod limits;
 mod lists;

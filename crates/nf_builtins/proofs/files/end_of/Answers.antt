@@ -1,5 +1,5 @@
 use Rattle.std.proofs.Common.{◌∙◌, sym, ap}
-use Rattle.nf_builtins.specs.Files.{cut_base, cut_end}
+use Rattle.nf_builtins.specs.Files.{cut_end}
 use Rattle.nf_builtins.proofs.Dots.{cut_none, cut_some, end_alone, end_cut}
 use Rattle.nf_builtins.proofs.files.end_of.Goals as goal
 

@@ -1,4 +1,4 @@
-use Rattle.std.proofs.Common.{◌≡◌, ◌++◌, ◌∷◌, [], false, true, map, ◌∙◌, sym, ap}
+use Rattle.std.proofs.Common.{◌≡◌, ◌++◌, ◌∷◌, [], map, ◌∙◌, sym, ap}
 use Rattle.std.specs.List.{list_any}
 use Rattle.nf_value.specs.View.{plain_of}
 use Rattle.nf_builtins.specs.Lists.{is_same}

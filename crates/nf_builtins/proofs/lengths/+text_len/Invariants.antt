@@ -1,4 +1,4 @@
-use Rattle.std.proofs.Common.{◌≡◌, ◌+◌, ◌≤◌, ◌^◌, min, length}
+use Rattle.std.proofs.Common.{◌≡◌, ◌+◌, ◌≤◌, ◌^◌, min}
 use Rattle.nf_value.specs.Plain.{plains_of, plain_pairs_of, nodes, nodes_all, nodes_pairs}
 use Rattle.nf_value.specs.View.{plain_of}
 use Rattle.nf_builtins.proofs.Spelt.{total_len, texts_from, entries_from}

@@ -1,4 +1,3 @@
-use Rattle.std.proofs.Common.{◌∙◌, sym, ap, length}
 use Rattle.nf_builtins.proofs.Entries.{length_of_pairs}
 use Rattle.nf_builtins.proofs.maps.count.Goals as goal
 

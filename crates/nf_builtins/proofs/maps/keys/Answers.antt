@@ -1,4 +1,4 @@
-use Rattle.std.proofs.Common.{◌∙◌, ap, map}
+use Rattle.std.proofs.Common.{◌∙◌}
 use Rattle.nf_builtins.proofs.Entries.{keys_done}
 use Rattle.nf_builtins.proofs.maps.keys.Goals as goal
 

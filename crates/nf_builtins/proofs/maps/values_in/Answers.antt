@@ -1,4 +1,4 @@
-use Rattle.std.proofs.Common.{◌∙◌, ap, map}
+use Rattle.std.proofs.Common.{◌∙◌}
 use Rattle.nf_builtins.proofs.Entries.{values_done}
 use Rattle.nf_builtins.proofs.maps.values_in.Goals as goal
 

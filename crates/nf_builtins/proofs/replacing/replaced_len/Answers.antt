@@ -1,6 +1,5 @@
-use Rattle.std.proofs.Common.{◌∙◌, sym, ap, arith, rules, length, ◌++◌}
-use Rattle.std.specs.Prelude.{string_bytes}
-use Rattle.nf_builtins.proofs.Rewriting.{replaced_none, replaced_falls, len_more, out_more}
+use Rattle.std.proofs.Common.{ap, arith, rules, length}
+use Rattle.nf_builtins.proofs.Rewriting.{replaced_none, replaced_falls, len_more}
 use Rattle.nf_builtins.proofs.replacing.replaced_len.Goals as goal
 
 pub loop-front-preserved : goal.loop-front-preserved

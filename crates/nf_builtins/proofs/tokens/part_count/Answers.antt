@@ -1,7 +1,5 @@
-use Rattle.std.proofs.Common.{◌∙◌, sym, ap, arith, length}
-use Rattle.nf_value.specs.Plain.{plains_of}
-use Rattle.nf_value.specs.Code.{all_code}
-use Rattle.nf_builtins.proofs.Parts.{empty_part, filled_part, one_code}
+use Rattle.std.proofs.Common.{◌∙◌, sym, ap, length}
+use Rattle.nf_builtins.proofs.Parts.{empty_part, filled_part}
 use Rattle.nf_builtins.proofs.tokens.part_count.Goals as goal
 
 pub returns-then-is_empty : goal.returns-then-is_empty

@@ -1,10 +1,8 @@
-use Rattle.std.proofs.Common.{◌≡◌, ◌+◌, ◌≤◌, ◌^◌, ◌++◌, min, length, map}
+use Rattle.std.proofs.Common.{◌≡◌, ◌++◌, length, map}
 use Rattle.std.specs.Str.{chars}
 use denote.Text.{Utf8}
 use denote.Shadow.{shadow}
-use Rattle.nf_value.specs.Plain.{plains_of}
 use Rattle.nf_value.specs.View.{plain_of}
-use Rattle.nf_value.specs.Code.{all_code}
 use Rattle.nf_builtins.specs.Texts.{is_one_of, token_texts}
 use Rattle.nf_builtins.proofs.tokens.token_values.Given as goal
 

@@ -1,4 +1,4 @@
-use Rattle.std.proofs.Common.{◌≡◌, ℕ, ◌≢◌, length, map, List, ap, subst, ◌∙◌, Some, slice_get}
+use Rattle.std.proofs.Common.{◌≡◌}
 use Rattle.nf_builtins.proofs.Names.{found_at, same_name, other_name, still_none, none_at_all}
 use Rattle.nf_builtins.proofs.table.Table.find.Goals as goal
 
