@@ -5,13 +5,13 @@ use Rattle.std.proofs.lemmas.Option.{slice_get-get_or}
 use Rattle.std.proofs.lemmas.Bool.{false≢true}
 use Rattle.nf_value.specs.Plain.{Plain, plains_of}
 use Rattle.nf_value.specs.declared.value.Value.{Value}
-use Rattle.nf_builtins.specs.declared.fault.CallFault.{CallFault}
+use Rattle.nf_texts.specs.declared.fault.CallFault.{CallFault}
 use Rattle.nf_builtins.specs.declared.rows.Builtin.{Builtin}
-use Rattle.nf_builtins.specs.Args.{items_of}
-use Rattle.nf_builtins.specs.Outcome.{Outcome, Gives}
+use Rattle.nf_texts.specs.Args.{items_of}
+use Rattle.nf_texts.specs.Outcome.{Outcome, Gives}
 use Rattle.nf_builtins.specs.Rows.{is_closure}
 use Rattle.nf_builtins.specs.Call.{is_plain, builtin_rows, IsPlainRow}
-use Rattle.nf_builtins.proofs.Inside.{items_of-plains_of}
+use Rattle.nf_texts.proofs.Inside.{items_of-plains_of}
 
 pub list_gives : (vs : List Plain) (g : List Plain → Outcome) (r : Result Value CallFault) → Gives (g vs) r → Gives (g (items_of (plains_of vs))) r
 list_gives vs g r h = subst (λ (ws : List Plain). Gives (g ws) r) (sym (items_of-plains_of vs)) h

@@ -5,11 +5,11 @@ use Rattle.nf_value.specs.Plain.{Plain, null, truth, int, text, file, list, tabl
 use Rattle.nf_value.specs.declared.fault.EvalKind.{EvalKind}
 use Rattle.nf_value.specs.declared.fault.EvalKind.TheVariants.{NoMethod, WrongKind, Overflow}
 use Rattle.nf_builtins.specs.declared.rows.On.TheVariants as on
-use Rattle.nf_builtins.specs.Outcome.{Outcome, ◌>>=◌}
+use Rattle.nf_texts.specs.Outcome.{Outcome, ◌>>=◌}
 use Rattle.nf_builtins.specs.Rows.{is_on}
 use Rattle.nf_builtins.specs.Reading.{is_no_method}
-use Rattle.nf_builtins.specs.Args.{text_or, int_or, items_of, on_text, on_list, on_file, on_table, no_args, one_arg, two_args, text_arg, int_arg, text_args, int_args}
-use Rattle.nf_builtins.specs.Texts.{count_of, count_arg, count_or_fault}
+use Rattle.nf_texts.specs.Args.{text_or, int_or, items_of, on_text, on_list, on_file, on_table, no_args, one_arg, two_args, text_arg, int_arg, text_args, int_args}
+use Rattle.nf_texts.specs.Texts.{count_of, count_arg, count_or_fault}
 use Rattle.nf_builtins.specs.Numbers.{number}
 use Rattle.nf_builtins.specs.Call.{by_kind, text_or_list}
 

@@ -6,15 +6,15 @@ use Rattle.std.proofs.lemmas.List.Elements.{All-from_recursion}
 use Rattle.nf_value.specs.Plain.{Plain, null, truth, int, text, file, list, table}
 use Rattle.nf_value.specs.declared.fault.EvalKind.TheVariants.{WrongKind, DivZero}
 use Rattle.nf_builtins.specs.declared.rows.On.TheVariants as on
-use Rattle.nf_builtins.specs.Outcome.{Outcome, ◌>>=◌}
+use Rattle.nf_texts.specs.Outcome.{Outcome, ◌>>=◌}
 use Rattle.nf_builtins.specs.Rows.{is_on}
 use Rattle.nf_builtins.specs.Call.{builtin_rows}
 use Rattle.nf_builtins.specs.Reading.{is_no_method, IsReadAsSaid}
-use Rattle.nf_builtins.specs.Args.{no_args, one_arg, text_arg, int_arg, text_args, int_args, text_or, int_or}
+use Rattle.nf_texts.specs.Args.{no_args, one_arg, text_arg, int_arg, text_args, int_args, text_or, int_or}
 use Rattle.nf_builtins.specs.Numbers.{number, size_of, quotient, integer_or_fault, to_integer}
-use Rattle.nf_builtins.specs.Texts.{count_arg, count_or_fault, part_from, part_between, substring_of, tokenize_of, replaced_or_fault, text_of}
+use Rattle.nf_texts.specs.Texts.{count_arg, count_or_fault, part_from, part_between, substring_of, tokenize_of, replaced_or_fault, text_of}
 use Rattle.nf_builtins.specs.Lists.{first_of, total_of, sum_of}
-use Rattle.nf_builtins.specs.Joined.{to_text}
+use Rattle.nf_texts.specs.Joined.{to_text}
 use Rattle.nf_builtins.proofs.Read.{then_free, either_free, text_free, int_free, no_args_free, one_arg_free, text_arg_free, int_arg_free, count_arg_free, count_or_fault_free, text_args_free, int_args_free, number_free, int_row, text_row, list_row, file_row, map_row, text_list_row, text_list_map_row}
 
 -- calls without arguments, and with some

@@ -5,10 +5,10 @@ use Rattle.nf_value.specs.View.{plain_of}
 use Rattle.nf_value.specs.declared.value.Value.{Value}
 use Rattle.nf_value.specs.declared.fault.EvalKind.{EvalKind}
 use Rattle.nf_value.specs.declared.fault.EvalKind.TheVariants.{WrongKind}
-use Rattle.nf_builtins.specs.Outcome.{◌>>=◌}
-use Rattle.nf_builtins.specs.Args.{int_or}
+use Rattle.nf_texts.specs.Outcome.{◌>>=◌}
+use Rattle.nf_texts.specs.Args.{int_or}
 use Rattle.nf_builtins.specs.Lists.{total_of}
-use Rattle.nf_builtins.proofs.Values.{left_at}
+use Rattle.nf_texts.proofs.Remaining.{left_at}
 
 adds : (r : Result ℤ EvalKind) (total n next : ℤ) → next ≡ total +ℤ n → ((r >>= λ m. Ok (n +ℤ m)) >>= λ m. Ok (total +ℤ m)) ≡ (r >>= λ m. Ok (next +ℤ m))
 adds (Ok m) total n next e = let same : total +ℤ (n +ℤ m) ≡ next +ℤ m = omega (arith, ints) in ap Ok same

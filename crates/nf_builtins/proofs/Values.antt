@@ -12,6 +12,7 @@ use Rattle.nf_value.specs.View.{plain_of}
 use Rattle.nf_value.specs.Identity.{value_cmp_exact}
 use Rattle.nf_value.specs.declared.value.Value.{Value}
 use Rattle.nf_value.specs.declared.value.Value.TheVariants as v
+use Rattle.nf_texts.proofs.Remaining.{left_at}
 use Rattle.nf_builtins.specs.Lists.{is_same, firsts_of}
 
 drop_all : (xs : List Value) (i : ℕ) → length xs ≤ i → drop i xs ≡ []
@@ -20,10 +21,6 @@ drop_all xs i h = nil_from_length (drop i xs) (omega (arith, length-drop i xs))
 pub any_map : {A B : Type 0} (p : B → Bool) (f : A → B) (xs : List A) → list_any p (map f xs) ≡ list_any (λ x. p (f x)) xs
 any_map p f [] = refl
 any_map p f (x ∷ xs) = ap (λ b. p (f x) || b) (any_map p f xs)
-
--- what is left of a list from a place on
-pub left_at : (xs : List Value) (i : ℕ) (x : Value) → i < length xs → x ≡ get_or xs i x → map plain_of (drop i xs) ≡ plain_of x ∷ map plain_of (drop (i + 1) xs)
-left_at xs i x h is = rw (add-one, drop-cons xs i x, ← is) refl
 
 any_append : {A : Type 0} (p : A → Bool) (xs : List A) (y : A) → list_any p (xs ++ y ∷ []) ≡ (list_any p xs || p y)
 any_append p [] y = of (p y)
@@ -129,6 +126,3 @@ map-reverse f (x ∷ xs) = ap (map f) (reverse-cons x xs) ∙ map-append f (reve
 
 pub reversed_of : (xs ys zs : List Value) (vs out : List Plain) → map plain_of xs ≡ vs → map plain_of ys ≡ map plain_of xs → zs ≡ reverse ys → out ≡ map plain_of zs → out ≡ reverse vs
 reversed_of xs ys zs vs out is copied turned e = e ∙ ap (map plain_of) turned ∙ map-reverse plain_of ys ∙ ap reverse (copied ∙ is)
-
-pub pushed_text : (old new : List Value) (t s : List ℕ) (all : List Plain) → new ≡ old ++ v.Text t ∷ [] → t ≡ s → all ≡ text s ∷ [] → map plain_of new ≡ map plain_of old ++ all
-pushed_text old new t s all e same is = ap (map plain_of) e ∙ map-append plain_of old (v.Text t ∷ []) ∙ ap (λ y. map plain_of old ++ text y ∷ []) same ∙ ap (λ l. map plain_of old ++ l) (sym is)

@@ -6,13 +6,13 @@ use Rattle.nf_builtins.specs.declared.method.Method.{Method}
 use Rattle.nf_builtins.specs.declared.method.Method.TheVariants as m
 use Rattle.nf_builtins.specs.declared.rows.Builtin.{Builtin}
 use Rattle.nf_builtins.specs.declared.rows.TheConstants.{ROWS}
-use Rattle.nf_builtins.specs.Outcome.{Outcome}
+use Rattle.nf_texts.specs.Outcome.{Outcome}
 use Rattle.nf_builtins.specs.Rows.{is_closure}
-use Rattle.nf_builtins.specs.Args.{items_of}
+use Rattle.nf_texts.specs.Args.{items_of}
 use Rattle.nf_builtins.specs.Numbers.{math_abs, math_max, math_min, intdiv, is_integer, to_integer}
-use Rattle.nf_builtins.specs.Texts.{text_take, text_drop, text_starts_with, text_ends_with, text_is_empty, text_size, text_length, text_reverse, to_lower_case, to_upper_case, substring, text_contains, text_index_of, replace, trim, tokenize}
+use Rattle.nf_texts.specs.Texts.{text_take, text_drop, text_starts_with, text_ends_with, text_is_empty, text_size, text_length, text_reverse, to_lower_case, to_upper_case, substring, text_contains, text_index_of, replace, trim, tokenize}
 use Rattle.nf_builtins.specs.Lists.{list_contains, list_index_of, list_take, list_drop, list_is_empty, list_size, list_reverse, list_first, list_last, list_sort, list_unique, list_flatten, list_max, list_min, list_sum}
-use Rattle.nf_builtins.specs.Joined.{list_join, to_text}
+use Rattle.nf_texts.specs.Joined.{list_join, to_text}
 use Rattle.nf_builtins.specs.Maps.{contains_key, key_set, map_values, map_is_empty, map_size}
 use Rattle.nf_builtins.specs.Files.{file_name, file_base_name, file_extension, file_simple_name}
 

@@ -2,8 +2,8 @@
 use Rattle.std.specs.Prelude.{ℕ, ◌==◌, Bool, List, [], ◌∷◌, length, if◌then◌else◌, Ok, Option, Some, None}
 use Rattle.std.specs.List.{before_first}
 use Rattle.nf_value.specs.Plain.{Plain, text}
-use Rattle.nf_builtins.specs.Outcome.{Outcome, ◌>>=◌}
-use Rattle.nf_builtins.specs.Args.{on_file, no_args}
+use Rattle.nf_texts.specs.Outcome.{Outcome, ◌>>=◌}
+use Rattle.nf_texts.specs.Args.{on_file, no_args}
 
 abbrev pub is_dot : ℕ → Bool
 is_dot b = b == 46

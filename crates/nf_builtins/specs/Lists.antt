@@ -7,9 +7,9 @@ use Rattle.nf_value.specs.Order.{value_cmp}
 use Rattle.nf_value.specs.declared.fault.EvalKind.{EvalKind}
 use Rattle.nf_value.specs.declared.fault.EvalKind.TheVariants.{WrongKind}
 use Rattle.nf_bag.specs.Sorted.{sorted_of}
-use Rattle.nf_builtins.specs.Outcome.{Outcome, ◌>>=◌}
-use Rattle.nf_builtins.specs.Args.{on_list, no_args, one_arg, int_or}
-use Rattle.nf_builtins.specs.Texts.{count_arg, place_number}
+use Rattle.nf_texts.specs.Outcome.{Outcome, ◌>>=◌}
+use Rattle.nf_texts.specs.Args.{on_list, no_args, one_arg, int_or}
+use Rattle.nf_texts.specs.Texts.{count_arg, place_number}
 use Rattle.nf_builtins.specs.Numbers.{number}
 
 -- the list of these values

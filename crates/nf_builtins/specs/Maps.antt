@@ -3,8 +3,8 @@ use Rattle.std.specs.Prelude.{ℕ, pos, nat_eq, ◌==◌, Bool, false, ◌||◌,
 use Rattle.std.specs.Cmp.Lexicographic.{pointwise}
 use Rattle.nf_value.specs.Plain.{Plain, text, int, truth, list, Plains, no_items, item, PlainPairs, no_pairs, pair}
 use Rattle.nf_value.specs.Code.{count_pairs}
-use Rattle.nf_builtins.specs.Outcome.{Outcome, ◌>>=◌}
-use Rattle.nf_builtins.specs.Args.{on_table, no_args, text_arg}
+use Rattle.nf_texts.specs.Outcome.{Outcome, ◌>>=◌}
+use Rattle.nf_texts.specs.Args.{on_table, no_args, text_arg}
 
 abbrev pub has_key : List ℕ → PlainPairs → Bool
 has_key k no_pairs = false

@@ -6,8 +6,8 @@ use Rattle.nf_value.specs.Plain.{Plain, null, truth, int, text, file, list, tabl
 use Rattle.nf_value.specs.View.{plain_of}
 use Rattle.nf_value.specs.declared.value.Value.{Value}
 use Rattle.nf_value.specs.declared.fault.EvalKind.TheVariants.{Native}
-use Rattle.nf_builtins.specs.declared.fault.CallFault.{CallFault}
-use Rattle.nf_builtins.specs.declared.fault.CallFault.TheVariants as fault
+use Rattle.nf_texts.specs.declared.fault.CallFault.{CallFault}
+use Rattle.nf_texts.specs.declared.fault.CallFault.TheVariants as fault
 use Rattle.nf_builtins.specs.Method.{method_name}
 use Rattle.nf_builtins.specs.Call.{builtin_rows}
 

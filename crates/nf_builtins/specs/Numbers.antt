@@ -4,8 +4,8 @@ use Rattle.std.specs.Str.{all_ascii_digits}
 use Rattle.std.specs.Str.Parse.{digits_value}
 use Rattle.nf_value.specs.Plain.{Plain, null, truth, int, text, file, list, table}
 use Rattle.nf_value.specs.declared.fault.EvalKind.TheVariants.{Overflow, DivZero, NoMethod, NotNumber}
-use Rattle.nf_builtins.specs.Outcome.{Outcome, ◌>>=◌}
-use Rattle.nf_builtins.specs.Args.{int_or, no_args, int_arg, int_args, on_text}
+use Rattle.nf_texts.specs.Outcome.{Outcome, ◌>>=◌}
+use Rattle.nf_texts.specs.Args.{int_or, no_args, int_arg, int_args, on_text}
 
 -- the number, unless it leaves 64 signed bits
 abbrev pub number : ℤ → Outcome

@@ -2,13 +2,13 @@
 
 ghost use Rattle.std.specs.Prelude.{◌≡◌, true, slice_get, IfSome};
 ghost use Rattle.nf_value.specs.View.{plain_of};
-ghost use Rattle.nf_builtins.specs.Outcome.{Gives};
+ghost use Rattle.nf_texts.specs.Outcome.{Gives};
 ghost use Rattle.nf_builtins.specs.Call.{builtin_rows, IsPlainRow, answer_of, is_plain, contains_row, drop_row, take_row, index_of_row, reverse_row, is_empty_row, size_row};
 
-use crate::fault::CallFault;
 use crate::method::Method;
 use crate::rows::ROWS;
-use crate::{files, joining, lists, maps, numbers, texts, tokens, totals};
+use crate::{files, lists, maps, numbers, totals};
+use nf_texts::{CallFault, joining, texts, tokens};
 use nf_value::{EvalKind, Vals, Value};
 use std::alloc::Global;
 

@@ -2,12 +2,12 @@
 
 ghost use Rattle.std.specs.Prelude.{◌≡◌, [], MatchOption};
 ghost use Rattle.nf_value.specs.View.{plain_of};
-ghost use Rattle.nf_builtins.specs.Outcome.{Gives};
+ghost use Rattle.nf_texts.specs.Outcome.{Gives};
 ghost use Rattle.nf_builtins.specs.Files.{file_name, file_base_name, file_extension, file_simple_name, base_name_of, extension_of, simple_name_of};
 
-use crate::args::{no_args, on_file};
-use crate::fault::CallFault;
-use crate::limits::text_value;
+use nf_texts::CallFault;
+use nf_texts::args::{no_args, on_file};
+use nf_texts::limits::text_value;
 use nf_value::{Vals, Value};
 use std::alloc::Global;
 

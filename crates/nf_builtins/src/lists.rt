@@ -1,14 +1,14 @@
 //! Rows on lists.
 
 ghost use Rattle.nf_value.specs.View.{plain_of};
-ghost use Rattle.nf_builtins.specs.Outcome.{Gives};
+ghost use Rattle.nf_texts.specs.Outcome.{Gives};
 ghost use Rattle.nf_builtins.specs.Lists.{list_contains, list_index_of, list_take, list_drop, list_is_empty, list_size, list_reverse, list_first, list_last, list_sort, list_unique, list_max, list_min};
 
-use crate::args::{count_arg, no_args, on_list, one_arg};
-use crate::fault::CallFault;
 use crate::items::{count, firsts, front, greatest_of, has, least_of, place_of, rest, reversed};
-use crate::limits::{copied, count_value, judged};
 use nf_bag::sorted;
+use nf_texts::CallFault;
+use nf_texts::args::{count_arg, no_args, on_list, one_arg};
+use nf_texts::limits::{copied, count_value, judged};
 use nf_value::{EvalKind, Vals, Value};
 use std::alloc::Global;
 

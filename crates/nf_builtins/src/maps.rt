@@ -4,12 +4,12 @@ ghost use Rattle.std.specs.Prelude.{◌≡◌, ◌<◌, ◌^◌, IfOk, map};
 ghost use Rattle.nf_value.specs.Plain.{plains_of, plain_pairs_of};
 ghost use Rattle.nf_value.specs.View.{plain_of};
 ghost use Rattle.nf_value.specs.Code.{count_pairs};
-ghost use Rattle.nf_builtins.specs.Outcome.{Gives};
+ghost use Rattle.nf_texts.specs.Outcome.{Gives};
 ghost use Rattle.nf_builtins.specs.Maps.{contains_key as contains_key_of, key_set as key_set_of, map_values, map_is_empty, map_size, has_key as has_key_of, keys_of, values_of};
 
-use crate::args::{no_args, on_map, text_arg};
-use crate::fault::CallFault;
-use crate::limits::{count_value, judged};
+use nf_texts::CallFault;
+use nf_texts::args::{no_args, on_map, text_arg};
+use nf_texts::limits::{count_value, judged};
 use nf_value::{Mem, Pairs, Vals, Value};
 use std::alloc::Global;
 

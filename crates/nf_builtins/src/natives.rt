@@ -3,7 +3,7 @@
 ghost use Rattle.std.specs.Prelude.{◌≡◌, ◌<◌, ◌^◌, true, length, slice_get, Some};
 ghost use Rattle.nf_builtins.specs.Natives.{AnswersNative, are_native_names};
 
-use crate::fault::CallFault;
+use nf_texts::CallFault;
 use nf_value::{Txt, Vals, Value};
 use std::alloc::Global;
 use std::marker::Model;

@@ -2,12 +2,12 @@
 
 ghost use Rattle.std.specs.Prelude.{◌≡◌};
 ghost use Rattle.nf_value.specs.View.{plain_of};
-ghost use Rattle.nf_builtins.specs.Outcome.{Gives};
+ghost use Rattle.nf_texts.specs.Outcome.{Gives};
 ghost use Rattle.nf_builtins.specs.Numbers.{math_abs, math_max, math_min, intdiv as intdiv_of, is_integer as is_integer_of, to_integer as to_integer_of, quotient as quotient_of, integer_in};
 
-use crate::args::{int_arg, int_args, no_args, on_int, on_text};
-use crate::fault::CallFault;
-use crate::limits::judged;
+use nf_texts::CallFault;
+use nf_texts::args::{int_arg, int_args, no_args, on_int, on_text};
+use nf_texts::limits::judged;
 use nf_value::{EvalKind, Vals, Value};
 
 /// `Math.abs(x)`: the number without its sign.

@@ -4,9 +4,9 @@ ghost use Rattle.std.specs.Prelude.{◌≡◌, ◌≤◌, ◌++◌, IfOk, string
 ghost use Rattle.nf_value.specs.View.{plain_of};
 ghost use Rattle.nf_builtins.specs.Natives.{AnswersNative, are_native_names, program_names as program_names_of, program_answer, clamp_of, clamped, pad_of, pad_numbers, zero_padded, whole as whole_of, whole_two as whole_two_of, whole_three as whole_three_of};
 
-use crate::fault::CallFault;
 use crate::natives::NativeBook;
 use itoa::Buffer;
+use nf_texts::CallFault;
 use nf_value::{EvalKind, Mem, Txt, Vals, Value};
 use std::alloc::{AllocError, Global};
 

@@ -7,7 +7,7 @@ ghost use Rattle.nf_value.specs.View.{plain_of};
 ghost use Rattle.nf_builtins.specs.Rows.{is_on, is_closure};
 
 use crate::method::Method;
-use crate::table::{Named, Table};
+use nf_table::{Named, Table};
 use nf_value::{Mem, Value};
 use std::alloc::Global;
 

@@ -3,13 +3,13 @@
 ghost use Rattle.std.specs.Prelude.{◌≡◌, ◌++◌, ◌^◌, ◌≤ℤ◌, ◌+ℤ◌, pos, neg_ℤ, IfOk, map};
 ghost use Rattle.nf_value.specs.Plain.{plains_of};
 ghost use Rattle.nf_value.specs.View.{plain_of};
-ghost use Rattle.nf_builtins.specs.Outcome.{Gives};
+ghost use Rattle.nf_texts.specs.Outcome.{Gives};
 ghost use Rattle.nf_builtins.specs.Numbers.{number as number_of};
 ghost use Rattle.nf_builtins.specs.Lists.{list_sum, list_flatten, total_of, total_with_one, sum_of, leaves, all_leaves};
 
-use crate::args::{as_int, no_args, on_list};
-use crate::fault::CallFault;
-use crate::limits::judged;
+use nf_texts::CallFault;
+use nf_texts::args::{as_int, no_args, on_list};
+use nf_texts::limits::judged;
 use nf_value::{EvalKind, Mem, Vals, Value};
 use std::alloc::Global;
 

@@ -1,5 +1,5 @@
 use Rattle.nf_value.specs.View.{plain_of}
-use Rattle.nf_builtins.specs.Outcome.{Gives}
+use Rattle.nf_texts.specs.Outcome.{Gives}
 use Rattle.nf_builtins.specs.Call.{answer_of}
 use Rattle.nf_builtins.proofs.Lines.{plain_at, at_row}
 use Rattle.nf_builtins.proofs.calls.call.Goals as goal

@@ -1,5 +1,5 @@
 use Rattle.std.proofs.Common.{arith}
-use Rattle.nf_builtins.proofs.Inside.{item_is_smaller}
+use Rattle.nf_texts.proofs.Inside.{item_is_smaller}
 use Rattle.nf_builtins.proofs.totals.+leaves.Goals as goal
 
 pub put_all_leaves-put_leaves-requires : goal.put_all_leaves-put_leaves-requires

@@ -1,6 +1,6 @@
 use Rattle.std.proofs.Common.{◌≡◌, ◌*◌, ◌^◌, map, drop, pos, neg_ℤ, ◌≤ℤ◌, ◌+ℤ◌, Ok}
 use Rattle.nf_value.specs.View.{plain_of}
-use Rattle.nf_builtins.specs.Outcome.{◌>>=◌}
+use Rattle.nf_texts.specs.Outcome.{◌>>=◌}
 use Rattle.nf_builtins.specs.Lists.{total_of}
 use Rattle.nf_builtins.proofs.totals.total.Given as goal
 

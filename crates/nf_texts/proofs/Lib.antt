@@ -1,0 +1,11 @@
+pub mod Remaining
+pub mod Cutting
+pub mod Ends
+pub mod Inside
+pub mod Leading
+pub mod Parts
+pub mod Places
+pub mod Reversing
+pub mod Rewriting
+pub mod Spelt
+pub mod Weighing

@@ -1,0 +1,9 @@
+use Rattle.std.proofs.lemmas.Iterator.{YieldsList-from_chars, text_from_collect}
+use Rattle.std.proofs.lemmas.Iterator.Adapters.{YieldsList-from_skip}
+use Rattle.std.proofs.lemmas.Iterator.Consumers.{YieldsList-at}
+use Rattle.nf_texts.proofs.characters.later_chars.Goals as goal
+
+pub returns : goal.returns
+returns c =
+    text_from_collect c.collect.result c.collect.ensures.ran
+    (YieldsList-from_skip c.args.count (YieldsList-at c.skip.ensures.source (YieldsList-from_chars c.args.text.now c.utf8.text c.chars.ensures.rest)) c.skip.ensures.count)

@@ -1,0 +1,4 @@
+pub mod Outcome
+pub mod Args
+pub mod Texts
+pub mod Joined

@@ -1,0 +1,15 @@
+//! What methods on texts give, and what all methods share: faults, arguments, limits and the lengths of values' texts.
+#![tactic(auto)]
+
+pub mod args;
+mod characters;
+mod fault;
+pub mod joining;
+pub mod lengths;
+pub mod limits;
+mod replacing;
+pub mod texts;
+pub mod tokens;
+mod trimming;
+
+pub use fault::CallFault;
