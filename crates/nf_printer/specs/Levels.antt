@@ -1,0 +1,106 @@
+-- Where brackets have to stand round an expression.
+use Rattle.std.specs.Prelude.{ℕ, suc, Bool, true, false, not, ◌||◌, ◌&&◌, List, [], ◌∷◌, ◌++◌, codes, bytes_eq, nat_lt, if◌then◌else◌}
+use Rattle.nf_lexer.specs.declared.token.Mark.TheVariants as m
+use Rattle.nf_ast.specs.declared.marks.InfixMark.{InfixMark}
+use Rattle.nf_ast.specs.declared.marks.InfixMark.TheVariants as i
+use Rattle.nf_ast.specs.Tree as tree
+use Rattle.nf_ast.specs.Tree.{Tree}
+use Rattle.nf_printer.specs.Ink.{Ink, mark}
+
+-- ---- how closely marks bind
+
+abbrev pub mark_level : InfixMark → ℕ
+mark_level i.Or = 1
+mark_level i.And = 2
+mark_level i.Pipe = 3
+mark_level i.Same = 4
+mark_level i.Differs = 4
+mark_level i.Matches = 4
+mark_level i.Less = 5
+mark_level i.AtMost = 5
+mark_level i.Greater = 5
+mark_level i.AtLeast = 5
+mark_level i.In = 5
+mark_level i.Range = 6
+mark_level i.Plus = 7
+mark_level i.Minus = 7
+mark_level i.Times = 8
+mark_level i.Remainder = 8
+
+abbrev pub prefix_level : ℕ
+prefix_level = 9
+
+abbrev pub postfix_level : ℕ
+postfix_level = 10
+
+-- the level of an expression is that of its outermost mark; a conditional one has the least
+abbrev pub level : Tree → ℕ
+level (tree.conditional p c a b) = 0
+level (tree.elvis p a b) = 0
+level (tree.binary p x a b) = mark_level x
+level (tree.prefix p x e) = prefix_level
+level _ = postfix_level
+
+-- the level that the left operand of a mark has at least: of the marks of comparing and of `..` one alone may stand on a level
+abbrev pub left_level : InfixMark → ℕ
+left_level i.Same = 5
+left_level i.Differs = 5
+left_level i.Matches = 5
+left_level i.Less = 6
+left_level i.AtMost = 6
+left_level i.Greater = 6
+left_level i.AtLeast = 6
+left_level i.In = 6
+left_level i.Range = 7
+left_level x = mark_level x
+
+-- and the right operand
+abbrev pub right_level : InfixMark → ℕ
+right_level x = suc (mark_level x)
+
+-- brackets have to stand round an expression where this level is asked for
+abbrev pub needs : ℕ → Tree → Bool
+needs n e = nat_lt (level e) n
+
+-- ---- what an expression begins with
+
+abbrev pub is_name : List ℕ → Tree → Bool
+is_name word (tree.name p s) = bytes_eq s word
+is_name word _ = false
+
+abbrev pub is_minus : InfixMark → Bool
+is_minus i.Minus = true
+is_minus _ = false
+
+-- an expression, before a token with which another may begin or not, is read as a statement of `println` or `log` where it begins one
+abbrev pub prints : Tree → Bool → Bool
+prints (tree.name p s) next = bytes_eq s (codes "println") && next
+prints (tree.property e n) next = not (needs postfix_level e) && (if is_name (codes "log") e then next else prints e false)
+prints (tree.safe_property e n) next = not (needs postfix_level e) && prints e false
+prints (tree.index p e x) next = not (needs postfix_level e) && prints e true
+prints (tree.call p e xs) next = not (needs postfix_level e) && prints e true
+prints (tree.call_with e c) next = not (needs postfix_level e) && prints e true
+prints (tree.binary p x a b) next = not (needs (left_level x) a) && prints a (is_minus x)
+prints (tree.conditional p c a b) next = not (needs 1 c) && prints c false
+prints (tree.elvis p a b) next = not (needs 1 a) && prints a false
+prints _ next = false
+
+-- an expression whose text begins with `(`
+abbrev pub begins_round : Tree → Bool
+begins_round (tree.property e n) = needs postfix_level e || begins_round e
+begins_round (tree.safe_property e n) = needs postfix_level e || begins_round e
+begins_round (tree.index p e x) = needs postfix_level e || begins_round e
+begins_round (tree.call p e xs) = needs postfix_level e || begins_round e
+begins_round (tree.call_with e c) = needs postfix_level e || begins_round e
+begins_round (tree.binary p x a b) = needs (left_level x) a || begins_round a
+begins_round (tree.conditional p c a b) = needs 1 c || begins_round c
+begins_round (tree.elvis p a b) = needs 1 a || begins_round a
+begins_round _ = false
+
+-- ---- brackets
+
+abbrev pub round : List Ink → List Ink
+round xs = mark m.OpenRound ∷ xs ++ mark m.CloseRound ∷ []
+
+abbrev pub within : Bool → List Ink → List Ink
+within brackets xs = if brackets then round xs else xs

@@ -1,0 +1,8 @@
+pub mod Ink
+pub mod Levels
+pub mod Lines
+pub mod Exprs
+pub mod Leading
+pub mod Chains
+pub mod Tops
+pub mod Styles

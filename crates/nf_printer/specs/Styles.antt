@@ -1,0 +1,17 @@
+-- What contracts see of this crate's own types.
+use Rattle.nf_lexer.specs.declared.open.TextKind.{TextKind}
+use Rattle.nf_lexer.specs.declared.open.TextKind.TheVariants.{Plain, Pattern, Template}
+use Rattle.nf_printer.specs.declared.escapes.Style.{Style}
+use Rattle.nf_printer.specs.declared.escapes.Style.TheVariants as s
+use Rattle.nf_printer.specs.declared.layout.Margin.{Margin}
+use Rattle.nf_printer.specs.declared.layout.Margin.TheVariants as g
+use Rattle.nf_printer.specs.Lines.{Layout, lines, inline}
+
+abbrev pub kind_of : Style → TextKind
+kind_of (s.Plain k) = Plain k
+kind_of s.Pattern = Pattern
+kind_of (s.Template k) = Template k
+
+abbrev pub layout_of : Margin → Layout
+layout_of (g.Lines m) = lines m.items
+layout_of g.Inline = inline

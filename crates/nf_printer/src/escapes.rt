@@ -1,0 +1,114 @@
+//! What stands for a byte in a string.
+
+ghost use Rattle.std.specs.Prelude.{◌≡◌, ◌==◌, ◌||◌, if◌then◌else◌};
+ghost use Rattle.nf_lexer.specs.Spellings.{closing};
+ghost use Rattle.nf_printer.specs.Ink.{letter as letter_of, blank_letter as blank_letter_of, line_letter as line_letter_of};
+ghost use Rattle.nf_printer.specs.Styles.{kind_of};
+
+use nf_lexer::{PlainKind, TemplateKind};
+
+/// How a string is written.
+#[derive(Clone, Copy)]
+pub enum Style {
+    /// A plain string of a kind.
+    Plain(PlainKind),
+    /// A pattern.
+    Pattern,
+    /// A template of a kind.
+    Template(TemplateKind),
+}
+
+impl Style {
+    /// The marks that close it, and but for a pattern open it.
+    pub fn closing(self) -> &'static str
+        ensures { result.now ≡ closing (kind_of self) }
+    {
+        match self {
+            Style::Plain(PlainKind::Single) => "'",
+            Style::Plain(PlainKind::TripleSingle) => "'''",
+            Style::Plain(PlainKind::Slashes) => "/",
+            Style::Pattern => "/",
+            Style::Template(TemplateKind::Double) => "\"",
+            Style::Template(TemplateKind::TripleDouble) => "\"\"\"",
+        }
+    }
+}
+
+/// The letter that a byte has after a backslash, or none where the byte stands for itself; `on_line` where the string has to stay on
+/// its line.
+pub fn letter(style: Style, on_line: bool, byte: u8) -> Option<u8>
+    ensures { result ≡ letter_of (kind_of style) on_line byte }
+{
+    match style {
+        Style::Plain(PlainKind::Single) => {
+            if is_single_special(byte) {
+                Some(byte)
+            } else {
+                blank_letter(byte)
+            }
+        }
+        Style::Plain(PlainKind::TripleSingle) => {
+            if is_single_special(byte) {
+                Some(byte)
+            } else {
+                line_letter(on_line, byte)
+            }
+        }
+        Style::Plain(PlainKind::Slashes) | Style::Pattern => slash_letter(byte),
+        Style::Template(TemplateKind::Double) => {
+            if is_double_special(byte) {
+                Some(byte)
+            } else {
+                blank_letter(byte)
+            }
+        }
+        Style::Template(TemplateKind::TripleDouble) => {
+            if is_double_special(byte) {
+                Some(byte)
+            } else {
+                line_letter(on_line, byte)
+            }
+        }
+    }
+}
+
+/// A byte that means something in a string of single quotes.
+fn is_single_special(byte: u8) -> bool
+    ensures { result ≡ (byte == 92 || byte == 39) }
+{
+    byte == b'\\' || byte == b'\''
+}
+
+/// A byte that means something in a template.
+fn is_double_special(byte: u8) -> bool
+    ensures { result ≡ (byte == 92 || byte == 34 || byte == 36) }
+{
+    byte == b'\\' || byte == b'"' || byte == b'$'
+}
+
+fn blank_letter(byte: u8) -> Option<u8>
+    ensures { result ≡ blank_letter_of byte }
+{
+    match byte {
+        b'\n' => Some(b'n'),
+        b'\t' => Some(b't'),
+        b'\r' => Some(b'r'),
+        _ => None,
+    }
+}
+
+fn line_letter(on_line: bool, byte: u8) -> Option<u8>
+    ensures { result ≡ line_letter_of on_line byte }
+{
+    if on_line && byte == b'\n' {
+        Some(b'n')
+    } else {
+        None
+    }
+}
+
+fn slash_letter(byte: u8) -> Option<u8>
+    ensures { result ≡ (if byte == 47 then Some byte else None) }
+{
+    if byte == b'/' { Some(byte) } else { None }
+}
