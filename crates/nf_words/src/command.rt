@@ -1,7 +1,7 @@
 //! The command that the words give.
 
 ghost use Rattle.std.specs.Prelude.{◌≡◌, None, map, string_bytes, IfOk};
-ghost use Rattle.nf_words.specs.Words.{command_of, run_from, is_option as is_option_of, Reads};
+ghost use Rattle.nf_words.specs.Words.{command_of, file_from, is_option as is_option_of, Reads};
 
 use crate::fault::UsageFault;
 use nf_value::{Mem, Txt};
@@ -12,6 +12,8 @@ use std::alloc::Global;
 pub enum Command {
     /// `run FILE`: run the script of that file.
     Run(RunWords),
+    /// `fmt FILE`: write the canonical text of the script of that file.
+    Fmt(FmtWords),
 }
 
 /// What the words of `run` say (own).
@@ -21,7 +23,14 @@ pub struct RunWords {
     pub file: Txt,
 }
 
-/// Reads a command line: `run` with one FILE. Words are judged from left to right, and missing ones last (own; the
+/// What the words of `fmt` say (own).
+#[derive(Drop)]
+pub struct FmtWords {
+    /// The path of the script, as it was given. It doesn't begin with `-`, and may be empty.
+    pub file: Txt,
+}
+
+/// Reads a command line: `run` or `fmt`, with one FILE. Words are judged from left to right, and missing ones last (own; the
 /// Nextflow reference documentation has the command `run` under "Command line").
 ///
 /// # Errors
@@ -35,14 +44,22 @@ pub fn read_words(alloc: Global, words: &[String]) -> Result<Command, UsageFault
     let Some((command, rest)) = words.split_first() else {
         return Err(UsageFault::NoCommand);
     };
-    if command.as_str() != "run" {
-        return Err(UsageFault::UnknownWord { at: 0 });
+    match command.as_str() {
+        "run" => {
+            let file = one_file(alloc, rest)?;
+            Ok(Command::Run(RunWords { file }))
+        }
+        "fmt" => {
+            let file = one_file(alloc, rest)?;
+            Ok(Command::Fmt(FmtWords { file }))
+        }
+        _ => Err(UsageFault::UnknownWord { at: 0 }),
     }
-    run_words(alloc, rest)
 }
 
-fn run_words(alloc: Global, words: &[String]) -> Result<Command, UsageFault>
-    ensures { Reads (run_from 1 None (map string_bytes words.now)) result }
+/// The one FILE of the words after a command.
+fn one_file(alloc: Global, words: &[String]) -> Result<Txt, UsageFault>
+    ensures { Reads (file_from 1 None (map string_bytes words.now)) result }
 {
     let Some((file, rest)) = words.split_first() else {
         return Err(UsageFault::NoValue { at: 1 });
@@ -53,8 +70,7 @@ fn run_words(alloc: Global, words: &[String]) -> Result<Command, UsageFault>
     if rest.split_first().is_some() {
         return Err(UsageFault::UnknownWord { at: 2 });
     }
-    let file = copied(alloc, file.as_str())?;
-    Ok(Command::Run(RunWords { file }))
+    Ok(copied(alloc, file.as_str())?)
 }
 
 fn is_option(word: &str) -> bool

@@ -6,5 +6,5 @@ mod fault;
 #[cfg(test)]
 mod tests;
 
-pub use command::{Command, RunWords, read_words};
+pub use command::{Command, FmtWords, RunWords, read_words};
 pub use fault::UsageFault;

@@ -4,7 +4,7 @@ use crate::{Command, UsageFault, read_words};
 use std::alloc::Global;
 use std::test::Fail;
 
-const LINES: [(&[&str], &str); 15] = [
+const LINES: [(&[&str], &str); 23] = [
     (&[], "NoCommand"),
     (&["run"], "NoValue at word 1"),
     (&["run", "a.nf"], "run a.nf"),
@@ -17,6 +17,14 @@ const LINES: [(&[&str], &str); 15] = [
     (&["run", "a", "b"], "UnknownWord at word 2"),
     (&["run", "a", "-x"], "UnknownWord at word 2"),
     (&["run", "-x", "a", "b"], "UnknownWord at word 1"),
+    (&["fmt"], "NoValue at word 1"),
+    (&["fmt", "a.nf"], "fmt a.nf"),
+    (&["fmt", ""], "fmt "),
+    (&["fmt", "run"], "fmt run"),
+    (&["run", "fmt"], "run fmt"),
+    (&["fmt", "-x", "a"], "UnknownWord at word 1"),
+    (&["fmt", "a", "b"], "UnknownWord at word 2"),
+    (&["fmts", "a.nf"], "UnknownWord at word 0"),
     (&["frob"], "UnknownWord at word 0"),
     (&["runs", "a.nf"], "UnknownWord at word 0"),
     (&["", "run"], "UnknownWord at word 0"),
@@ -40,6 +48,7 @@ fn shown(alloc: Global, words: &[&str]) -> Result<String, Fail> {
         owned.push(String::from_str(alloc, word)?)?;
     }
     match read_words(alloc, &owned) {
+        Ok(Command::Fmt(fmt)) => Ok(format!(in alloc; "fmt {}", fmt.file.as_str())?),
         Ok(Command::Run(run)) => Ok(format!(in alloc; "run {}", run.file.as_str())?),
         Err(fault) => Ok(format!(in alloc; "{fault}")?),
     }
