@@ -7,18 +7,16 @@ use Rattle.nf_host.specs.Files.{Files}
 use Rattle.nf_job.specs.declared.report.Report.{Report}
 use Rattle.nf_lane.specs.World.{World}
 use Rattle.nf_core.specs.declared.event.Event.{Event}
-use Rattle.nf_core.specs.Machine.{starts}
 use Rattle.nf_forms.specs.Form.{Form}
-use Rattle.nf_run.specs.Run.{meant, state_after}
+use Rattle.nf_run.specs.Run.{state_after}
 use Rattle.nf_cli.specs.declared.ends.End.{End}
 use Rattle.nf_cli.specs.declared.ends.End.TheVariants as end
 use Rattle.nf_cli.specs.declared.ends.ItemCause.TheVariants.{Eval}
 use Rattle.nf_cli.specs.declared.works.Output.{Output}
-use Rattle.nf_cli.specs.Outcome.{Outcome, runs, misused, absent, unlexed, unparsed, unbuilt}
+use Rattle.nf_cli.specs.Outcome.{Outcome, runs, formats, misused, absent, unlexed, unparsed, unbuilt}
 use Rattle.nf_cli.specs.Means.{Means}
-use Rattle.nf_cli.specs.Report.{report_of, summary}
-use Rattle.nf_cli.specs.Due.{RunEnds, MayEnd, Ended, as_due, host_failed, no_memory, StopEnds, EndsByStop, OnHostFault, OnLaneFault, WroteOutput, WroteReport, OnOutput, OutputStands, Tells, EndsOver}
-use Rattle.nf_cli.specs.Work.{WorkGives, HasWorked, IsReported, IsRefusal, IsWritten, IsKept, EndsAs}
+use Rattle.nf_cli.specs.Due.{RunEnds, MayEnd, Ended, as_due, host_failed, no_memory, StopEnds, EndsByStop, OnHostFault, OnLaneFault, WroteOutput, WroteDue, WroteOutcome, OnOutput, OutputStands, Tells, EndsOver}
+use Rattle.nf_cli.specs.Work.{WorkGives, HasWorked, IsDue, IsRefusal, IsWritten, IsKept, EndsAs, output_text}
 
 -- the end stays, or it is Mem
 same_or_memory : (P : End → Type 0) → P end.Mem → (before after : End) → P before → IsKept before after → P after
@@ -35,7 +33,7 @@ same_or_memory P m before end.HostFault h k = subst P (sym k) h
 same_or_memory P m before end.LaneFault h k = subst P (sym k) h
 same_or_memory P m before end.SinkFault h k = subst P (sym k) h
 
--- what holds of both ends of a call that writes a report
+-- what holds of both ends of a call that writes an output
 written : (P : End → Type 0) → P end.Ok → P end.SinkFault → (e : End) → IsWritten e → P e
 written P a b end.Ok w = a
 written P a b end.SinkFault w = b
@@ -52,8 +50,18 @@ written P a b end.Mem w = absurd w
 
 -- ---- the end is the outcome
 
+-- what is due to be written may be the end
+due_may : (outcome : Outcome) (h : List Event) (o : Output) (e : End) → IsDue outcome h o → IsWritten e → MayEnd outcome h e
+due_may (runs form) h o e due k = written (RunEnds form h) due.well due.well e k
+due_may (formats tree) h o e due k = written (MayEnd (formats tree) h) tt tt e k
+due_may (misused f) h o e due k = absurd due
+due_may absent h o e due k = absurd due
+due_may (unlexed f) h o e due k = absurd due
+due_may (unparsed f) h o e due k = absurd due
+due_may (unbuilt p) h o e due k = absurd due
+
 ended : (words : List (List ℕ)) (files : Files) (h : List Event) (r : Result Output End) (e : End) → WorkGives words files h r → EndsAs r e → Ended words files h e
-ended words files h (Ok o) e g k = as_due (runs g.0) g.1 (written (RunEnds g.0 h) g.2.well g.2.well e k)
+ended words files h (Ok o) e g k = as_due g.0 g.1 (due_may g.0 h o e g.2 k)
 ended words files h (Err before) e g k = same_or_memory (Ended words files h) no_memory before e g k
 
 -- ---- the outcome is the end
@@ -61,6 +69,7 @@ ended words files h (Err before) e g k = same_or_memory (Ended words files h) no
 -- memory may end any call
 memory_may : (o : Outcome) (h : List Event) → MayEnd o h end.Mem
 memory_may (runs form) h = tt
+memory_may (formats tree) h = tt
 memory_may (misused due) h = tt
 memory_may absent h = tt
 memory_may (unlexed due) h = tt
@@ -70,6 +79,7 @@ memory_may (unbuilt due) h = tt
 -- the host ends a call whose words are right, before anything is run
 host_may : (words : List (List ℕ)) (files : Files) (h : List Event) (command : Command) → command_of words ≡ Ok command → h ≡ [] → (o : Outcome) → Means words files o → MayEnd o h end.HostFault
 host_may words files h command right nothing (runs form) means = nothing
+host_may words files h command right nothing (formats tree) means = tt
 host_may words files h command right nothing (misused due) means = absurd (let e : ◌≡◌ {A = Result Command UsageFault} (Ok command) (Err due) = sym right ∙ means in cc)
 host_may words files h command right nothing absent means = tt
 host_may words files h command right nothing (unlexed due) means = tt
@@ -99,6 +109,7 @@ run_stops form h (end.Unbuilt p) w = absurd w
 
 stopped : (o : Outcome) (h : List Event) (e : End) → MayEnd o h e → EndsByStop o h e
 stopped (runs form) h e may = run_stops form h e may
+stopped (formats tree) h e may = tt
 stopped (misused due) h e may = tt
 stopped absent h e may = tt
 stopped (unlexed due) h e may = tt
@@ -147,18 +158,24 @@ on_output end.Mem P h = tt
 
 -- what the sink took of this output, where it tells it
 abbrev pub Took : Option (List ℕ) → Option (List ℕ) → Result Output End → End → Type 0
-Took old new r e = IfOk r (λ o. IfSome old (λ before. IfSome new (λ after. WroteOutput e o.report o.summary before after)))
+Took old new r e = IfOk r (λ o. IfSome old (λ before. IfSome new (λ after. WroteOutput e (output_text o) before after)))
 
-is_written : (form : Form) (h : List Event) (o : Output) (e : End) (before after : List ℕ) → IsReported form h o → WroteOutput e o.report o.summary before after → WroteOutput e (report_of (meant form h).viewed) (summary (starts h)) before after
-is_written form h o e before after r w = subst (λ line. WroteOutput e (report_of (meant form h).viewed) line before after) r.output.summary (subst (λ report. WroteOutput e report o.summary before after) r.output.report w)
+due_written : (outcome : Outcome) (h : List Event) (o : Output) (e : End) (before after : List ℕ) → IsDue outcome h o → WroteOutput e (output_text o) before after → WroteDue outcome h e before after
+due_written (runs form) h o e before after due w = subst (λ output. WroteOutput e output before after) due.output w
+due_written (formats tree) h o e before after due w = subst (λ output. WroteOutput e output before after) due w
+due_written (misused f) h o e before after due w = absurd due
+due_written absent h o e before after due w = absurd due
+due_written (unlexed f) h o e before after due w = absurd due
+due_written (unparsed f) h o e before after due w = absurd due
+due_written (unbuilt p) h o e before after due w = absurd due
 
 output : (words : List (List ℕ)) (files : Files) (h : List Event) (old new : Option (List ℕ)) (r : Result Output End) (e : End) → WorkGives words files h r → IfErr r IsRefusal → EndsAs r e → Took old new r e → OutputStands words files h old new e
 output words files h None new r e g early k w = tt
 output words files h (Some before) None r e g early k w = tt
 output words files h (Some before) (Some after) (Ok o) e g early k w =
-    on_output e (WroteReport words files h e before after) (record { form = g.0; of_form = g.1; output = is_written g.0 h o e before after g.2 w })
+    on_output e (WroteOutcome words files h e before after) (record { outcome = g.0; of_words = g.1; output = due_written g.0 h o e before after g.2 w })
 output words files h (Some before) (Some after) (Err first) e g early k w =
-    same_or_memory (λ last. OnOutput last (WroteReport words files h e before after)) tt first e (no_output first (WroteReport words files h e before after) early) k
+    same_or_memory (λ last. OnOutput last (WroteOutcome words files h e before after)) tt first e (no_output first (WroteOutcome words files h e before after) early) k
 
 -- ---- the whole call
 

@@ -16,68 +16,67 @@ use Rattle.nf_parser.specs.Spells.{Spells, Whole, IsUnexpected, IsTooDeep, Refus
 use Rattle.nf_forms.specs.declared.fault.FormFault.{FormFault}
 use Rattle.nf_forms.specs.declared.fault.FormFault.TheVariants as form_fault
 use Rattle.nf_forms.specs.declared.plan.Plan.{Plan}
+use Rattle.nf_words.specs.declared.command.Command.{Command}
+use Rattle.nf_words.specs.declared.command.Command.TheVariants.{Run}
+use Rattle.nf_words.specs.declared.command.RunWords.{RunWords}
 use Rattle.nf_forms.specs.Built.{Built, Builds}
 use Rattle.nf_forms.specs.Form.{Form, form_of}
 use Rattle.nf_forms.specs.View.{view_plan}
 use Rattle.nf_cli.specs.declared.ends.End.{End}
 use Rattle.nf_cli.specs.declared.ends.End.TheVariants as end
+use Rattle.nf_cli.specs.declared.texts.Request.{Request}
+use Rattle.nf_cli.specs.declared.texts.Request.TheVariants as request
 use Rattle.nf_cli.specs.declared.texts.ScriptFault.{ScriptFault}
 use Rattle.nf_cli.specs.declared.texts.ScriptFault.TheVariants.{Lex, Parse}
 use Rattle.nf_cli.specs.Ends.{end_of_lex, end_of_parse}
 use Rattle.nf_cli.specs.Form.{SpellNone}
-use Rattle.nf_cli.specs.Outcome.{Outcome, runs, misused, absent, unlexed, unparsed, unbuilt}
-use Rattle.nf_cli.specs.Means.{TextMeans, IsTextOutcome}
-use Rattle.nf_cli.specs.Reads.{ReadsScript, IsOnlyScript, IsOnlyBreak, IsOnlyFault, BreaksRule, SpellsNone, BreaksIn, Plans, FormRefused, end_of_script, end_of_form}
+use Rattle.nf_cli.specs.Outcome.{Outcome, runs, formats, misused, absent, unlexed, unparsed, unbuilt}
+use Rattle.nf_cli.specs.Means.{TreeMeans, TextMeans, IsTextOutcome, outcome_of_form, outcome_of_tree}
+use Rattle.nf_cli.specs.Reads.{ReadsScript, IsOnlyScript, IsOnlyBreak, IsOnlyFault, BreaksRule, SpellsNone, BreaksIn, Plans, FormRefused, Asks, TreeRefused, outcome_of, end_of_script, end_of_form}
 use Rattle.nf_cli.specs.Work.{TextRefused, TextGives}
 
-ok_is : {A B : Type 0} {x y : A} → ◌≡◌ {A = Result A B} (Ok x) (Ok y) → x ≡ y
-ok_is e = cc
+-- a text with one tree comes to what the tree comes to
+module _ (command : Command) (text : List ℕ) (tree : Tree) (one : IsOnlyScript text tree) where
+  same : (outcome other : Outcome) → outcome_of_tree command tree ≡ outcome → TreeMeans command text other → other ≡ outcome
+  same outcome other is h = sym h.comes ∙ ap (outcome_of_tree command) (one.only h.tree h.script) ∙ is
 
-err_is : {A B : Type 0} {x y : B} → ◌≡◌ {A = Result A B} (Err x) (Err y) → x ≡ y
-err_is e = cc
+  only : (outcome : Outcome) → outcome_of_tree command tree ≡ outcome → (other : Outcome) → TextMeans command text other → other ≡ outcome
+  only outcome is (runs form) h = same outcome (runs form) is h
+  only outcome is (formats t) h = same outcome (formats t) is h
+  only outcome is (unbuilt p) h = same outcome (unbuilt p) is h
+  only outcome is (misused f) h = absurd h
+  only outcome is absent h = absurd h
+  only outcome is (unlexed f) h = absurd (one.lexed f h)
+  only outcome is (unparsed f) h = absurd (one.whole f h)
 
-never : {A B : Type 0} {x : A} {y : B} → ◌≡◌ {A = Result A B} (Ok x) (Err y) → ⊥
-never e = cc
+  spelled : (outcome : Outcome) → outcome_of_tree command tree ≡ outcome → TreeMeans command text outcome
+  spelled outcome is = record { tree = tree; script = one.is; comes = is }
 
--- a text with one tree has one form, or is unbuilt at one place
-formed : (text : List ℕ) (tree : Tree) (form : Form) → IsOnlyScript text tree → form_of tree ≡ Ok form → IsTextOutcome text (runs form)
-formed text tree form one is = record { means = record { tree = tree; script = one.is; of_tree = is }; only = only }
+  asked : (r : Request) → outcome_of_tree command tree ≡ outcome_of r → IsTextOutcome command text (outcome_of r)
+  asked (request.Run plan) is = record { means = spelled (runs (view_plan plan)) is; only = only (runs (view_plan plan)) is }
+  asked (request.Format s) is = record { means = spelled (formats (view_script s)) is; only = only (formats (view_script s)) is }
+
+  formless : (place : Place) → outcome_of_tree command tree ≡ unbuilt place → IsTextOutcome command text (unbuilt place)
+  formless place is = record { means = spelled (unbuilt place) is; only = only (unbuilt place) is }
+
+broken_text : (command : Command) (text : List ℕ) (fault : ParseFault) → IsOnlyBreak text fault → IsTextOutcome command text (unparsed fault)
+broken_text command text fault one = record { means = one.is; only = only }
   where
-    only : (other : Outcome) → TextMeans text other → other ≡ runs form
-    only (runs g) h = ap runs (ok_is (sym h.of_tree ∙ ap form_of (one.only h.tree h.script) ∙ is))
-    only (misused f) h = absurd h
-    only absent h = absurd h
-    only (unlexed f) h = absurd (one.lexed f h)
-    only (unparsed f) h = absurd (one.whole f h)
-    only (unbuilt p) h = absurd (never (sym is ∙ ap form_of (sym (one.only h.tree h.script)) ∙ h.of_tree))
-
-formless : (text : List ℕ) (tree : Tree) (place : Place) → IsOnlyScript text tree → form_of tree ≡ Err place → IsTextOutcome text (unbuilt place)
-formless text tree place one is = record { means = record { tree = tree; script = one.is; of_tree = is }; only = only }
-  where
-    only : (other : Outcome) → TextMeans text other → other ≡ unbuilt place
-    only (runs g) h = absurd (never (sym h.of_tree ∙ ap form_of (one.only h.tree h.script) ∙ is))
-    only (misused f) h = absurd h
-    only absent h = absurd h
-    only (unlexed f) h = absurd (one.lexed f h)
-    only (unparsed f) h = absurd (one.whole f h)
-    only (unbuilt p) h = ap unbuilt (err_is (sym h.of_tree ∙ ap form_of (one.only h.tree h.script) ∙ is))
-
-broken_text : (text : List ℕ) (fault : ParseFault) → IsOnlyBreak text fault → IsTextOutcome text (unparsed fault)
-broken_text text fault one = record { means = one.is; only = only }
-  where
-    only : (other : Outcome) → TextMeans text other → other ≡ unparsed fault
+    only : (other : Outcome) → TextMeans command text other → other ≡ unparsed fault
     only (runs g) h = absurd (one.none h.tree h.script)
+    only (formats t) h = absurd (one.none h.tree h.script)
     only (misused f) h = absurd h
     only absent h = absurd h
     only (unlexed f) h = absurd (one.lexed f h)
     only (unparsed f) h = ap unparsed (one.only f h)
     only (unbuilt p) h = absurd (one.none h.tree h.script)
 
-pub unlexed_text : (text : List ℕ) (fault : LexFault) → IsOnlyFault text fault → IsTextOutcome text (unlexed fault)
-unlexed_text text fault one = record { means = one.is; only = only }
+pub unlexed_text : (command : Command) (text : List ℕ) (fault : LexFault) → IsOnlyFault text fault → IsTextOutcome command text (unlexed fault)
+unlexed_text command text fault one = record { means = one.is; only = only }
   where
-    only : (other : Outcome) → TextMeans text other → other ≡ unlexed fault
+    only : (other : Outcome) → TextMeans command text other → other ≡ unlexed fault
     only (runs g) h = absurd (one.none h.script.tokens h.script.tokens_of)
+    only (formats t) h = absurd (one.none h.script.tokens h.script.tokens_of)
     only (misused f) h = absurd h
     only absent h = absurd h
     only (unlexed f) h = ap unlexed (one.only f h)
@@ -98,46 +97,65 @@ too_long_only text h = record {
 
 -- ---- what a function answers
 
-lex_refused : (text : List ℕ) (fault : LexFault) → BreaksRule text fault → TextRefused text (end_of_lex fault)
-lex_refused text (BadByte place) h = unlexed_text text (BadByte place) h
-lex_refused text (OpenString place) h = unlexed_text text (OpenString place) h
-lex_refused text (OpenComment place) h = unlexed_text text (OpenComment place) h
-lex_refused text (BadEscape place) h = unlexed_text text (BadEscape place) h
-lex_refused text (BigNumber place) h = unlexed_text text (BigNumber place) h
-lex_refused text ScriptTooLong h = unlexed_text text ScriptTooLong h
-lex_refused text lex.Mem h = tt
+module _ (command : Command) (text : List ℕ) where
+  lex_refused : (fault : LexFault) → BreaksRule text fault → TextRefused command text (end_of_lex fault)
+  lex_refused (BadByte place) h = unlexed_text command text (BadByte place) h
+  lex_refused (OpenString place) h = unlexed_text command text (OpenString place) h
+  lex_refused (OpenComment place) h = unlexed_text command text (OpenComment place) h
+  lex_refused (BadEscape place) h = unlexed_text command text (BadEscape place) h
+  lex_refused (BigNumber place) h = unlexed_text command text (BigNumber place) h
+  lex_refused ScriptTooLong h = unlexed_text command text ScriptTooLong h
+  lex_refused lex.Mem h = tt
 
-parse_refused : (text : List ℕ) (fault : ParseFault) → SpellsNone text fault → TextRefused text (end_of_parse fault)
-parse_refused text (parse.Unexpected place) h = broken_text text (parse.Unexpected place) h
-parse_refused text (parse.TooDeep place) h = broken_text text (parse.TooDeep place) h
-parse_refused text parse.Mem h = tt
+  parse_refused : (fault : ParseFault) → SpellsNone text fault → TextRefused command text (end_of_parse fault)
+  parse_refused (parse.Unexpected place) h = broken_text command text (parse.Unexpected place) h
+  parse_refused (parse.TooDeep place) h = broken_text command text (parse.TooDeep place) h
+  parse_refused parse.Mem h = tt
 
-pub fault_refused : (text : List ℕ) (fault : ScriptFault) (e : End) → BreaksIn text fault → e ≡ end_of_script fault → TextRefused text e
-fault_refused text fault e h is = subst (TextRefused text) (sym is) (went fault h)
-  where
-    went : (fault : ScriptFault) → BreaksIn text fault → TextRefused text (end_of_script fault)
-    went (Lex fault) h = lex_refused text fault h
-    went (Parse fault) h = parse_refused text fault h
+  script_refused : (fault : ScriptFault) → BreaksIn text fault → TextRefused command text (end_of_script fault)
+  script_refused (Lex fault) h = lex_refused fault h
+  script_refused (Parse fault) h = parse_refused fault h
 
--- ---- the form of a text's tree
+  pub fault_refused : (fault : ScriptFault) (e : End) → BreaksIn text fault → e ≡ end_of_script fault → TextRefused command text e
+  fault_refused fault e h is = subst (TextRefused command text) (sym is) (script_refused fault h)
 
-pub plan_given : (text : List ℕ) (s : Script) (r : Result Plan End) → IsOnlyScript text (view_script s) → Plans (form_of (view_script s)) r → TextGives text r
-plan_given text s (Ok p) one h = formed text (view_script s) (view_plan p) one h
-plan_given text s (Err e) one h = refused e h
-  where
-    refused : (e : End) → FormRefused (form_of (view_script s)) e → TextRefused text e
-    refused end.Ok h = absurd h
-    refused (end.TaskFailed p i n f) h = absurd h
-    refused (end.ItemFault p c) h = absurd h
-    refused (end.Usage f) h = absurd h
-    refused end.NoScript h = absurd h
-    refused (end.Lex f) h = absurd h
-    refused (end.Parse f) h = absurd h
-    refused (end.Unbuilt p) h = formless text (view_script s) p one h
-    refused end.HostFault h = absurd h
-    refused end.LaneFault h = absurd h
-    refused end.SinkFault h = absurd h
-    refused end.Mem h = tt
+-- ---- what a command asks of a text's tree
+
+tree_refused : (command : Command) (text : List ℕ) (tree : Tree) → IsOnlyScript text tree → (e : End) → TreeRefused command tree e → TextRefused command text e
+tree_refused command text tree one end.Ok h = absurd h
+tree_refused command text tree one (end.TaskFailed p i n f) h = absurd h
+tree_refused command text tree one (end.ItemFault p c) h = absurd h
+tree_refused command text tree one (end.Usage f) h = absurd h
+tree_refused command text tree one end.NoScript h = absurd h
+tree_refused command text tree one (end.Lex f) h = absurd h
+tree_refused command text tree one (end.Parse f) h = absurd h
+tree_refused command text tree one (end.Unbuilt p) h = formless command text tree one p h
+tree_refused command text tree one end.HostFault h = absurd h
+tree_refused command text tree one end.LaneFault h = absurd h
+tree_refused command text tree one end.SinkFault h = absurd h
+tree_refused command text tree one end.Mem h = tt
+
+pub request_given : (command : Command) (text : List ℕ) (s : Script) (r : Result Request End) → IsOnlyScript text (view_script s) → Asks command (view_script s) r → TextGives command text r
+request_given command text s (Ok r) one h = asked command text (view_script s) one r h
+request_given command text s (Err e) one h = tree_refused command text (view_script s) one e h
+
+-- a tree that is run asks for its plan
+pub plan_asked : (words : RunWords) (tree : Tree) (plan : Plan) → form_of tree ≡ Ok (view_plan plan) → Asks (Run words) tree (Ok (request.Run plan))
+plan_asked words tree plan h = ap outcome_of_form h
+
+pub plan_refused : (words : RunWords) (tree : Tree) (e : End) → FormRefused (form_of tree) e → Asks (Run words) tree (Err e)
+plan_refused words tree end.Ok h = absurd h
+plan_refused words tree (end.TaskFailed p i n f) h = absurd h
+plan_refused words tree (end.ItemFault p c) h = absurd h
+plan_refused words tree (end.Usage f) h = absurd h
+plan_refused words tree end.NoScript h = absurd h
+plan_refused words tree (end.Lex f) h = absurd h
+plan_refused words tree (end.Parse f) h = absurd h
+plan_refused words tree (end.Unbuilt p) h = ap outcome_of_form h
+plan_refused words tree end.HostFault h = absurd h
+plan_refused words tree end.LaneFault h = absurd h
+plan_refused words tree end.SinkFault h = absurd h
+plan_refused words tree end.Mem h = tt
 
 -- want of memory, or the place
 form_refused : (due : Built Form) (fault : FormFault) → Builds view_plan due (Err fault) → FormRefused due (end_of_form fault)

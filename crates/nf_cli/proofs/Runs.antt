@@ -1,104 +1,108 @@
 -- From what a file's text comes to, to what the words come to.
 use Rattle.std.proofs.Common.{◌≡◌, ℕ, List, [], Option, Some, None, Result, Ok, Err, refl, sym, ap, ◌∙◌, subst}
 use Rattle.nf_words.specs.declared.command.Command.{Command}
-use Rattle.nf_words.specs.declared.command.Command.TheVariants.{Run}
-use Rattle.nf_words.specs.declared.command.RunWords.{RunWords}
 use Rattle.nf_words.specs.declared.fault.UsageFault.{UsageFault}
 use Rattle.nf_words.specs.declared.fault.UsageFault.TheVariants as usage
 use Rattle.nf_words.specs.Words.{command_of, Reads}
 use Rattle.nf_host.specs.Files.{Files, no_files}
-use Rattle.nf_forms.specs.declared.plan.Plan.{Plan}
 use Rattle.nf_forms.specs.View.{view_plan}
-use Rattle.nf_forms.specs.Form.{Form}
+use Rattle.nf_ast.specs.Tops.{view_script}
+use Rattle.nf_cli.specs.declared.texts.Request.{Request}
+use Rattle.nf_cli.specs.declared.texts.Request.TheVariants as request
 use Rattle.nf_cli.specs.declared.ends.End.{End}
 use Rattle.nf_cli.specs.declared.ends.End.TheVariants as end
 use Rattle.nf_cli.specs.Ends.{end_of_usage}
-use Rattle.nf_cli.specs.Outcome.{Outcome, runs, misused, absent, unlexed, unparsed, unbuilt}
-use Rattle.nf_cli.specs.Means.{file_of, TextMeans, Runs, RunsText, Means, IsOutcome}
+use Rattle.nf_cli.specs.Outcome.{Outcome, runs, formats, misused, absent, unlexed, unparsed, unbuilt}
+use Rattle.nf_cli.specs.Means.{file_of, TextMeans, NamesText, Means, IsOutcome}
+use Rattle.nf_cli.specs.Reads.{outcome_of}
 use Rattle.nf_cli.specs.Due.{Ended, as_due, host_failed, no_memory, Tells}
 use Rattle.nf_cli.specs.Work.{HasText, FileRefused, FileGives, Gives, TellsAt}
 
 some_is : {A : Type 0} {x y : A} → Some x ≡ Some y → x ≡ y
 some_is e = cc
 
-same_file : (words : List (List ℕ)) (a b : List ℕ) → Runs words a → Runs words b → a ≡ b
-same_file words a b r s =
-    let e : ◌≡◌ {A = Result Command UsageFault} (Ok (Run (record { file = a }))) (Ok (Run (record { file = b }))) = sym r ∙ s in
-    let w : ◌≡◌ {A = RunWords} (record { file = a }) (record { file = b }) = cc in
-    ap (λ x. x.file) w
+pub one_command : (words : List (List ℕ)) (a b : Command) → command_of words ≡ Ok a → command_of words ≡ Ok b → a ≡ b
+one_command words a b r s = let e : ◌≡◌ {A = Result Command UsageFault} (Ok a) (Ok b) = sym r ∙ s in cc
 
-no_fault : (words : List (List ℕ)) (file : List ℕ) (fault : UsageFault) → Runs words file → command_of words ≡ Err fault → ⊥
-no_fault words file fault r s = let e : ◌≡◌ {A = Result Command UsageFault} (Ok (Run (record { file = file }))) (Err fault) = sym r ∙ s in cc
+no_fault : (words : List (List ℕ)) (command : Command) (fault : UsageFault) → command_of words ≡ Ok command → command_of words ≡ Err fault → ⊥
+no_fault words command fault r s = let e : ◌≡◌ {A = Result Command UsageFault} (Ok command) (Err fault) = sym r ∙ s in cc
 
-module _ (words : List (List ℕ)) (files : Files) (file : List ℕ) (is_run : Runs words file) where
+module _ (words : List (List ℕ)) (files : Files) (command : Command) (reads : command_of words ≡ Ok command) where
+  held : (other : Command) → command_of words ≡ Ok other → files (file_of other) ≡ files (file_of command)
+  held other r = ap (λ c. files (file_of c)) (one_command words other command r reads)
+
   -- the outcome of the text that is there
-  of_text : (outcome : Outcome) → ((other : Outcome) → RunsText words files other → other ≡ outcome) → HasText (files file) outcome → (other : Outcome) → Means words files other → other ≡ outcome
-  of_text outcome only h (misused f) m = absurd (no_fault words file f is_run m)
-  of_text outcome only h absent m = absurd (let e : None ≡ Some h.text = sym m.absent ∙ ap files (same_file words m.file file m.runs is_run) ∙ h.there in cc)
-  of_text outcome only h (runs form) m = only (runs form) m
-  of_text outcome only h (unlexed p) m = only (unlexed p) m
-  of_text outcome only h (unparsed p) m = only (unparsed p) m
-  of_text outcome only h (unbuilt p) m = only (unbuilt p) m
-
-  only_text : (outcome : Outcome) → HasText (files file) outcome → (other : Outcome) → RunsText words files other → other ≡ outcome
+  only_text : (outcome : Outcome) → HasText command (files (file_of command)) outcome → (other : Outcome) → NamesText words files other → other ≡ outcome
   only_text outcome h other m =
-      let e : m.text ≡ h.text = some_is (sym m.there ∙ ap files (same_file words m.file file m.runs is_run) ∙ h.there) in
-      h.comes.only other (subst (λ text. TextMeans text other) e m.means)
+      let e : m.text ≡ h.text = some_is (sym m.there ∙ held m.command m.reads ∙ h.there) in
+      h.comes.only other (subst (λ text. TextMeans command text other) e (subst (λ c. TextMeans c m.text other) (one_command words m.command command m.reads reads) m.means))
 
-  runs_text : (outcome : Outcome) → HasText (files file) outcome → RunsText words files outcome
-  runs_text outcome h = record { file = file; runs = is_run; text = h.text; there = h.there; means = h.comes.means }
+  there : (outcome : Outcome) → HasText command (files (file_of command)) outcome → files (file_of command) ≡ None → ⊥
+  there outcome h none = let e : Some h.text ≡ None = sym h.there ∙ none in cc
 
-  only_of : (outcome : Outcome) → HasText (files file) outcome → (other : Outcome) → Means words files other → other ≡ outcome
-  only_of outcome h = of_text outcome (only_text outcome h) h
+  only_of : (outcome : Outcome) → HasText command (files (file_of command)) outcome → (other : Outcome) → Means words files other → other ≡ outcome
+  only_of outcome h (misused f) m = absurd (no_fault words command f reads m)
+  only_of outcome h absent m = absurd (there outcome h (sym (held m.command m.reads) ∙ m.absent))
+  only_of outcome h (runs form) m = only_text outcome h (runs form) m
+  only_of outcome h (formats t) m = only_text outcome h (formats t) m
+  only_of outcome h (unlexed p) m = only_text outcome h (unlexed p) m
+  only_of outcome h (unparsed p) m = only_text outcome h (unparsed p) m
+  only_of outcome h (unbuilt p) m = only_text outcome h (unbuilt p) m
 
-  gone : (text : List ℕ) → files file ≡ None → (other : List ℕ) → Runs words other → files other ≡ Some text → ⊥
-  gone text none other other_run there = let e : Some text ≡ None = sym there ∙ ap files (same_file words other file other_run is_run) ∙ none in cc
+  names_text : (outcome : Outcome) → HasText command (files (file_of command)) outcome → NamesText words files outcome
+  names_text outcome h = record { command = command; reads = reads; text = h.text; there = h.there; means = h.comes.means }
 
-  no_script : files file ≡ None → (other : Outcome) → Means words files other → other ≡ absent
-  no_script none (misused f) m = absurd (no_fault words file f is_run m)
+  gone : files (file_of command) ≡ None → (outcome : Outcome) → NamesText words files outcome → ⊥
+  gone none outcome m = let e : Some m.text ≡ None = sym m.there ∙ held m.command m.reads ∙ none in cc
+
+  no_script : files (file_of command) ≡ None → (other : Outcome) → Means words files other → other ≡ absent
+  no_script none (misused f) m = absurd (no_fault words command f reads m)
   no_script none absent m = refl
-  no_script none (runs form) m = absurd (gone m.text none m.file m.runs m.there)
-  no_script none (unlexed p) m = absurd (gone m.text none m.file m.runs m.there)
-  no_script none (unparsed p) m = absurd (gone m.text none m.file m.runs m.there)
-  no_script none (unbuilt p) m = absurd (gone m.text none m.file m.runs m.there)
+  no_script none (runs form) m = absurd (gone none (runs form) m)
+  no_script none (formats t) m = absurd (gone none (formats t) m)
+  no_script none (unlexed p) m = absurd (gone none (unlexed p) m)
+  no_script none (unparsed p) m = absurd (gone none (unparsed p) m)
+  no_script none (unbuilt p) m = absurd (gone none (unbuilt p) m)
 
-  refused : (e : End) → FileRefused (files file) e → Ended words files [] e
+  refused : (e : End) → FileRefused command (files (file_of command)) e → Ended words files [] e
   refused end.Ok h = absurd h
   refused (end.TaskFailed p i n f) h = absurd h
   refused (end.ItemFault p c) h = absurd h
   refused (end.Usage f) h = absurd h
-  refused end.NoScript h = as_due absent (record { means = record { file = file; runs = is_run; absent = h }; only = no_script h }) tt
-  refused (end.Lex p) h = as_due (unlexed p) (record { means = runs_text (unlexed p) h; only = only_of (unlexed p) h }) refl
-  refused (end.Parse p) h = as_due (unparsed p) (record { means = runs_text (unparsed p) h; only = only_of (unparsed p) h }) refl
-  refused (end.Unbuilt p) h = as_due (unbuilt p) (record { means = runs_text (unbuilt p) h; only = only_of (unbuilt p) h }) refl
-  refused end.HostFault h = host_failed (Run (record { file = file })) is_run refl
+  refused end.NoScript h = as_due absent (record { means = record { command = command; reads = reads; absent = h }; only = no_script h }) tt
+  refused (end.Lex p) h = as_due (unlexed p) (record { means = names_text (unlexed p) h; only = only_of (unlexed p) h }) refl
+  refused (end.Parse p) h = as_due (unparsed p) (record { means = names_text (unparsed p) h; only = only_of (unparsed p) h }) refl
+  refused (end.Unbuilt p) h = as_due (unbuilt p) (record { means = names_text (unbuilt p) h; only = only_of (unbuilt p) h }) refl
+  refused end.HostFault h = host_failed command reads refl
   refused end.LaneFault h = absurd h
   refused end.SinkFault h = absurd h
   refused end.Mem h = no_memory
 
-  is_form : (form : Form) → HasText (files file) (runs form) → IsOutcome words files (runs form)
-  is_form form h = record { means = runs_text (runs form) h; only = only_of (runs form) h }
+  asked : (r : Request) → HasText command (files (file_of command)) (outcome_of r) → IsOutcome words files (outcome_of r)
+  asked (request.Run plan) h = record { means = names_text (runs (view_plan plan)) h; only = only_of (runs (view_plan plan)) h }
+  asked (request.Format s) h = record { means = names_text (formats (view_script s)) h; only = only_of (formats (view_script s)) h }
 
-  given : (r : Result Plan End) → FileGives (files file) r → Gives words files r
-  given (Ok p) h = is_form (view_plan p) h
+  given : (r : Result Request End) → FileGives command (files (file_of command)) r → Gives words files r
+  given (Ok r) h = asked r h
   given (Err e) h = refused e h
 
 -- what the words give over some files, those that are told where any are
-abbrev pub SomeFiles : Option Files → List (List ℕ) → Result Plan End → Type 0
+abbrev pub SomeFiles : Option Files → List (List ℕ) → Result Request End → Type 0
 SomeFiles told words r = (files : Files) × Tells told files × Gives words files r
 
-pub words_given : (told : Option Files) (words : List (List ℕ)) (command : Command) → command_of words ≡ Ok command → (r : Result Plan End) → ((held : Option (List ℕ)) × TellsAt told (file_of command) held × FileGives held r) → SomeFiles told words r
-words_given None words (Run run) is_run r h = ((λ path. h.0), tt, given words (λ path. h.0) run.file is_run r h.2)
-words_given (Some files) words (Run run) is_run r h = (files, refl, given words files run.file is_run r (subst (λ held. FileGives held r) h.1 h.2))
+pub words_given : (told : Option Files) (words : List (List ℕ)) (command : Command) → command_of words ≡ Ok command → (r : Result Request End) → ((held : Option (List ℕ)) × TellsAt told (file_of command) held × FileGives command held r) → SomeFiles told words r
+words_given None words command reads r h = ((λ path. h.0), tt, given words (λ path. h.0) command reads r h.2)
+words_given (Some files) words command reads r h = (files, refl, given words files command reads r (subst (λ held. FileGives command held r) h.1 h.2))
 
 -- the words are wrong
 misuse : (words : List (List ℕ)) (files : Files) (fault : UsageFault) → command_of words ≡ Err fault → (other : Outcome) → Means words files other → other ≡ misused fault
 misuse words files fault e (misused f) m = ap misused (let q : ◌≡◌ {A = Result Command UsageFault} (Err f) (Err fault) = sym m ∙ e in cc)
-misuse words files fault e absent m = absurd (no_fault words m.file fault m.runs e)
-misuse words files fault e (runs form) m = absurd (no_fault words m.file fault m.runs e)
-misuse words files fault e (unlexed p) m = absurd (no_fault words m.file fault m.runs e)
-misuse words files fault e (unparsed p) m = absurd (no_fault words m.file fault m.runs e)
-misuse words files fault e (unbuilt p) m = absurd (no_fault words m.file fault m.runs e)
+misuse words files fault e absent m = absurd (no_fault words m.command fault m.reads e)
+misuse words files fault e (runs form) m = absurd (no_fault words m.command fault m.reads e)
+misuse words files fault e (formats t) m = absurd (no_fault words m.command fault m.reads e)
+misuse words files fault e (unlexed p) m = absurd (no_fault words m.command fault m.reads e)
+misuse words files fault e (unparsed p) m = absurd (no_fault words m.command fault m.reads e)
+misuse words files fault e (unbuilt p) m = absurd (no_fault words m.command fault m.reads e)
 
 misuse_ends : (words : List (List ℕ)) (files : Files) (fault : UsageFault) → command_of words ≡ Err fault → Ended words files [] (end.Usage fault)
 misuse_ends words files fault e = as_due (misused fault) (record { means = e; only = misuse words files fault e }) refl

@@ -1,23 +1,42 @@
 -- What was run before the writing.
-use Rattle.std.proofs.Common.{◌≡◌, ℕ, List, [], Option, Some, Result, Ok, Err, refl, sym, ◌∙◌, subst}
+use Rattle.std.proofs.Common.{◌≡◌, ◌++◌, ℕ, List, [], Option, Result, Ok, Err, refl, sym, ap, ◌∙◌, subst}
 use Rattle.nf_value.specs.Plain.{Plain}
 use Rattle.nf_job.specs.declared.report.Report.{Report}
-use Rattle.nf_forms.specs.declared.plan.Plan.{Plan}
+use Rattle.nf_ast.specs.Tree.{Tree}
+use Rattle.nf_words.specs.declared.command.Command.{Command}
+use Rattle.nf_words.specs.Words.{fmt}
 use Rattle.nf_host.specs.Files.{Files}
 use Rattle.nf_lane.specs.World.{World}
 use Rattle.nf_core.specs.declared.event.Event.{Event}
+use Rattle.nf_core.specs.Machine.{starts}
 use Rattle.nf_run.specs.declared.runs.RunFault.{RunFault}
 use Rattle.nf_run.specs.declared.runs.RunFault.TheVariants as fault
 use Rattle.nf_forms.specs.Form.{Form}
 use Rattle.nf_forms.specs.View.{view_plan}
+use Rattle.nf_cli.specs.declared.texts.Request.{Request}
+use Rattle.nf_cli.specs.declared.texts.Request.TheVariants as request
 use Rattle.nf_run.specs.Run.{AreBooked, IsHistoryOf, RunGives}
 use Rattle.nf_cli.specs.declared.ends.End.{End}
-use Rattle.nf_cli.specs.declared.ends.End.TheVariants as end
 use Rattle.nf_cli.specs.declared.works.Output.{Output}
-use Rattle.nf_cli.specs.Outcome.{Outcome, runs, misused, absent, unlexed, unparsed, unbuilt}
-use Rattle.nf_cli.specs.Means.{IsOutcome}
-use Rattle.nf_cli.specs.Due.{RunEnds, RanTasks, as_due}
-use Rattle.nf_cli.specs.Work.{Gives, HasRun, HasWorked, FormGives, WorkGives, IsOutputOrEnd, IsOutputOf, end_of_run}
+use Rattle.nf_cli.specs.Outcome.{Outcome, runs, formats, misused, absent, unlexed, unparsed, unbuilt}
+use Rattle.nf_cli.specs.Means.{IsOutcome, Formats, TreeMeans, Means, outcome_of_tree}
+use Rattle.nf_cli.specs.Reads.{outcome_of}
+use Rattle.nf_cli.specs.Report.{report_of, summary}
+use Rattle.nf_cli.specs.Due.{RunEnds, RanTasks, FmtRunsNothing, as_due}
+use Rattle.nf_cli.specs.Work.{Gives, HasDone, HasWorked, OutcomeGives, WorkGives, IsOutputOrEnd, IsTextOrEnd, end_of_run, output_text}
+use Rattle.nf_cli.proofs.Runs.{one_command}
+
+-- a tree that is formatted isn't run
+never_run : (command : Command) (file : List ℕ) (text : List ℕ) (form : Form) → command ≡ fmt file → TreeMeans command text (runs form) → ⊥
+never_run command file text form is h = let e : formats h.tree ≡ runs form = ap (λ c. outcome_of_tree c h.tree) (sym is) ∙ h.comes in cc
+
+no_run : (words : List (List ℕ)) (files : Files) (file : List ℕ) (form : Form) → Formats words file → Means words files (runs form) → ⊥
+no_run words files file form formats_it m = never_run m.command file m.text form (one_command words m.command (fmt file) m.reads formats_it) m.means
+
+-- the canonical text, or the end for want of memory
+text_gives : (tree : Tree) (h : List Event) (r : Result Output End) → IsTextOrEnd tree r → OutcomeGives (formats tree) h r
+text_gives tree h (Ok o) is = is
+text_gives tree h (Err e) is = subst (λ e. OutcomeGives (formats tree) h (Err e)) (sym is) tt
 
 module _ {L D : Type 0} (Genuine : D → Type 0) (job_of : D → List ℕ) (report_by : D → Report) (number : D → ℕ) (run_count : L → ℕ) (world : L → Option World) where
   -- lanes that ran nothing
@@ -29,6 +48,7 @@ module _ {L D : Type 0} (Genuine : D → Type 0) (job_of : D → List ℕ) (repo
 
   idle : (ls : List L) → Idle ls → (o : Outcome) → RanTasks Genuine job_of report_by number run_count world o [] [] ls ls
   idle ls free (runs form) = (tt, free form)
+  idle ls free (formats t) = (refl, refl, refl)
   idle ls free (misused f) = (refl, refl, refl)
   idle ls free absent = (refl, refl, refl)
   idle ls free (unlexed f) = (refl, refl, refl)
@@ -43,17 +63,30 @@ module _ {L D : Type 0} (Genuine : D → Type 0) (job_of : D → List ℕ) (repo
       (subst (λ h. HasWorked Genuine job_of report_by number run_count world words files h [] ls ls (Err e)) (sym no_events)
       (record { ran = λ o means. idle ls free o; gives = g })))
 
-  work_gives : (words : List (List ℕ)) (files : Files) (form : Form) (h : List Event) (r : Result Output End) → IsOutcome words files (runs form) → FormGives form h r → WorkGives words files h r
-  work_gives words files form h (Ok o) is g = (form, is, g)
-  work_gives words files form h (Err e) is g = as_due (runs form) is g
+  work_gives : (words : List (List ℕ)) (files : Files) (outcome : Outcome) (h : List Event) (r : Result Output End) → IsOutcome words files outcome → OutcomeGives outcome h r → WorkGives words files h r
+  work_gives words files outcome h (Ok o) is g = (outcome, is, g)
+  work_gives words files outcome h (Err e) is g = as_due outcome is g
 
-  pub plan_worked : (words : List (List ℕ)) (files : Files) (p : Plan) (h : List Event) (kept : List D) (old new : List L) (r : Result Output End) → Gives words files (Ok p)
-      → HasRun Genuine job_of report_by number run_count world (view_plan p) h kept old new r → HasWorked Genuine job_of report_by number run_count world words files h kept old new r
-  plan_worked words files p h kept old new r is went =
+  pub request_worked : (words : List (List ℕ)) (files : Files) (q : Request) (h : List Event) (kept : List D) (old new : List L) (r : Result Output End) → Gives words files (Ok q)
+      → HasDone Genuine job_of report_by number run_count world (outcome_of q) h kept old new r → HasWorked Genuine job_of report_by number run_count world words files h kept old new r
+  request_worked words files q h kept old new r is done =
       record {
-        ran = λ o means. subst (λ o. RanTasks Genuine job_of report_by number run_count world o h kept old new) (sym (is.only o means)) (went.lawful, went.booked);
-        gives = work_gives words files (view_plan p) h r is went.gives;
+        ran = λ o means. subst (λ o. RanTasks Genuine job_of report_by number run_count world o h kept old new) (sym (is.only o means)) done.ran;
+        gives = work_gives words files (outcome_of q) h r is done.gives;
       }
+
+  -- the words of `fmt` don't ask for a run
+  pub fmt_idles : (words : List (List ℕ)) (files : Files) (q : Request) (h : List Event) (kept : List D) (old new : List L) (r : Result Output End) → Gives words files (Ok q)
+      → HasDone Genuine job_of report_by number run_count world (outcome_of q) h kept old new r → FmtRunsNothing words h kept old new
+  fmt_idles words files (request.Run plan) h kept old new r is done file formats_it = absurd (no_run words files file (view_plan plan) formats_it is.means)
+  fmt_idles words files (request.Format s) h kept old new r is done file formats_it = done.ran
+
+  pub nothing_idles : (words : List (List ℕ)) (h : List Event) (kept : List D) (ls : List L) → h ≡ [] → kept ≡ [] → FmtRunsNothing words h kept ls ls
+  nothing_idles words h kept ls no_events no_dones file formats_it = (no_events, no_dones, refl)
+
+  pub text_done : (tree : Tree) (h : List Event) (kept : List D) (ls : List L) (given r : Result Output End) → h ≡ [] → kept ≡ [] → r ≡ given → IsTextOrEnd tree given
+      → HasDone Genuine job_of report_by number run_count world (formats tree) h kept ls ls r
+  text_done tree h kept ls given r no_events no_dones is text = record { ran = (no_events, no_dones, refl); gives = subst (OutcomeGives (formats tree) h) (sym is) (text_gives tree h given text) }
 
 -- ---- how a run ends
 
@@ -63,15 +96,15 @@ run_ends form h (fault.Task process inputs n f) g = g
 run_ends form h fault.Lane g = g
 run_ends form h fault.Mem g = tt
 
-form_gives : (form : Form) (h : List Event) (outcome : Result (List Plain) RunFault) (r : Result Output End) → RunGives form h outcome → IsOutputOrEnd outcome h r → FormGives form h r
-form_gives form h (Ok items) (Ok o) g is = record { well = g.0; output = subst (λ items. IsOutputOf items h o) g.1 is }
-form_gives form h (Ok items) (Err e) g is = subst (RunEnds form h) (sym is) tt
-form_gives form h (Err f) (Ok o) g is = absurd is
-form_gives form h (Err f) (Err e) g is = subst (RunEnds form h) (sym is) (run_ends form h f g)
+run_gives : (form : Form) (h : List Event) (outcome : Result (List Plain) RunFault) (r : Result Output End) → RunGives form h outcome → IsOutputOrEnd outcome h r → OutcomeGives (runs form) h r
+run_gives form h (Ok items) (Ok o) g is = record { well = g.0; output = subst (λ items. output_text o ≡ report_of items ++ summary (starts h)) g.1 is }
+run_gives form h (Ok items) (Err e) g is = subst (RunEnds form h) (sym is) tt
+run_gives form h (Err f) (Ok o) g is = absurd is
+run_gives form h (Err f) (Err e) g is = subst (RunEnds form h) (sym is) (run_ends form h f g)
 
-pub has_run : {L D : Type 0} (Genuine : D → Type 0) (job_of : D → List ℕ) (report_by : D → Report) (number : D → ℕ) (run_count : L → ℕ) (world : L → Option World)
+pub run_done : {L D : Type 0} (Genuine : D → Type 0) (job_of : D → List ℕ) (report_by : D → Report) (number : D → ℕ) (run_count : L → ℕ) (world : L → Option World)
     (form : Form) (h : List Event) (kept : List D) (old new : List L) (outcome : Result (List Plain) RunFault) (r : Result Output End)
     → IsHistoryOf form h → AreBooked Genuine job_of report_by number run_count world form h kept old new → RunGives form h outcome → IsOutputOrEnd outcome h r
-    → HasRun Genuine job_of report_by number run_count world form h kept old new r
-has_run Genuine job_of report_by number run_count world form h kept old new outcome r lawful booked gives is =
-    record { lawful = lawful; booked = booked; gives = form_gives form h outcome r gives is }
+    → HasDone Genuine job_of report_by number run_count world (runs form) h kept old new r
+run_done Genuine job_of report_by number run_count world form h kept old new outcome r lawful booked gives is =
+    record { ran = (lawful, booked); gives = run_gives form h outcome r gives is }

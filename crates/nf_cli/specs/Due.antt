@@ -4,6 +4,7 @@ use Rattle.nf_value.specs.View.{plain_of}
 use Rattle.nf_words.specs.declared.command.Command.{Command}
 use Rattle.nf_words.specs.declared.fault.UsageFault.{UsageFault}
 use Rattle.nf_words.specs.Words.{command_of}
+use Rattle.nf_printer.specs.Tops.{canonical}
 use Rattle.nf_value.specs.declared.place.Place.{Place}
 use Rattle.nf_lexer.specs.declared.fault.LexFault.{LexFault}
 use Rattle.nf_exprs.specs.declared.fault.ParseFault.{ParseFault}
@@ -21,8 +22,8 @@ use Rattle.nf_cli.specs.declared.ends.End.{End}
 use Rattle.nf_cli.specs.declared.ends.End.TheVariants as end
 use Rattle.nf_cli.specs.declared.ends.ItemCause.TheVariants.{Eval}
 use Rattle.nf_cli.specs.Ends.{error_line}
-use Rattle.nf_cli.specs.Outcome.{Outcome, runs, misused, absent, unlexed, unparsed, unbuilt}
-use Rattle.nf_cli.specs.Means.{Means, IsOutcome}
+use Rattle.nf_cli.specs.Outcome.{Outcome, runs, formats, misused, absent, unlexed, unparsed, unbuilt}
+use Rattle.nf_cli.specs.Means.{Means, IsOutcome, Formats}
 use Rattle.nf_cli.specs.Report.{report_of, summary}
 
 -- ---- how a call may end
@@ -72,9 +73,18 @@ RunEnds form h end.HostFault = h ≡ []
 RunEnds form h end.Mem = Unit {0}
 RunEnds form h _ = ⊥
 
+-- with a script that is formatted, whatever its form
+abbrev pub EndsFormatted : End → Type 0
+EndsFormatted end.Ok = Unit {0}
+EndsFormatted end.SinkFault = Unit {0}
+EndsFormatted end.HostFault = Unit {0}
+EndsFormatted end.Mem = Unit {0}
+EndsFormatted _ = ⊥
+
 -- with this outcome; only the end of a run depends on its history
 abbrev pub MayEnd : Outcome → List Event → End → Type 0
 MayEnd (runs form) h e = RunEnds form h e
+MayEnd (formats tree) h e = EndsFormatted e
 MayEnd (misused due) h e = EndsMisused due e
 MayEnd absent h e = EndsAbsent e
 MayEnd (unlexed due) h e = EndsUnlexed due e
@@ -118,11 +128,19 @@ OnSinkFault _ rose = Unit {0}
 
 -- ---- what was run
 
--- the history is one of this script, and its lanes ran what it says; without a script nothing was run
+-- there is no event and no job, and the lanes are what they were
+abbrev pub RanNothing : {L D : Type 0} → List Event → List D → List L → List L → Type 0
+RanNothing h kept old new = (h ≡ []) × (kept ≡ []) × (new ≡ old)
+
+-- the history is one of this script, and its lanes ran what it says; without a script that is run nothing was
 abbrev pub RanTasks : {L D : Type 0} → (D → Type 0) → (D → List ℕ) → (D → Report) → (D → ℕ) → (L → ℕ) → (L → Option World) → Outcome → List Event → List D → List L → List L → Type 0
 RanTasks Genuine job_of report_by number run_count world (runs form) h kept old new =
     IsHistoryOf form h × AreBooked Genuine job_of report_by number run_count world form h kept old new
-RanTasks Genuine job_of report_by number run_count world _ h kept old new = (h ≡ []) × (kept ≡ []) × (new ≡ old)
+RanTasks Genuine job_of report_by number run_count world _ h kept old new = RanNothing h kept old new
+
+-- `fmt` runs nothing, whatever the files hold
+abbrev pub FmtRunsNothing : {L D : Type 0} → List (List ℕ) → List Event → List D → List L → List L → Type 0
+FmtRunsNothing words h kept old new = (file : List ℕ) → Formats words file → RanNothing h kept old new
 
 -- ---- what was written
 
@@ -133,17 +151,24 @@ WroteLine end.Ok rose before after = Unit {0}
 WroteLine end.SinkFault rose before after = Unit {0}
 WroteLine e rose before after = (after ≡ before ++ error_line e) ⊎ (rose × GrowsByFront before (error_line e) after)
 
--- the report and the summary line were written, or a front of them where the sink failed
-abbrev pub WroteOutput : End → List ℕ → List ℕ → List ℕ → List ℕ → Type 0
-WroteOutput end.Ok report line before after = after ≡ before ++ (report ++ line)
-WroteOutput end.SinkFault report line before after = GrowsByFront before (report ++ line) after
-WroteOutput _ report line before after = ⊥
+-- the output was written, or a front of it where the sink failed
+abbrev pub WroteOutput : End → List ℕ → List ℕ → List ℕ → Type 0
+WroteOutput end.Ok output before after = after ≡ before ++ output
+WroteOutput end.SinkFault output before after = GrowsByFront before output after
+WroteOutput _ output before after = ⊥
 
--- the report of what the script means under the outcomes of the history, and the count of its Start events
-pub record WroteReport (words : List (List ℕ)) (files : Files) (h : List Event) (e : End) (before after : List ℕ) : Type 0 where
-  pub form : Form
-  pub of_form : IsOutcome words files (runs form)
-  pub output : WroteOutput e (report_of (meant form h).viewed) (summary (starts h)) before after
+-- of a run, the report of what the script means under the outcomes of the history, and the count of its Start events; of a script that is
+-- formatted, the canonical text of its tree; nothing else has an output
+abbrev pub WroteDue : Outcome → List Event → End → List ℕ → List ℕ → Type 0
+WroteDue (runs form) h e before after = WroteOutput e (report_of (meant form h).viewed ++ summary (starts h)) before after
+WroteDue (formats tree) h e before after = WroteOutput e (canonical tree) before after
+WroteDue _ h e before after = ⊥
+
+-- what was written is due by the one outcome of the words over the files
+pub record WroteOutcome (words : List (List ℕ)) (files : Files) (h : List Event) (e : End) (before after : List ℕ) : Type 0 where
+  pub outcome : Outcome
+  pub of_words : IsOutcome words files outcome
+  pub output : WroteDue outcome h e before after
 
 abbrev pub OnOutput : End → Type 0 → Type 0
 OnOutput end.Ok P = P
@@ -152,7 +177,7 @@ OnOutput _ P = Unit {0}
 
 -- where the sink tells it
 abbrev pub OutputStands : List (List ℕ) → Files → List Event → Option (List ℕ) → Option (List ℕ) → End → Type 0
-OutputStands words files h old new e = IfSome old (λ before. IfSome new (λ after. OnOutput e (WroteReport words files h e before after)))
+OutputStands words files h old new e = IfSome old (λ before. IfSome new (λ after. OnOutput e (WroteOutcome words files h e before after)))
 
 -- ---- the whole call
 
@@ -171,5 +196,5 @@ pub record EndsOver {L D : Type 0} (Genuine : D → Type 0) (job_of : D → List
   pub ran : (outcome : Outcome) → Means words files outcome → RanTasks Genuine job_of report_by number run_count world outcome h kept lanes_old lanes_new
   -- a stop of the history is the end
   pub stopped : (outcome : Outcome) → Means words files outcome → EndsByStop outcome h e
-  -- what was written is the report of the meaning under the history's outcomes
+  -- what was written is the report of the meaning under the history's outcomes, or the canonical text
   pub output : OutputStands words files h old new e

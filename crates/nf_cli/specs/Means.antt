@@ -1,52 +1,71 @@
 -- What a command line means over files.
 use Rattle.std.specs.Prelude.{◌≡◌, ℕ, List, None, Some, Ok, Err}
+use Rattle.nf_ast.specs.Tree.{Tree}
 use Rattle.nf_words.specs.declared.command.Command.{Command}
-use Rattle.nf_words.specs.declared.command.Command.TheVariants.{Run}
-use Rattle.nf_words.specs.Words.{command_of}
+use Rattle.nf_words.specs.declared.command.Command.TheVariants.{Run, Fmt}
+use Rattle.nf_words.specs.Words.{command_of, fmt}
 use Rattle.nf_host.specs.Files.{Files}
 use Rattle.nf_lexer.specs.Tokens.{Breaks}
-use Rattle.nf_cli.specs.Form.{IsForm, BreaksOff, IsUnbuilt}
-use Rattle.nf_cli.specs.Outcome.{Outcome, runs, misused, absent, unlexed, unparsed, unbuilt}
+use Rattle.nf_forms.specs.Built.{Built}
+use Rattle.nf_forms.specs.Form.{Form, form_of}
+use Rattle.nf_cli.specs.Form.{IsScript, BreaksOff}
+use Rattle.nf_cli.specs.Outcome.{Outcome, runs, formats, misused, absent, unlexed, unparsed, unbuilt}
 
--- what the text of a script comes to
-abbrev pub TextMeans : List ℕ → Outcome → Type 0
-TextMeans text (runs form) = IsForm text form
-TextMeans text (unlexed fault) = Breaks text fault
-TextMeans text (unparsed fault) = BreaksOff text fault
-TextMeans text (unbuilt place) = IsUnbuilt text place
-TextMeans text (misused fault) = ⊥
-TextMeans text absent = ⊥
+-- a tree that is to be run has a form, or a first place of what isn't built
+abbrev pub outcome_of_form : Built Form → Outcome
+outcome_of_form (Ok form) = runs form
+outcome_of_form (Err place) = unbuilt place
+
+-- what a tree comes to by a command: `fmt` takes each tree of the language
+abbrev pub outcome_of_tree : Command → Tree → Outcome
+outcome_of_tree (Run words) tree = outcome_of_form (form_of tree)
+outcome_of_tree (Fmt words) tree = formats tree
+
+-- the text spells a tree that comes to this
+pub record TreeMeans (command : Command) (text : List ℕ) (outcome : Outcome) : Type 0 where
+  pub tree : Tree
+  pub script : IsScript text tree
+  pub comes : outcome_of_tree command tree ≡ outcome
+
+-- what the text of a script comes to by a command
+abbrev pub TextMeans : Command → List ℕ → Outcome → Type 0
+TextMeans command text (misused fault) = ⊥
+TextMeans command text absent = ⊥
+TextMeans command text (unlexed fault) = Breaks text fault
+TextMeans command text (unparsed fault) = BreaksOff text fault
+TextMeans command text outcome = TreeMeans command text outcome
 
 -- the file of a command
 abbrev pub file_of : Command → List ℕ
 file_of (Run words) = words.file
+file_of (Fmt words) = words.file
 
--- the words are `run FILE`
-abbrev pub Runs : List (List ℕ) → List ℕ → Type 0
-Runs words file = command_of words ≡ Ok (Run (record { file = file }))
+-- the words are `fmt FILE`
+abbrev pub Formats : List (List ℕ) → List ℕ → Type 0
+Formats words file = command_of words ≡ Ok (fmt file)
 
-pub record RunsText (words : List (List ℕ)) (files : Files) (outcome : Outcome) : Type 0 where
-  pub file : List ℕ
-  pub runs : Runs words file
+pub record NamesText (words : List (List ℕ)) (files : Files) (outcome : Outcome) : Type 0 where
+  pub command : Command
+  pub reads : command_of words ≡ Ok command
   pub text : List ℕ
-  pub there : files file ≡ Some text
-  pub means : TextMeans text outcome
+  pub there : files (file_of command) ≡ Some text
+  pub means : TextMeans command text outcome
 
 pub record HasNoScript (words : List (List ℕ)) (files : Files) : Type 0 where
-  pub file : List ℕ
-  pub runs : Runs words file
-  pub absent : files file ≡ None
+  pub command : Command
+  pub reads : command_of words ≡ Ok command
+  pub absent : files (file_of command) ≡ None
 
 abbrev pub Means : List (List ℕ) → Files → Outcome → Type 0
 Means words files (misused fault) = command_of words ≡ Err fault
 Means words files absent = HasNoScript words files
-Means words files outcome = RunsText words files outcome
+Means words files outcome = NamesText words files outcome
 
 -- it comes to this, and to nothing else
 pub record IsOutcome (words : List (List ℕ)) (files : Files) (outcome : Outcome) : Type 0 where
   pub means : Means words files outcome
   pub only : (other : Outcome) → Means words files other → other ≡ outcome
 
-pub record IsTextOutcome (text : List ℕ) (outcome : Outcome) : Type 0 where
-  pub means : TextMeans text outcome
-  pub only : (other : Outcome) → TextMeans text other → other ≡ outcome
+pub record IsTextOutcome (command : Command) (text : List ℕ) (outcome : Outcome) : Type 0 where
+  pub means : TextMeans command text outcome
+  pub only : (other : Outcome) → TextMeans command text other → other ≡ outcome

@@ -13,15 +13,20 @@ use Rattle.nf_exprs.specs.declared.fault.ParseFault.TheVariants as parse
 use Rattle.nf_forms.specs.declared.fault.FormFault.{FormFault}
 use Rattle.nf_forms.specs.declared.fault.FormFault.TheVariants as form_fault
 use Rattle.nf_forms.specs.declared.plan.Plan.{Plan}
+use Rattle.nf_words.specs.declared.command.Command.{Command}
 use Rattle.nf_forms.specs.Built.{Built}
 use Rattle.nf_forms.specs.Form.{Form}
 use Rattle.nf_forms.specs.View.{view_plan}
 use Rattle.nf_cli.specs.declared.ends.End.{End}
 use Rattle.nf_cli.specs.declared.ends.End.TheVariants as end
+use Rattle.nf_cli.specs.declared.texts.Request.{Request}
+use Rattle.nf_cli.specs.declared.texts.Request.TheVariants as request
 use Rattle.nf_cli.specs.declared.texts.ScriptFault.{ScriptFault}
 use Rattle.nf_cli.specs.declared.texts.ScriptFault.TheVariants.{Lex, Parse}
 use Rattle.nf_cli.specs.Ends.{end_of_lex, end_of_parse}
 use Rattle.nf_cli.specs.Form.{IsScript, BreaksOff}
+use Rattle.nf_cli.specs.Outcome.{Outcome, runs, formats, unbuilt}
+use Rattle.nf_cli.specs.Means.{outcome_of_tree}
 
 pub record IsOnlyScript (text : List ℕ) (tree : Tree) : Type 0 where
   pub is : IsScript text tree
@@ -79,3 +84,21 @@ FormRefused due _ = ⊥
 abbrev pub Plans : Built Form → Result Plan End → Type 0
 Plans due (Ok p) = due ≡ Ok (view_plan p)
 Plans due (Err e) = FormRefused due e
+
+-- ---- what a command asks of a tree
+
+-- the outcome that a request is
+abbrev pub outcome_of : Request → Outcome
+outcome_of (request.Run plan) = runs (view_plan plan)
+outcome_of (request.Format script) = formats (view_script script)
+
+-- why a command asks nothing of a tree: there is a place of what isn't built, or want of memory
+abbrev pub TreeRefused : Command → Tree → End → Type 0
+TreeRefused command tree (end.Unbuilt place) = outcome_of_tree command tree ≡ unbuilt place
+TreeRefused command tree end.Mem = Unit {0}
+TreeRefused command tree _ = ⊥
+
+-- what a command asks of a tree, or why it asks nothing
+abbrev pub Asks : Command → Tree → Result Request End → Type 0
+Asks command tree (Ok r) = outcome_of_tree command tree ≡ outcome_of r
+Asks command tree (Err e) = TreeRefused command tree e

@@ -1,70 +1,74 @@
 -- What the steps of a call answer before anything is written.
-use Rattle.std.specs.Prelude.{◌≡◌, ℕ, List, [], Option, Some, None, Result, Ok, Err}
+use Rattle.std.specs.Prelude.{◌≡◌, ℕ, List, [], ◌++◌, Option, Some, None, Result, Ok, Err}
 use Rattle.nf_value.specs.Plain.{Plain}
 use Rattle.nf_host.specs.Files.{Files}
 use Rattle.nf_job.specs.declared.report.Report.{Report}
-use Rattle.nf_forms.specs.declared.plan.Plan.{Plan}
-use Rattle.nf_forms.specs.View.{view_plan}
+use Rattle.nf_ast.specs.Tree.{Tree}
+use Rattle.nf_words.specs.declared.command.Command.{Command}
+use Rattle.nf_printer.specs.Tops.{canonical}
 use Rattle.nf_forms.specs.Form.{Form}
 use Rattle.nf_lane.specs.World.{World}
 use Rattle.nf_core.specs.declared.event.Event.{Event}
 use Rattle.nf_core.specs.Machine.{starts}
 use Rattle.nf_run.specs.declared.runs.RunFault.{RunFault}
 use Rattle.nf_run.specs.declared.runs.RunFault.TheVariants as fault
-use Rattle.nf_run.specs.Run.{IsHistoryOf, AreBooked, WentWell, meant}
+use Rattle.nf_run.specs.Run.{WentWell, meant}
 use Rattle.nf_cli.specs.declared.ends.End.{End}
 use Rattle.nf_cli.specs.declared.ends.End.TheVariants as end
 use Rattle.nf_cli.specs.declared.ends.ItemCause.TheVariants.{Eval}
+use Rattle.nf_cli.specs.declared.texts.Request.{Request}
 use Rattle.nf_cli.specs.declared.works.Output.{Output}
-use Rattle.nf_cli.specs.Outcome.{Outcome, runs, unlexed, unparsed, unbuilt}
+use Rattle.nf_cli.specs.declared.works.Output.TheVariants as out
+use Rattle.nf_cli.specs.Outcome.{Outcome, runs, formats, unlexed, unparsed, unbuilt}
 use Rattle.nf_cli.specs.Means.{Means, IsOutcome, IsTextOutcome}
 use Rattle.nf_cli.specs.Report.{report_of, summary}
-use Rattle.nf_cli.specs.Due.{Ended, RunEnds, RanTasks}
+use Rattle.nf_cli.specs.Reads.{outcome_of}
+use Rattle.nf_cli.specs.Due.{Ended, MayEnd, RanTasks}
 
 -- ---- up to the script
 
--- why a text has no plan: its own outcome, or want of memory
-abbrev pub TextRefused : List ℕ → End → Type 0
-TextRefused text (end.Lex fault) = IsTextOutcome text (unlexed fault)
-TextRefused text (end.Parse fault) = IsTextOutcome text (unparsed fault)
-TextRefused text (end.Unbuilt place) = IsTextOutcome text (unbuilt place)
-TextRefused text end.Mem = Unit {0}
-TextRefused text _ = ⊥
+-- why nothing is asked of a text: its own outcome, or want of memory
+abbrev pub TextRefused : Command → List ℕ → End → Type 0
+TextRefused command text (end.Lex fault) = IsTextOutcome command text (unlexed fault)
+TextRefused command text (end.Parse fault) = IsTextOutcome command text (unparsed fault)
+TextRefused command text (end.Unbuilt place) = IsTextOutcome command text (unbuilt place)
+TextRefused command text end.Mem = Unit {0}
+TextRefused command text _ = ⊥
 
--- the plan of a text, or why there is none
-abbrev pub TextGives : List ℕ → Result Plan End → Type 0
-TextGives text (Ok p) = IsTextOutcome text (runs (view_plan p))
-TextGives text (Err e) = TextRefused text e
+-- what a command asks of a text, or why it asks nothing
+abbrev pub TextGives : Command → List ℕ → Result Request End → Type 0
+TextGives command text (Ok r) = IsTextOutcome command text (outcome_of r)
+TextGives command text (Err e) = TextRefused command text e
 
 -- the file is there, and its text comes to this
-pub record HasText (file : Option (List ℕ)) (outcome : Outcome) : Type 0 where
+pub record HasText (command : Command) (file : Option (List ℕ)) (outcome : Outcome) : Type 0 where
   pub text : List ℕ
   pub there : file ≡ Some text
-  pub comes : IsTextOutcome text outcome
+  pub comes : IsTextOutcome command text outcome
 
--- why a file has no plan: it isn't there, its text's own outcome, an outside fault, or want of memory
-abbrev pub FileRefused : Option (List ℕ) → End → Type 0
-FileRefused file end.NoScript = file ≡ None
-FileRefused file (end.Lex fault) = HasText file (unlexed fault)
-FileRefused file (end.Parse fault) = HasText file (unparsed fault)
-FileRefused file (end.Unbuilt place) = HasText file (unbuilt place)
-FileRefused file end.HostFault = Unit {0}
-FileRefused file end.Mem = Unit {0}
-FileRefused file _ = ⊥
+-- why nothing is asked of a file: it isn't there, its text's own outcome, an outside fault, or want of memory
+abbrev pub FileRefused : Command → Option (List ℕ) → End → Type 0
+FileRefused command file end.NoScript = file ≡ None
+FileRefused command file (end.Lex fault) = HasText command file (unlexed fault)
+FileRefused command file (end.Parse fault) = HasText command file (unparsed fault)
+FileRefused command file (end.Unbuilt place) = HasText command file (unbuilt place)
+FileRefused command file end.HostFault = Unit {0}
+FileRefused command file end.Mem = Unit {0}
+FileRefused command file _ = ⊥
 
--- the plan of a file, or why there is none
-abbrev pub FileGives : Option (List ℕ) → Result Plan End → Type 0
-FileGives file (Ok p) = HasText file (runs (view_plan p))
-FileGives file (Err e) = FileRefused file e
+-- what a command asks of a file, or why it asks nothing
+abbrev pub FileGives : Command → Option (List ℕ) → Result Request End → Type 0
+FileGives command file (Ok r) = HasText command file (outcome_of r)
+FileGives command file (Err e) = FileRefused command file e
 
 -- this is what the host tells of the path, where it tells its files
 abbrev pub TellsAt : Option Files → List ℕ → Option (List ℕ) → Type 0
 TellsAt None path file = Unit {0}
 TellsAt (Some told) path file = file ≡ told path
 
--- the plan of the words over the files, or how the call ends
-abbrev pub Gives : List (List ℕ) → Files → Result Plan End → Type 0
-Gives words files (Ok p) = IsOutcome words files (runs (view_plan p))
+-- what the words ask for over the files, or how the call ends
+abbrev pub Gives : List (List ℕ) → Files → Result Request End → Type 0
+Gives words files (Ok r) = IsOutcome words files (outcome_of r)
 Gives words files (Err e) = Ended words files [] e
 
 -- an end before anything is written
@@ -80,7 +84,7 @@ IsEarly end.SinkFault = ⊥
 IsEarly end.LaneFault = ⊥
 IsEarly _ = Unit {0}
 
--- ---- the run
+-- ---- the run, or the canonical text
 
 abbrev pub end_of_run : RunFault → End
 end_of_run (fault.Item item f) = end.ItemFault f.place (Eval item f)
@@ -88,37 +92,47 @@ end_of_run (fault.Task process inputs n f) = end.TaskFailed process inputs n f
 end_of_run fault.Lane = end.LaneFault
 end_of_run fault.Mem = end.Mem
 
--- the report of these items, and the count of the tasks that were started
-pub record IsOutputOf (items : List Plain) (h : List Event) (o : Output) : Type 0 where
-  pub report : o.report ≡ report_of items
-  pub summary : o.summary ≡ summary (starts h)
+-- the bytes of an output
+abbrev pub output_text : Output → List ℕ
+output_text (out.Report report line) = report ++ line
+output_text (out.Text text) = text.items
 
 -- of what the view got, or why it got nothing: what is written, or how the call ends
 abbrev pub IsOutputOrEnd : Result (List Plain) RunFault → List Event → Result Output End → Type 0
-IsOutputOrEnd (Ok items) h (Ok o) = IsOutputOf items h o
+IsOutputOrEnd (Ok items) h (Ok o) = output_text o ≡ report_of items ++ summary (starts h)
 IsOutputOrEnd (Ok items) h (Err e) = e ≡ end.Mem
 IsOutputOrEnd (Err f) h (Ok o) = ⊥
 IsOutputOrEnd (Err f) h (Err e) = e ≡ end_of_run f
 
+-- the canonical text of a tree, unless memory ran out
+abbrev pub IsTextOrEnd : Tree → Result Output End → Type 0
+IsTextOrEnd tree (Ok o) = output_text o ≡ canonical tree
+IsTextOrEnd tree (Err e) = e ≡ end.Mem
+
 -- a script of this form went well, and this is the report of its meaning
 pub record IsReported (form : Form) (h : List Event) (o : Output) : Type 0 where
   pub well : WentWell form h
-  pub output : IsOutputOf (meant form h).viewed h o
+  pub output : output_text o ≡ report_of (meant form h).viewed ++ summary (starts h)
 
--- what a run of a script of this form gives to be written, or how the call ends
-abbrev pub FormGives : Form → List Event → Result Output End → Type 0
-FormGives form h (Ok o) = IsReported form h o
-FormGives form h (Err e) = RunEnds form h e
+-- this is to be written with this outcome
+abbrev pub IsDue : Outcome → List Event → Output → Type 0
+IsDue (runs form) h o = IsReported form h o
+IsDue (formats tree) h o = output_text o ≡ canonical tree
+IsDue _ h o = ⊥
 
--- the run of a script of this form
-pub record HasRun {L D : Type 0} (Genuine : D → Type 0) (job_of : D → List ℕ) (report_by : D → Report) (number : D → ℕ) (run_count : L → ℕ) (world : L → Option World) (form : Form) (h : List Event) (kept : List D) (old new : List L) (r : Result Output End) : Type 0 where
-  pub lawful : IsHistoryOf form h
-  pub booked : AreBooked Genuine job_of report_by number run_count world form h kept old new
-  pub gives : FormGives form h r
+-- what a call with this outcome gives to be written, or how it ends
+abbrev pub OutcomeGives : Outcome → List Event → Result Output End → Type 0
+OutcomeGives outcome h (Ok o) = IsDue outcome h o
+OutcomeGives outcome h (Err e) = MayEnd outcome h e
+
+-- what a call with this outcome runs, and what it gives to be written
+pub record HasDone {L D : Type 0} (Genuine : D → Type 0) (job_of : D → List ℕ) (report_by : D → Report) (number : D → ℕ) (run_count : L → ℕ) (world : L → Option World) (outcome : Outcome) (h : List Event) (kept : List D) (old new : List L) (r : Result Output End) : Type 0 where
+  pub ran : RanTasks Genuine job_of report_by number run_count world outcome h kept old new
+  pub gives : OutcomeGives outcome h r
 
 -- what is to be written, or how the call ends
 abbrev pub WorkGives : List (List ℕ) → Files → List Event → Result Output End → Type 0
-WorkGives words files h (Ok o) = (form : Form) × IsOutcome words files (runs form) × IsReported form h o
+WorkGives words files h (Ok o) = (outcome : Outcome) × IsOutcome words files outcome × IsDue outcome h o
 WorkGives words files h (Err e) = Ended words files h e
 
 -- all that comes before the writing
@@ -133,13 +147,13 @@ abbrev pub IsKept : End → End → Type 0
 IsKept before end.Mem = Unit {0}
 IsKept before after = after ≡ before
 
--- the end of a call that writes a report
+-- the end of a call that writes an output
 abbrev pub IsWritten : End → Type 0
 IsWritten end.Ok = Unit {0}
 IsWritten end.SinkFault = Unit {0}
 IsWritten _ = ⊥
 
--- how a call ends that has a report, or an end already
+-- how a call ends that has an output, or an end already
 abbrev pub EndsAs : Result Output End → End → Type 0
 EndsAs (Ok o) e = IsWritten e
 EndsAs (Err before) e = IsKept before e

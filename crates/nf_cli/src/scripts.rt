@@ -1,4 +1,4 @@
-//! From the words to what the script that they name asks for.
+//! From the words to what they ask of the script that they name.
 
 ghost use Rattle.std.specs.Prelude.{◌≡◌, ℕ, ◌≤◌, List, IfErr, map, string_bytes};
 ghost use Rattle.std.specs.declared.option.Option.{Option};
@@ -10,8 +10,7 @@ ghost use Rattle.nf_cli.specs.Due.{OnHostFault, Tells};
 ghost use Rattle.nf_cli.specs.Work.{FileGives, Gives, IsEarly, TellsAt};
 
 use crate::ends::End;
-use crate::texts::plan_of_text;
-use nf_forms::Plan;
+use crate::texts::{Request, request_of_text};
 use nf_host::{Host, HostRefusal, Whole, read_whole};
 use nf_lexer::LexFault;
 use nf_words::{Command, UsageFault, read_words};
@@ -20,12 +19,16 @@ use std::alloc::Global;
 /// The most bytes of a script (own).
 pub const SCRIPT_LIMIT: u64 = 1_048_576;
 
-/// What the script of a command line asks for, over the files of a host.
+/// What a command line asks for, over the files of a host.
 ///
 /// # Errors
 ///
 /// The end of a call that has no such script.
-pub fn plan_of_words<H: Host>(alloc: Global, words: &[String], host: &mut H) -> Result<Plan, End>
+pub fn request_of_words<H: Host>(
+    alloc: Global,
+    words: &[String],
+    host: &mut H,
+) -> Result<Request, End>
     ensures later { H.faults host.old ≤ H.faults host.new }
     ensures files { H.files host.new ≡ H.files host.old }
     ensures early { IfErr result IsEarly }
@@ -33,21 +36,26 @@ pub fn plan_of_words<H: Host>(alloc: Global, words: &[String], host: &mut H) -> 
     ensures gives { (f : Files) × Tells (H.files host.old) f × Gives (map string_bytes words.now) f result }
 {
     match read_words(alloc, words) {
-        Ok(command) => plan_of_command(alloc, &command, host),
+        Ok(command) => request_of_command(alloc, &command, host),
         Err(fault) => Err(usage_end(fault)),
     }
 }
 
-/// What the script of a command asks for.
-fn plan_of_command<H: Host>(alloc: Global, command: &Command, host: &mut H) -> Result<Plan, End>
+/// What a command asks for.
+fn request_of_command<H: Host>(
+    alloc: Global,
+    command: &Command,
+    host: &mut H,
+) -> Result<Request, End>
     ensures later { H.faults host.old ≤ H.faults host.new }
     ensures files { H.files host.new ≡ H.files host.old }
     ensures cause { IfErr result (λ e. OnHostFault e (Rose (H.faults host.old) (H.faults host.new))) }
     ensures early { IfErr result IsEarly }
-    ensures gives { (held : Option (List ℕ)) × TellsAt (H.files host.old) (file_of command.now) held × FileGives held result }
+    ensures gives { (held : Option (List ℕ)) × TellsAt (H.files host.old) (file_of command.now) held × FileGives command.now held result }
 {
     match command {
-        Command::Run(run) => plan_of_file(alloc, run.file.as_str(), host),
+        Command::Run(run) => request_of_file(alloc, command, run.file.as_str(), host),
+        Command::Fmt(fmt) => request_of_file(alloc, command, fmt.file.as_str(), host),
     }
 }
 
@@ -60,18 +68,23 @@ fn usage_end(fault: UsageFault) -> End
     }
 }
 
-/// What the script of a file asks for.
-fn plan_of_file<H: Host>(alloc: Global, file: &str, host: &mut H) -> Result<Plan, End>
+/// What a command asks of the script of a file.
+fn request_of_file<H: Host>(
+    alloc: Global,
+    command: &Command,
+    file: &str,
+    host: &mut H,
+) -> Result<Request, End>
     ensures later { H.faults host.old ≤ H.faults host.new }
     ensures files { H.files host.new ≡ H.files host.old }
     ensures cause { IfErr result (λ e. OnHostFault e (Rose (H.faults host.old) (H.faults host.new))) }
     ensures early { IfErr result IsEarly }
-    ensures gives { (held : Option (List ℕ)) × TellsAt (H.files host.old) file.now held × FileGives held result }
+    ensures gives { (held : Option (List ℕ)) × TellsAt (H.files host.old) file.now held × FileGives command.now held result }
 {
     match read_whole(alloc, host, file, SCRIPT_LIMIT) {
         Ok(Whole::Absent) => Err(End::NoScript),
         Ok(Whole::TooLong) => Err(End::Lex(LexFault::ScriptTooLong)),
-        Ok(Whole::Bytes(text)) => plan_of_text(alloc, text.items()),
+        Ok(Whole::Bytes(text)) => request_of_text(alloc, command, text.items()),
         Err(HostRefusal::Failed) => Err(End::HostFault),
         Err(HostRefusal::Mem) => Err(End::Mem),
     }

@@ -15,11 +15,19 @@ use tasks::idle_lanes;
 /// The words of most calls.
 const RUN: &[&str] = &["run", "a.nf"];
 
+/// The words of a call that formats.
+const FMT: &[&str] = &["fmt", "a.nf"];
+
 const EXAMPLE: &str = "workflow { channel.of(3, 1, 2).map { it * 10 }.view() }";
 
 const OUTPUT: &str = "10\n20\n30\nexecuted 0 cached 0\n";
 
 const OVERFLOW: &str = "workflow { channel.of(9223372036854775807).map { it + 1 }.view() }";
+
+/// A script, and its canonical text.
+const CROWDED: &str = "workflow{channel.of( 1 ).view( )}";
+
+const CANONICAL: &str = "workflow {\n    channel.of(1).view()\n}\n";
 
 const NO_NUMBERS: &str = "workflow { channel.empty().view() }";
 
@@ -271,6 +279,52 @@ const ROWS: &[Row] = &[
         None,
         "2 Usage UnknownWord at word 2",
         "error: usage: UnknownWord at word 2\n",
+    ),
+    // Scripts that are formatted: without a summary line, in one write, and also those that don't run.
+    (FMT, Some(CROWDED), None, None, "0 Ok", CANONICAL),
+    (FMT, Some(CROWDED), None, Some((1, 0)), "0 Ok", CANONICAL),
+    (
+        FMT,
+        Some(CROWDED),
+        None,
+        Some((0, 9)),
+        "4 SinkFault",
+        "workflow ",
+    ),
+    (FMT, Some(""), None, None, "0 Ok", ""),
+    (FMT, Some(""), None, Some((0, 0)), "0 Ok", ""),
+    (FMT, None, None, None, "3 NoScript", "error: NoScript\n"),
+    (
+        FMT,
+        Some("workflow { channel.of(\"\"\"abc"),
+        None,
+        None,
+        "3 Lex 1:23: OpenString",
+        "error: 1:23: OpenString\n",
+    ),
+    (
+        FMT,
+        Some("workflow { } }"),
+        None,
+        None,
+        "3 Parse Unexpected at 1:14",
+        "error: 1:14: Unexpected\n",
+    ),
+    (
+        FMT,
+        Some(CROWDED),
+        Some(0),
+        None,
+        "4 HostFault",
+        "error: HostFault\n",
+    ),
+    (
+        &["fmt"],
+        Some(CROWDED),
+        None,
+        None,
+        "2 Usage NoValue at word 1",
+        "error: usage: NoValue at word 1\n",
     ),
     // A host that fails; words that are wrong ask nothing of it.
     (

@@ -1,10 +1,10 @@
-//! The plan of a text.
+//! What a command asks of a text.
 
 ghost use Rattle.std.specs.Prelude.{◌≡◌};
 ghost use Rattle.nf_ast.specs.Tops.{view_script};
 ghost use Rattle.nf_forms.specs.Form.{form_of};
 ghost use Rattle.nf_cli.specs.Ends.{end_of_lex, end_of_parse};
-ghost use Rattle.nf_cli.specs.Reads.{ReadsScript, Plans, end_of_form, end_of_script};
+ghost use Rattle.nf_cli.specs.Reads.{Asks, ReadsScript, Plans, end_of_form, end_of_script};
 ghost use Rattle.nf_cli.specs.Work.{TextGives};
 
 use crate::ends::End;
@@ -12,7 +12,17 @@ use nf_ast::Script;
 use nf_forms::{FormFault, Plan, plan_of};
 use nf_lexer::{LexFault, tokens};
 use nf_parser::{ParseFault, script};
+use nf_words::Command;
 use std::alloc::Global;
+
+/// What a command asks for, with what it needs of the script.
+#[derive(Drop)]
+pub enum Request {
+    /// To run this plan.
+    Run(Plan),
+    /// To write the canonical text of this script.
+    Format(Script),
+}
 
 /// Why a text has no tree.
 pub enum ScriptFault {
@@ -22,17 +32,18 @@ pub enum ScriptFault {
     Parse(ParseFault),
 }
 
-/// What the script of a text asks for.
+/// What a command asks of the script of a text. To run a script it needs a form that is built; `fmt` takes any script.
 ///
 /// # Errors
 ///
 /// `Lex` exactly where the text breaks a rule of the tokens, with the first that is broken; `Parse` exactly where its tokens spell no
-/// script, with the place; `Unbuilt` exactly where its script is of no form that is built, with the place; `Mem` where there is no memory.
-pub fn plan_of_text(alloc: Global, text: &[u8]) -> Result<Plan, End>
-    ensures gives { TextGives text.now result }
+/// script, with the place; `Unbuilt` exactly where its script is to be run and is of no form that is built, with the place; `Mem` where
+/// there is no memory.
+pub fn request_of_text(alloc: Global, command: &Command, text: &[u8]) -> Result<Request, End>
+    ensures gives { TextGives command.now text.now result }
 {
     match read_script(alloc, text) {
-        Ok(script) => plan_of_script(alloc, &script),
+        Ok(script) => request_of_script(alloc, command, script),
         Err(fault) => Err(script_end(fault)),
     }
 }
@@ -59,7 +70,20 @@ fn read_script(alloc: Global, text: &[u8]) -> Result<Script, ScriptFault>
     }
 }
 
-/// What a script asks for.
+/// What a command asks of a script.
+fn request_of_script(alloc: Global, command: &Command, script: Script) -> Result<Request, End>
+    ensures { Asks command.now (view_script script) result }
+{
+    match command {
+        Command::Run(_) => {
+            let plan = plan_of_script(alloc, &script)?;
+            Ok(Request::Run(plan))
+        }
+        Command::Fmt(_) => Ok(Request::Format(script)),
+    }
+}
+
+/// The plan of a script.
 fn plan_of_script(alloc: Global, script: &Script) -> Result<Plan, End>
     ensures { Plans (form_of (view_script script.now)) result }
 {

@@ -6,7 +6,7 @@ ghost use Rattle.nf_host.specs.Files.{Files};
 ghost use Rattle.nf_core.specs.Machine.{starts};
 ghost use Rattle.nf_run.specs.Run.{NoneFell, OneRose};
 ghost use Rattle.nf_cli.specs.Ends.{status_of};
-ghost use Rattle.nf_cli.specs.Due.{EndsOver, OnHostFault, OnLaneFault, OnSinkFault, Tells, WroteLine};
+ghost use Rattle.nf_cli.specs.Due.{EndsOver, FmtRunsNothing, OnHostFault, OnLaneFault, OnSinkFault, Tells, WroteLine};
 
 use crate::ends::NfEnd;
 use crate::works::{Work, work_of_words};
@@ -21,6 +21,9 @@ pub const LANES: usize = 16;
 /// Does what a command line asks for: reads the script by the host, runs its tasks on the lanes, and writes to the sink the
 /// report and the summary line, or one error line. Words are those after the program's name. There are 16 lanes, which come
 /// back whatever happens; tasks run on the first of them, one after another in the order of the items.
+///
+/// `fmt` runs nothing: it writes the canonical text of the script in one write, and of an empty text nothing. It takes each script
+/// of the language, also where `run` doesn't.
 ///
 /// What is said of a script stands over the files that the host tells, and over some files where it tells none; what is said
 /// of written bytes stands where the sink tells them, and that a report is the lane's world's where the lane tells it. Want
@@ -42,11 +45,15 @@ pub fn nf_main<H: Host, L: Lane, O: Sink>(
     // the end is that of the words over the files and of the history's outcomes, and has its cause; whatever they come to is
     // how the call ends, unless the host failed or memory ran out; the history is lawful, each Start has one run of a lane and
     // each Finish a job of its own that was run, with its report; a stop of the history is the end; and what was written is
-    // the report of what the script means under the history's outcomes, with the count of its Start events.
+    // the report of what the script means under the history's outcomes, with the count of its Start events, or, of `fmt`, the
+    // canonical text of the tree that its tokens spell.
     ensures over { (f : Files) × Tells (H.files host.old) f × EndsOver L.Done.genuine L.Done.job L.Done.told L.Done.number L.runs L.world (map string_bytes words.now) f result.history.items result.kept.dones.items lanes.items result.lanes.items (O.written out.old) (O.written out.new) result.end }
     // After each end but Ok, SinkFault and Mem its error line was written, or a front of it where the sink failed; after Mem
     // nothing.
     ensures line { IfSome (O.written out.old) (λ before. IfSome (O.written out.new) (λ after. WroteLine result.end (Rose (O.faults out.old) (O.faults out.new)) before after)) }
+
+    // Whatever the files hold and however the call ends, `fmt` runs nothing, and the lanes come back as they were.
+    ensures idle { FmtRunsNothing (map string_bytes words.now) result.history.items result.kept.dones.items lanes.items result.lanes.items }
 
     // The lanes ran as often as tasks were started, and tell what they told.
     ensures runs { sum_by L.runs result.lanes.items ≡ sum_by L.runs lanes.items + starts result.history.items }

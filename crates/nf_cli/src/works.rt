@@ -1,33 +1,39 @@
-//! All that comes before the writing: the script, its run, and the text of its report.
+//! All that comes before the writing: the script, its run, and the text of its report, or its canonical text.
 
-ghost use Rattle.std.specs.Prelude.{◌≡◌, ◌+◌, ◌<◌, ◌≤◌, ◌^◌, [], length, map, sum_by, string_bytes, All, IfOk, IfErr, Err};
+ghost use Rattle.std.specs.Prelude.{◌≡◌, ◌+◌, ◌<◌, ◌≤◌, ◌^◌, [], ◌++◌, length, map, sum_by, string_bytes, All, IfOk, IfErr, Err};
 ghost use Rattle.nf_host.specs.Faults.{Rose};
 ghost use Rattle.nf_host.specs.Files.{Files};
+ghost use Rattle.nf_ast.specs.Tops.{view_script};
 ghost use Rattle.nf_forms.specs.View.{view_plan};
 ghost use Rattle.nf_core.specs.Machine.{starts as starts_of};
 ghost use Rattle.nf_run.specs.Run.{NoneFell, OneRose};
 ghost use Rattle.nf_cli.specs.Report.{report_of, summary as summary_of};
-ghost use Rattle.nf_cli.specs.Due.{OnHostFault, OnLaneFault, Tells};
-ghost use Rattle.nf_cli.specs.Work.{HasRun, HasWorked, IsEarly, IsOutputOrEnd, IsOutputOf, IsRefusal, end_of_run};
+ghost use Rattle.nf_cli.specs.Due.{FmtRunsNothing, OnHostFault, OnLaneFault, Tells};
+ghost use Rattle.nf_cli.specs.Outcome.{runs};
+ghost use Rattle.nf_cli.specs.Reads.{outcome_of};
+ghost use Rattle.nf_cli.specs.Work.{HasDone, HasWorked, IsEarly, IsOutputOrEnd, IsTextOrEnd, IsRefusal, end_of_run, output_text};
 
 use crate::ends::{End, ItemCause};
 use crate::report::report;
-use crate::scripts::plan_of_words;
+use crate::scripts::request_of_words;
+use crate::texts::Request;
+use nf_ast::Script;
 use nf_core::Event;
 use nf_forms::Plan;
 use nf_host::Host;
 use nf_lane::{Kept, Lane};
+use nf_printer::print;
 use nf_run::{Ran, RunFault, laws, run_plan, starts};
 use nf_value::{Mem, Txt, Vals};
 use std::alloc::Global;
 
-/// What a run that went well writes.
+/// What a call that goes well writes.
 #[derive(Drop)]
-pub struct Output {
-    /// The report.
-    pub report: Txt,
-    /// The line after it, with its line end.
-    pub summary: Txt,
+pub enum Output {
+    /// Of a run: its report, and the line after it with its line end.
+    Report { report: Txt, summary: Txt },
+    /// Of a script that is formatted: its canonical text.
+    Text(Vec<u8>),
 }
 
 /// What a call comes to before it writes.
@@ -41,7 +47,7 @@ pub struct Work<L: Lane> {
     pub outcome: Result<Output, End>,
 }
 
-/// Reads the script that the words name, runs it over the lanes, and makes the texts to be written.
+/// Reads the script that the words name, does over the lanes what they ask of it, and makes the texts to be written.
 pub fn work_of_words<H: Host, L: Lane>(
     alloc: Global,
     words: &[String],
@@ -51,6 +57,7 @@ pub fn work_of_words<H: Host, L: Lane>(
     requires some { 1 ≤ length lanes.old.items }
     requires room { All (λ l. L.runs l < 2 ^ 62) lanes.old.items }
     ensures worked { (f : Files) × Tells (H.files host.old) f × HasWorked L.Done.genuine L.Done.job L.Done.told L.Done.number L.runs L.world (map string_bytes words.now) f result.history.items result.kept.dones.items lanes.old.items lanes.new.items result.outcome }
+    ensures idle { FmtRunsNothing (map string_bytes words.now) result.history.items result.kept.dones.items lanes.old.items lanes.new.items }
     ensures refusal { IfErr result.outcome IsRefusal }
     ensures runs { sum_by L.runs lanes.new.items ≡ sum_by L.runs lanes.old.items + starts_of result.history.items }
     ensures worlds { map L.world lanes.new.items ≡ map L.world lanes.old.items }
@@ -61,24 +68,53 @@ pub fn work_of_words<H: Host, L: Lane>(
     ensures files { H.files host.new ≡ H.files host.old }
 {
     laws::nothing_is_booked(lanes.as_slice());
-    match plan_of_words(alloc, words, host) {
-        Ok(plan) => work_of_plan(alloc, &plan, lanes),
-        Err(end) => nothing_ran(alloc, end),
+    match request_of_words(alloc, words, host) {
+        Ok(request) => work_of_request(alloc, &request, lanes),
+        Err(end) => nothing_ran(alloc, Err(end)),
     }
 }
 
-/// Nothing was run, and the call ends so.
-fn nothing_ran<L: Lane>(alloc: Global, end: End) -> Work<L>
+/// Nothing was run, and this is to be written, or the call ends so.
+fn nothing_ran<L: Lane>(alloc: Global, outcome: Result<Output, End>) -> Work<L>
     ensures history { result.history.items ≡ [] }
     ensures kept { result.kept.dones.items ≡ [] }
-    ensures outcome { result.outcome ≡ Err end }
+    ensures outcome { result.outcome ≡ outcome }
 {
     Work {
         history: Vec::new(alloc),
         kept: Kept {
             dones: Vec::new(alloc),
         },
-        outcome: Err(end),
+        outcome,
+    }
+}
+
+/// Does what is asked for, and makes the texts to be written.
+fn work_of_request<L: Lane>(alloc: Global, request: &Request, lanes: &mut Vec<L>) -> Work<L>
+    requires some { 1 ≤ length lanes.old.items }
+    requires room { All (λ l. L.runs l < 2 ^ 62) lanes.old.items }
+    ensures done { HasDone L.Done.genuine L.Done.job L.Done.told L.Done.number L.runs L.world (outcome_of request.now) result.history.items result.kept.dones.items lanes.old.items lanes.new.items result.outcome }
+    ensures refusal { IfErr result.outcome IsRefusal }
+    ensures no_host { IfErr result.outcome (λ e. OnHostFault e ⊥) }
+    ensures runs { sum_by L.runs lanes.new.items ≡ sum_by L.runs lanes.old.items + starts_of result.history.items }
+    ensures worlds { map L.world lanes.new.items ≡ map L.world lanes.old.items }
+    ensures lane_fault { IfErr result.outcome (λ e. OnLaneFault e (OneRose L.faults lanes.old.items lanes.new.items)) }
+    ensures lanes_later { NoneFell L.faults lanes.old.items lanes.new.items }
+{
+    laws::nothing_is_booked(lanes.as_slice());
+    match request {
+        Request::Run(plan) => work_of_plan(alloc, plan, lanes),
+        Request::Format(script) => nothing_ran(alloc, text_or_end(alloc, script)),
+    }
+}
+
+/// The canonical text of a script, or the end for want of memory.
+fn text_or_end(alloc: Global, script: &Script) -> Result<Output, End>
+    ensures { IsTextOrEnd (view_script script.now) result }
+{
+    match print(alloc, script) {
+        Ok(text) => Ok(Output::Text(text)),
+        Err(Mem) => Err(End::Mem),
     }
 }
 
@@ -86,7 +122,7 @@ fn nothing_ran<L: Lane>(alloc: Global, end: End) -> Work<L>
 fn work_of_plan<L: Lane>(alloc: Global, plan: &Plan, lanes: &mut Vec<L>) -> Work<L>
     requires some { 1 ≤ length lanes.old.items }
     requires room { All (λ l. L.runs l < 2 ^ 62) lanes.old.items }
-    ensures ran { HasRun L.Done.genuine L.Done.job L.Done.told L.Done.number L.runs L.world (view_plan plan.now) result.history.items result.kept.dones.items lanes.old.items lanes.new.items result.outcome }
+    ensures done { HasDone L.Done.genuine L.Done.job L.Done.told L.Done.number L.runs L.world (runs (view_plan plan.now)) result.history.items result.kept.dones.items lanes.old.items lanes.new.items result.outcome }
     ensures refusal { IfErr result.outcome IsRefusal }
     ensures no_host { IfErr result.outcome (λ e. OnHostFault e ⊥) }
     ensures runs { sum_by L.runs lanes.new.items ≡ sum_by L.runs lanes.old.items + starts_of result.history.items }
@@ -149,12 +185,11 @@ fn run_end(fault: RunFault) -> End
 }
 
 fn output_of(alloc: Global, items: Vals, started: usize) -> Result<Output, Mem>
-    ensures report { IfOk result (λ o. o.report ≡ report_of items) }
-    ensures summary { IfOk result (λ o. o.summary ≡ summary_of started) }
+    ensures { IfOk result (λ o. output_text o ≡ report_of items ++ summary_of started) }
 {
     let report = report(alloc, items)?;
     let summary = format!(in alloc; "executed {started} cached 0\n")?;
-    Ok(Output {
+    Ok(Output::Report {
         report,
         summary: Txt::of(summary),
     })

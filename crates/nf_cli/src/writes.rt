@@ -4,7 +4,7 @@ ghost use Rattle.std.specs.Prelude.{◌≡◌, ◌≤◌, ◌++◌, ◌↔◌, I
 ghost use Rattle.nf_host.specs.Faults.{Rose};
 ghost use Rattle.nf_host.specs.Sink.{GrowsByFront};
 ghost use Rattle.nf_cli.specs.Due.{OnSinkFault, WroteLine, WroteOutput};
-ghost use Rattle.nf_cli.specs.Work.{IsRefusal, IsKept, EndsAs, IsWritten};
+ghost use Rattle.nf_cli.specs.Work.{IsRefusal, IsKept, EndsAs, IsWritten, output_text};
 
 use crate::ends::End;
 use crate::lines::error_line;
@@ -12,33 +12,61 @@ use crate::works::Output;
 use nf_host::{Sink, SinkFailed};
 use std::alloc::Global;
 
-/// Writes a report and its summary line, or the error line of an end, and answers the end of the call.
+/// Writes an output, or the error line of an end, and answers the end of the call.
 pub fn write<O: Sink>(alloc: Global, out: &mut O, outcome: Result<Output, End>) -> End
     requires { IfErr outcome IsRefusal }
     ensures later { O.faults out.old ≤ O.faults out.new }
     ensures ends { EndsAs outcome result }
     ensures cause { OnSinkFault result (Rose (O.faults out.old) (O.faults out.new)) }
     ensures told { IsSome (O.written out.new) ↔ IsSome (O.written out.old) }
-    ensures output { IfOk outcome (λ o. IfSome (O.written out.old) (λ before. IfSome (O.written out.new) (λ after. WroteOutput result o.report o.summary before after))) }
+    ensures output { IfOk outcome (λ o. IfSome (O.written out.old) (λ before. IfSome (O.written out.new) (λ after. WroteOutput result (output_text o) before after))) }
     ensures line { IfSome (O.written out.old) (λ before. IfSome (O.written out.new) (λ after. WroteLine result (Rose (O.faults out.old) (O.faults out.new)) before after)) }
 {
     match outcome {
-        Ok(output) => write_output(
-            out,
-            output.report.as_str().as_bytes(),
-            output.summary.as_str().as_bytes(),
-        ),
+        Ok(output) => write_output(out, &output),
         Err(end) => write_line(alloc, out, end),
     }
 }
 
-/// Writes a report and its summary line, each in one write; an empty report isn't written.
-fn write_output<O: Sink>(out: &mut O, report: &[u8], summary: &[u8]) -> End
+/// Writes an output.
+fn write_output<O: Sink>(out: &mut O, output: &Output) -> End
     ensures later { O.faults out.old ≤ O.faults out.new }
     ensures cause { OnSinkFault result (Rose (O.faults out.old) (O.faults out.new)) }
     ensures ends { IsWritten result }
     ensures told { IsSome (O.written out.new) ↔ IsSome (O.written out.old) }
-    ensures output { IfSome (O.written out.old) (λ before. IfSome (O.written out.new) (λ after. WroteOutput result report.now summary.now before after)) }
+    ensures output { IfSome (O.written out.old) (λ before. IfSome (O.written out.new) (λ after. WroteOutput result (output_text output.now) before after)) }
+{
+    match output {
+        Output::Report { report, summary } => write_report(
+            out,
+            report.as_str().as_bytes(),
+            summary.as_str().as_bytes(),
+        ),
+        Output::Text(text) => write_text(out, text),
+    }
+}
+
+/// Writes a text in one write, unless it is empty.
+fn write_text<O: Sink>(out: &mut O, text: &[u8]) -> End
+    ensures later { O.faults out.old ≤ O.faults out.new }
+    ensures cause { OnSinkFault result (Rose (O.faults out.old) (O.faults out.new)) }
+    ensures ends { IsWritten result }
+    ensures told { IsSome (O.written out.new) ↔ IsSome (O.written out.old) }
+    ensures output { IfSome (O.written out.old) (λ before. IfSome (O.written out.new) (λ after. WroteOutput result text.now before after)) }
+{
+    let Ok(()) = write_piece(out, text) else {
+        return End::SinkFault;
+    };
+    End::Ok
+}
+
+/// Writes a report and its summary line, each in one write; an empty report isn't written.
+fn write_report<O: Sink>(out: &mut O, report: &[u8], summary: &[u8]) -> End
+    ensures later { O.faults out.old ≤ O.faults out.new }
+    ensures cause { OnSinkFault result (Rose (O.faults out.old) (O.faults out.new)) }
+    ensures ends { IsWritten result }
+    ensures told { IsSome (O.written out.new) ↔ IsSome (O.written out.old) }
+    ensures output { IfSome (O.written out.old) (λ before. IfSome (O.written out.new) (λ after. WroteOutput result (report.now ++ summary.now) before after)) }
 {
     let Ok(()) = write_piece(out, report) else {
         return End::SinkFault;

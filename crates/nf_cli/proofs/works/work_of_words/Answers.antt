@@ -1,14 +1,22 @@
 use Rattle.std.proofs.Common.{map, string_bytes}
-use Rattle.nf_cli.proofs.Working.{idle_as, nothing_worked, plan_worked}
+use Rattle.nf_cli.proofs.Working.{idle_as, nothing_worked, request_worked, fmt_idles}
 use Rattle.nf_cli.proofs.works.work_of_words.Goals as goal
 
 pub returns-in-Ok-clause-worked : goal.returns-in-Ok-clause-worked
 returns-in-Ok-clause-worked g c =
     let D = g.L.Done.Finished in
     let l = g.L.Lane in
-    let run = c.work_of_plan in
+    let work = c.work_of_request in
     let w = c.in-Ok.ensures.gives in
-    (w.0, w.1, plan_worked D.genuine D.job D.told D.number l.runs l.world (map string_bytes c.args.words.now) w.0 c.in-Ok.plan run.result.history.items run.result.kept.dones.items c.args.lanes.now.items run.new.lanes.items run.result.outcome w.2 run.ensures.ran)
+    (w.0, w.1, request_worked D.genuine D.job D.told D.number l.runs l.world (map string_bytes c.args.words.now) w.0 c.in-Ok.request work.result.history.items work.result.kept.dones.items c.args.lanes.now.items work.new.lanes.items work.result.outcome w.2 work.ensures.done)
+
+pub returns-in-Ok-clause-idle : goal.returns-in-Ok-clause-idle
+returns-in-Ok-clause-idle g c =
+    let D = g.L.Done.Finished in
+    let l = g.L.Lane in
+    let work = c.work_of_request in
+    let w = c.in-Ok.ensures.gives in
+    fmt_idles D.genuine D.job D.told D.number l.runs l.world (map string_bytes c.args.words.now) w.0 c.in-Ok.request work.result.history.items work.result.kept.dones.items c.args.lanes.now.items work.new.lanes.items work.result.outcome w.2 work.ensures.done
 
 pub returns-in-Err-clause-worked : goal.returns-in-Err-clause-worked
 returns-in-Err-clause-worked g c =

@@ -1,5 +1,5 @@
 use Rattle.nf_cli.proofs.Writing.{two_written, two_front}
-use Rattle.nf_cli.proofs.writes.write_output.Goals as goal
+use Rattle.nf_cli.proofs.writes.write_report.Goals as goal
 
 pub returns-in-Ok-write-clause-output : goal.returns-in-Ok-write-clause-output
 returns-in-Ok-write-clause-output g c =
