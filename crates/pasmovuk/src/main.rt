@@ -15,6 +15,7 @@ use std::{env, io};
 const HELP: &str = "pasmovuk: runs pipelines written in a subset of Nextflow DSL2
 
   run FILE     runs the script in FILE and prints its report
+  fmt FILE     prints the script in FILE in its canonical layout
   --help       prints this
   --version    prints the program's name and version
 ";
