@@ -1,12 +1,10 @@
 process GREET {
     input:
     val name
-
     output:
     stdout
-
     script:
-    "printf 'hello, %s' $name"
+    "printf 'hello, %s' ${name}"
 }
 
 workflow {

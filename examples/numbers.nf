@@ -1,1 +1,3 @@
-workflow { channel.of(3, 1, 2).map { it * 10 }.view() }
+workflow {
+    channel.of(3, 1, 2).map { it * 10 }.view()
+}

@@ -1,13 +1,10 @@
-// The second item's task fails, so the third isn't taken.
 process CHECK {
     input:
     val limit
-
     output:
     stdout
-
     script:
-    "test 2 -gt $limit; printf 'within %s' $limit"
+    "test 2 -gt ${limit}; printf 'within %s' ${limit}"
 }
 
 workflow {
