@@ -1,5 +1,5 @@
 -- Lists of values, by what each of them is.
-use Rattle.std.proofs.Common.{◌≡◌, ℕ, ◌+◌, ◌<◌, ◌≤◌, Bool, true, false, not, ◌&&◌, ◌||◌, List, [], ◌∷◌, ◌++◌, length, take, drop, map, get_or, Option, Some, None, refl, ap, sym, ◌∙◌, arith, add-one, drop-cons, append_assoc, min}
+use Rattle.std.proofs.Common.{◌≡◌, ℕ, ◌+◌, ◌<◌, ◌≤◌, Bool, true, false, not, ◌&&◌, ◌||◌, List, [], ◌∷◌, ◌++◌, length, take, drop, map, get_or, Option, Some, None, refl, ap, sym, ◌∙◌, arith, append_assoc, min}
 use Rattle.std.specs.Prelude.{filter, fold}
 use Rattle.std.specs.List.{list_any, position_from, slice_range}
 use Rattle.std.proofs.lemmas.Map.Views.{tells_apart}
@@ -7,11 +7,10 @@ use Rattle.std.proofs.lemmas.Bool.{false≢true}
 use Rattle.std.proofs.lemmas.List.{nil_from_length, length-drop, map-append, take_min, drop_min, take-map, drop-map}
 use Rattle.std.proofs.Math.Seq.{take-length}
 use mathlib.Core.List.{reverse, reverse-cons}
-use Rattle.nf_value.specs.Plain.{Plain, text}
+use Rattle.nf_value.specs.Plain.{Plain}
 use Rattle.nf_value.specs.View.{plain_of}
 use Rattle.nf_value.specs.Identity.{value_cmp_exact}
 use Rattle.nf_value.specs.declared.value.Value.{Value}
-use Rattle.nf_value.specs.declared.value.Value.TheVariants as v
 use Rattle.nf_texts.proofs.Remaining.{left_at}
 use Rattle.nf_builtins.specs.Lists.{is_same, firsts_of}
 
