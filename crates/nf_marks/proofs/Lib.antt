@@ -1,3 +1,4 @@
 pub mod Members
 pub mod Putting
 pub mod Stepping
+pub mod Blanks

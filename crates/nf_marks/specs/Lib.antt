@@ -5,3 +5,6 @@ pub mod Sum
 pub mod Product
 pub mod Compare
 pub mod Read
+pub mod Literal
+pub mod Property
+pub mod Template

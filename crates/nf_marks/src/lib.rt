@@ -4,14 +4,20 @@
 mod comparisons;
 mod kinds;
 mod limits;
+mod literals;
 mod pairs;
 mod products;
+mod properties;
 mod ranges;
 mod reading;
 mod sums;
+mod templates;
 
 pub use comparisons::{at_least, at_most, differs, greater, is_in, less, matches, same};
+pub use literals::{new_list, new_map};
 pub use products::{negative, remainder, times};
+pub use properties::property;
 pub use ranges::range;
 pub use reading::index;
 pub use sums::{minus, plus};
+pub use templates::Written;

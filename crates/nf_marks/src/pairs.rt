@@ -12,8 +12,15 @@ use std::cmp::Ordering;
 pub(crate) fn merged(first: Pairs, second: Pairs) -> Result<Pairs, Mem>
     ensures { IfOk result (λ ps. ps ≡ put_all second first) }
 {
+    put_each(first, second.into_items())
+}
+
+/// A map with more pairs put into it, one after another.
+pub(crate) fn put_each(first: Pairs, more: Vec<(Txt, Value)>) -> Result<Pairs, Mem>
+    ensures { IfOk result (λ ps. ps ≡ put_all (map pair_of more.items) first) }
+{
     let mut pairs = first.into_items();
-    for (key, value) in second.into_items() {
+    for (key, value) in more {
         put(&mut pairs, key, value)?;
     }
     Ok(Pairs::of(pairs))

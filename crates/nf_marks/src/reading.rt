@@ -66,7 +66,7 @@ fn item_in(items: &[Value], place: i64) -> Option<&Value>
 }
 
 /// The value of a key.
-fn value_at<'a>(pairs: &'a Pairs, key: &str) -> Option<&'a Value>
+pub(crate) fn value_at<'a>(pairs: &'a Pairs, key: &str) -> Option<&'a Value>
     ensures { MatchOption result (value_at_of key.now (plain_pairs_of pairs.now) ≡ null) (λ v. value_at_of key.now (plain_pairs_of pairs.now) ≡ plain_of v.now) }
 {
     for (other, value) in pairs.items() {
