@@ -1,0 +1,29 @@
+-- A value, or one fault with its place.
+use Rattle.std.specs.Prelude.{Result, Ok, Err}
+use Rattle.nf_value.specs.Plain.{Plain}
+use Rattle.nf_value.specs.declared.place.Place.{Place}
+use Rattle.nf_value.specs.declared.fault.EvalFault.{EvalFault}
+use Rattle.nf_value.specs.declared.fault.EvalKind.{EvalKind}
+use Rattle.nf_builtins.specs.Outcome.{Outcome, limited}
+
+abbrev pub Placed : Type 0 → Type 0
+Placed A = Result A EvalFault
+
+-- what comes after the first part, unless that has a fault
+infixl 10 ◌>>=◌
+abbrev pub ◌>>=◌ : {A B : Type 0} → Placed A → (A → Placed B) → Placed B
+(Ok x) >>= f = f x
+(Err e) >>= f = Err e
+
+abbrev pub fault : {A : Type 0} → EvalKind → Place → Placed A
+fault k p = Err (record { kind = k; place = p })
+
+-- a fault gets its place
+abbrev pub at_place : {A : Type 0} → Place → Result A EvalKind → Placed A
+at_place p (Ok x) = Ok x
+at_place p (Err k) = fault k p
+
+-- a value that is made at a place, unless it passes a limit
+abbrev pub made : Place → Outcome → Placed Plain
+made p (Ok v) = at_place p (limited v)
+made p (Err k) = fault k p
