@@ -1,2 +1,4 @@
 pub mod Operands
 pub mod Worked
+pub mod Names
+pub mod Placing

@@ -1,7 +1,7 @@
 -- Worked expressions: what the definition gives for each.
-use Rattle.std.proofs.Common.{◌≡◌, ℕ, ℤ, pos, negsuc, Bool, true, false, List, [], ◌∷◌, Option, Some, None, Ok, Err, refl, codes}
+use Rattle.std.proofs.Common.{◌≡◌, ℕ, pos, negsuc, true, false, [], ◌∷◌, Some, Ok, refl, codes}
 use Rattle.std.specs.Fmt.{digits}
-use Rattle.nf_value.specs.Plain.{Plain, null, truth, int, text, list, table, plains_of}
+use Rattle.nf_value.specs.Plain.{null, truth, int, text, list, plains_of}
 use Rattle.nf_value.specs.declared.place.Place.{Place}
 use Rattle.nf_value.specs.declared.fault.EvalKind.TheVariants.{WrongKind, DivZero, Arity, NoMethod, NoProperty}
 use Rattle.nf_lexer.specs.declared.token.PlainKind.TheVariants as kind
@@ -10,9 +10,9 @@ use Rattle.nf_ast.specs.declared.marks.InfixMark.TheVariants as mark
 use Rattle.nf_ast.specs.declared.marks.PrefixMark.TheVariants as before
 use Rattle.nf_ast.specs.Tree as tree
 use Rattle.nf_ast.specs.Tree.{Tree, empty, cons}
-use Rattle.nf_eval.specs.Placed.{Placed, fault}
+use Rattle.nf_eval.specs.Placed.{fault}
 use Rattle.nf_eval.specs.Scope.{Env}
-use Rattle.nf_eval.specs.Evaluation.{Closing, eval_of, apply_of, body_of, branch_of, labels_of}
+use Rattle.nf_eval.specs.Evaluation.{Closing, eval_of, apply_of, branch_of, labels_of}
 
 abbrev at : ℕ → Place
 at k = record { line = 1; col = k }

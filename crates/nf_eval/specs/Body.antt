@@ -1,13 +1,13 @@
 -- What parameters, patterns and statements do to names.
 use Rattle.std.specs.Prelude.{ℕ, ◌==◌, nat_lt, ◌&&◌, List, [], ◌∷◌, length, codes, if◌then◌else◌, Option, Some, None, Ok}
-use Rattle.nf_value.specs.Plain.{Plain, null, truth, int, text, file, list, table}
+use Rattle.nf_value.specs.Plain.{Plain, list}
 use Rattle.nf_value.specs.declared.place.Place.{Place}
 use Rattle.nf_value.specs.declared.fault.EvalKind.TheVariants.{Arity}
 use Rattle.nf_builtins.specs.Args.{items_of}
 use Rattle.nf_ast.specs.Tree as tree
 use Rattle.nf_ast.specs.Tree.{Tree, empty, cons}
-use Rattle.nf_eval.specs.Placed.{Placed, ◌>>=◌, fault}
-use Rattle.nf_eval.specs.Scope.{Env, with_names, defined}
+use Rattle.nf_eval.specs.Placed.{Placed, fault}
+use Rattle.nf_eval.specs.Scope.{Env, defined}
 
 -- what comes after a statement: the names and its value, or a value that was returned
 pub data Flow : Type 0 where

@@ -1,7 +1,7 @@
 -- What an expression gives in an environment: a value, or one fault with its place, from left to right.
 use Rattle.std.specs.Prelude.{ℕ, pos, ◌+◌, Bool, true, false, List, [], ◌∷◌, ◌++◌, length, codes, if◌then◌else◌, Option, Some, None, Ok}
 use Rattle.std.specs.Str.{bytes_eq}
-use Rattle.nf_value.specs.Plain.{Plain, null, truth, int, text, file, list, table}
+use Rattle.nf_value.specs.Plain.{Plain, null, truth, int, text}
 use Rattle.nf_value.specs.Truth.{truth_of}
 use Rattle.nf_value.specs.declared.place.Place.{Place}
 use Rattle.nf_value.specs.declared.fault.EvalKind.TheVariants.{WrongKind}
@@ -17,7 +17,7 @@ use Rattle.nf_marks.specs.Read.{index}
 use Rattle.nf_marks.specs.Template.{hole_text}
 use Rattle.nf_eval.specs.Placed.{Placed, ◌>>=◌, fault, made}
 use Rattle.nf_eval.specs.Marked.{infix_of, prefix_of}
-use Rattle.nf_eval.specs.Scope.{Env, Function, with_names, value_of, defined, rebound, left_by}
+use Rattle.nf_eval.specs.Scope.{Env, Function, value_of, defined, rebound, left_by}
 use Rattle.nf_eval.specs.Calls.{Argument, plain, block, Callee, nothing, method, function, math, called}
 use Rattle.nf_eval.specs.Body.{Flow, going, returned, value_of_body, name_in, key_text, pattern_in, names_in, bound, paired, with_all, all_defined}
 
@@ -85,7 +85,7 @@ callable value callee = record (expression value) {
 }
 
 abbrev pub statement : (Env → Placed Flow) → Meaning
-statement done = record nothing_there { done = done; }
+statement done = record nothing_there { done = done }
 
 -- ---- marks
 
@@ -167,14 +167,14 @@ meaning_of (tree.number p i) = expression (λ env. Ok (int i))
 meaning_of (tree.text p k s) = expression (λ env. Ok (text s))
 meaning_of (tree.pattern p s) = expression (λ env. fault WrongKind p)
 meaning_of (tree.template p k xs) = expression (λ env. (meaning_of xs).text env >>= λ t. made p (Ok (text t)))
-meaning_of (tree.piece p s) = record nothing_there { written = λ env. Ok s; }
-meaning_of (tree.hole p e) = record nothing_there { written = λ env. (meaning_of e).value env >>= λ v. Ok (hole_text env.in_process v); }
+meaning_of (tree.piece p s) = record nothing_there { written = λ env. Ok s }
+meaning_of (tree.hole p e) = record nothing_there { written = λ env. (meaning_of e).value env >>= λ v. Ok (hole_text env.in_process v) }
 meaning_of (tree.truth p b) = expression (λ env. Ok (truth b))
 meaning_of (tree.null p) = expression (λ env. Ok null)
 meaning_of (tree.name p n) = callable (λ env. Ok (value_of n env)) (λ env. Ok (function p n))
 meaning_of (tree.list p xs) = expression (λ env. (meaning_of xs).items env >>= λ vs. made p (new_list vs))
 meaning_of (tree.map p xs) = expression (λ env. (meaning_of xs).entries env >>= λ ps. made p (new_map ps))
-meaning_of (tree.pair k e) = record nothing_there { entry = λ env. (meaning_of e).value env >>= λ v. Ok (key_text k, v); }
+meaning_of (tree.pair k e) = record nothing_there { entry = λ env. (meaning_of e).value env >>= λ v. Ok (key_text k, v) }
 meaning_of (tree.closure p ps b) = record (expression (λ env. fault WrongKind p)) {
   argument = λ env. Ok (block (closure p ps (meaning_of b).body env));
 }
@@ -189,7 +189,7 @@ meaning_of (tree.index p e i) = expression (λ env. (meaning_of e).value env >>=
 meaning_of (tree.call p f xs) = record (expression (λ env. (meaning_of f).applied p (meaning_of xs).arguments env)) {
   closed = λ q more env. (meaning_of f).applied p (λ inner. (meaning_of xs).arguments inner >>= λ first. more inner >>= λ second. Ok (first ++ second)) env;
 }
-meaning_of (tree.named n e) = record (expression (meaning_of e).value) { argument = λ env. fault WrongKind (place_of n); }
+meaning_of (tree.named n e) = record (expression (meaning_of e).value) { argument = λ env. fault WrongKind (place_of n) }
 meaning_of (tree.call_with f c) = expression (λ env. (meaning_of f).closed (opening c) (λ inner. (meaning_of c).argument inner >>= λ x. Ok (x ∷ [])) env)
 meaning_of (tree.define p n e) = statement (λ env. (meaning_of e).value env >>= λ v. Ok (going (defined (name_in n) v env) null))
 meaning_of (tree.define_all p ns e) = statement (λ env. (meaning_of e).value env >>= λ v. all_defined p (names_in ns) v env >>= λ after. Ok (going after null))

@@ -1,5 +1,5 @@
 -- What marks give on values.
-use Rattle.std.specs.Prelude.{ℕ, List, not, Ok, Err}
+use Rattle.std.specs.Prelude.{not, Ok, Err}
 use Rattle.nf_value.specs.Plain.{Plain, truth}
 use Rattle.nf_value.specs.Truth.{truth_of}
 use Rattle.nf_value.specs.declared.fault.EvalKind.TheVariants.{WrongKind}

@@ -1,0 +1,87 @@
+//! Names and their values.
+
+ghost use Rattle.std.specs.Prelude.{◌≡◌, ◌∷◌, ◌-◌, [], MatchOption, OnOk, drop, length};
+ghost use Rattle.nf_value.specs.Plain.{null};
+ghost use Rattle.nf_value.specs.View.{plain_of};
+ghost use Rattle.nf_eval.specs.Scope.{value_in, rebound_in};
+ghost use Rattle.nf_eval.specs.Latest.{HasNone, IsLatest};
+
+use nf_value::{Mem, Txt, Value};
+use std::alloc::Global;
+
+/// The names of a body and of those around it, with their values (own). Contracts speak of
+/// `names_of`, the list of its names with their values, the latest first.
+#[derive(Drop)]
+pub struct Scope {
+    names: Vec<(Txt, Value)>,
+}
+
+impl Scope {
+    ghost use Rattle.nf_eval.specs.Latest.{names_of};
+
+    /// No names. Takes no memory.
+    pub fn new(alloc: Global) -> Scope
+        ensures { names_of result ≡ [] }
+    {
+        Scope {
+            names: Vec::new(alloc),
+        }
+    }
+
+    /// How many names there are. Takes no memory.
+    pub fn len(&self) -> usize
+        ensures { result ≡ length (names_of self.now) }
+    {
+        self.names.len()
+    }
+
+    /// The value of a name: of several of that name, the latest. Takes no memory, and time by the number of names.
+    pub fn value(&self, name: &str) -> Option<&Value>
+        ensures { MatchOption result (value_in name.now (names_of self.now) ≡ null) (λ v. value_in name.now (names_of self.now) ≡ plain_of v.now) }
+    {
+        let place = place_of(&self.names, name)?;
+        Some(&self.names[place].1)
+    }
+
+    /// Adds a name.
+    ///
+    /// # Errors
+    ///
+    /// `Mem` where there is no memory for it.
+    pub fn define(&mut self, name: Txt, value: Value) -> Result<(), Mem>
+        ensures { OnOk result (names_of self.new ≡ (name, plain_of value) ∷ names_of self.old) }
+    {
+        self.names.push((name, value))?;
+        Ok(())
+    }
+
+    /// Gives a name another value: of several of that name, the latest. A name that isn't there stays so. Takes no memory.
+    pub fn rebind(&mut self, name: &str, value: Value)
+        ensures { names_of self.new ≡ rebound_in name.now (plain_of value) (names_of self.old) }
+    {
+        if let Some(place) = place_of(&self.names, name) {
+            self.names[place].1 = value;
+        }
+    }
+
+    /// Takes away all names that were added after there were so many. Takes no memory.
+    pub fn leave(&mut self, count: usize)
+        ensures { names_of self.new ≡ drop (length (names_of self.old) - count) (names_of self.old) }
+    {
+        self.names.truncate(count);
+    }
+}
+
+/// The place of the latest name that is this one.
+fn place_of(names: &[(Txt, Value)], name: &str) -> Option<usize>
+    ensures { MatchOption result (HasNone name.now names.now) (IsLatest name.now names.now) }
+{
+    let mut end = names.len();
+    while end > 0 {
+        end -= 1;
+        if names[end].0.as_str() == name {
+            return Some(end);
+        }
+    }
+    None
+}
