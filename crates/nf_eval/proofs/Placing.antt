@@ -5,9 +5,9 @@ use Rattle.nf_value.specs.declared.place.Place.{Place}
 use Rattle.nf_value.specs.declared.value.Value.{Value}
 use Rattle.nf_value.specs.declared.value.Value.TheVariants as v
 use Rattle.nf_value.specs.declared.fault.EvalRefusal.{EvalRefusal}
-use Rattle.nf_builtins.specs.declared.fault.CallFault.{CallFault}
-use Rattle.nf_builtins.specs.declared.fault.CallFault.TheVariants as call
-use Rattle.nf_builtins.specs.Outcome.{Outcome, Gives, limited, ◌>>=◌}
+use Rattle.nf_texts.specs.declared.fault.CallFault.{CallFault}
+use Rattle.nf_texts.specs.declared.fault.CallFault.TheVariants as call
+use Rattle.nf_texts.specs.Outcome.{Outcome, Gives, limited, ◌>>=◌}
 use Rattle.nf_eval.specs.Placed.{Evaluates, made, at_place, placed_of}
 
 made_is : (p : Place) (o : Outcome) → made p o ≡ at_place p (o >>= limited)

@@ -3,7 +3,7 @@ use Rattle.std.specs.Prelude.{ℕ, ◌==◌, nat_lt, ◌&&◌, List, [], ◌∷�
 use Rattle.nf_value.specs.Plain.{Plain, list}
 use Rattle.nf_value.specs.declared.place.Place.{Place}
 use Rattle.nf_value.specs.declared.fault.EvalKind.TheVariants.{Arity}
-use Rattle.nf_builtins.specs.Args.{items_of}
+use Rattle.nf_texts.specs.Args.{items_of}
 use Rattle.nf_ast.specs.Tree as tree
 use Rattle.nf_ast.specs.Tree.{Tree, empty, cons}
 use Rattle.nf_eval.specs.Placed.{Placed, fault}

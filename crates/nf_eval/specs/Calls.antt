@@ -10,7 +10,7 @@ use Rattle.nf_builtins.specs.declared.method.Method.TheVariants as m
 use Rattle.nf_builtins.specs.declared.rows.Builtin.{Builtin}
 use Rattle.nf_builtins.specs.declared.rows.Form.{Form}
 use Rattle.nf_builtins.specs.declared.rows.Form.TheVariants as form
-use Rattle.nf_builtins.specs.Args.{items_of}
+use Rattle.nf_texts.specs.Args.{items_of}
 use Rattle.nf_builtins.specs.Call.{builtin_rows, answer_of}
 use Rattle.nf_builtins.specs.Lists.{list_of}
 use Rattle.nf_builtins.specs.Method.{method_name}

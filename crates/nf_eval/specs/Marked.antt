@@ -3,7 +3,7 @@ use Rattle.std.specs.Prelude.{not, Ok, Err}
 use Rattle.nf_value.specs.Plain.{Plain, truth}
 use Rattle.nf_value.specs.Truth.{truth_of}
 use Rattle.nf_value.specs.declared.fault.EvalKind.TheVariants.{WrongKind}
-use Rattle.nf_builtins.specs.Outcome.{Outcome}
+use Rattle.nf_texts.specs.Outcome.{Outcome}
 use Rattle.nf_ast.specs.declared.marks.InfixMark.{InfixMark}
 use Rattle.nf_ast.specs.declared.marks.InfixMark.TheVariants as mark
 use Rattle.nf_ast.specs.declared.marks.PrefixMark.{PrefixMark}

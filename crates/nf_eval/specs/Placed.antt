@@ -8,9 +8,9 @@ use Rattle.nf_value.specs.declared.fault.EvalRefusal.TheVariants as refusal
 use Rattle.nf_value.specs.declared.place.Place.{Place}
 use Rattle.nf_value.specs.declared.fault.EvalFault.{EvalFault}
 use Rattle.nf_value.specs.declared.fault.EvalKind.{EvalKind}
-use Rattle.nf_builtins.specs.declared.fault.CallFault.{CallFault}
-use Rattle.nf_builtins.specs.declared.fault.CallFault.TheVariants as call
-use Rattle.nf_builtins.specs.Outcome.{Outcome, limited}
+use Rattle.nf_texts.specs.declared.fault.CallFault.{CallFault}
+use Rattle.nf_texts.specs.declared.fault.CallFault.TheVariants as call
+use Rattle.nf_texts.specs.Outcome.{Outcome, limited}
 
 abbrev pub Placed : Type 0 → Type 0
 Placed A = Result A EvalFault

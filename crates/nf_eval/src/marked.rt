@@ -1,7 +1,7 @@
 //! Marks at their places.
 
 ghost use Rattle.nf_value.specs.View.{plain_of};
-ghost use Rattle.nf_builtins.specs.Outcome.{Gives};
+ghost use Rattle.nf_texts.specs.Outcome.{Gives};
 ghost use Rattle.nf_eval.specs.Placed.{Evaluates, made};
 ghost use Rattle.nf_eval.specs.Marked.{infix_of, prefix_of};
 

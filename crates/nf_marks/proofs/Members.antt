@@ -4,11 +4,11 @@ use Rattle.std.specs.List.{list_any}
 use Rattle.nf_value.specs.Plain.{Plain, truth, table, plains_of, plain_pairs_of}
 use Rattle.nf_value.specs.View.{pair_of}
 use Rattle.nf_value.specs.declared.value.Value.{Value}
-use Rattle.nf_builtins.specs.declared.fault.CallFault.{CallFault}
+use Rattle.nf_texts.specs.declared.fault.CallFault.{CallFault}
 use Rattle.nf_value.specs.declared.mem.Mem.{Mem}
-use Rattle.nf_builtins.specs.Args.{items_of}
+use Rattle.nf_texts.specs.Args.{items_of}
 use Rattle.nf_builtins.specs.Lists.{list_of}
-use Rattle.nf_builtins.specs.Outcome.{Outcome, Gives}
+use Rattle.nf_texts.specs.Outcome.{Outcome, Gives}
 use Rattle.nf_marks.specs.Pairs.{pairs_in}
 
 pub items_of-plains_of : (vs : List Plain) → items_of (plains_of vs) ≡ vs

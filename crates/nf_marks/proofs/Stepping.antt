@@ -10,7 +10,7 @@ use Rattle.nf_value.specs.View.{plain_of}
 use Rattle.nf_value.specs.declared.value.Value.{Value}
 use Rattle.nf_value.specs.declared.value.Value.TheVariants as v
 use Rattle.nf_value.specs.declared.fault.EvalKind.TheVariants.{TooLarge}
-use Rattle.nf_builtins.specs.Outcome.{limited}
+use Rattle.nf_texts.specs.Outcome.{limited}
 use Rattle.nf_builtins.specs.Lists.{list_of}
 use Rattle.nf_marks.specs.Range.{step_to, steps_from, further, numbers_to}
 

@@ -7,8 +7,8 @@ use Rattle.std.specs.List.{list_any}
 use Rattle.nf_value.specs.Plain.{Plain, null, truth, int, text, file, list, table, PlainPairs}
 use Rattle.nf_value.specs.declared.fault.EvalKind.{EvalKind}
 use Rattle.nf_value.specs.declared.fault.EvalKind.TheVariants.{WrongKind}
-use Rattle.nf_builtins.specs.Outcome.{Outcome, ◌>>=◌}
-use Rattle.nf_builtins.specs.Args.{int_or, text_or, items_of}
+use Rattle.nf_texts.specs.Outcome.{Outcome, ◌>>=◌}
+use Rattle.nf_texts.specs.Args.{int_or, text_or, items_of}
 use Rattle.nf_builtins.specs.Lists.{is_same}
 use Rattle.nf_builtins.specs.Maps.{has_key}
 use Rattle.nf_pattern.specs.Whole.{found_in}

@@ -1,8 +1,8 @@
 -- Why a call has no value.
 use Rattle.std.specs.Prelude.{◌≡◌, Err}
-use Rattle.nf_builtins.specs.Outcome.{Outcome}
-use Rattle.nf_builtins.specs.declared.fault.CallFault.{CallFault}
-use Rattle.nf_builtins.specs.declared.fault.CallFault.TheVariants as fault
+use Rattle.nf_texts.specs.Outcome.{Outcome}
+use Rattle.nf_texts.specs.declared.fault.CallFault.{CallFault}
+use Rattle.nf_texts.specs.declared.fault.CallFault.TheVariants as fault
 
 -- the call has this fault; want of memory is free
 abbrev pub IsFaultOf : Outcome → CallFault → Type 0

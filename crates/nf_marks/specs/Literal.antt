@@ -1,7 +1,7 @@
 -- Lists and maps that are written out.
 use Rattle.std.specs.Prelude.{ℕ, List, [], Ok}
 use Rattle.nf_value.specs.Plain.{Plain, table, plain_pairs_of}
-use Rattle.nf_builtins.specs.Outcome.{Outcome}
+use Rattle.nf_texts.specs.Outcome.{Outcome}
 use Rattle.nf_builtins.specs.Lists.{list_of}
 use Rattle.nf_marks.specs.Pairs.{put_all}
 

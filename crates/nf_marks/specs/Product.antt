@@ -2,8 +2,8 @@
 use Rattle.std.specs.Prelude.{ℤ, pos, neg_ℤ, ◌*ℤ◌, int_le, int_rem, ◌&&◌, if◌then◌else◌, Ok, Err}
 use Rattle.nf_value.specs.Plain.{Plain, int}
 use Rattle.nf_value.specs.declared.fault.EvalKind.TheVariants.{WrongKind, DivZero}
-use Rattle.nf_builtins.specs.Outcome.{Outcome, ◌>>=◌}
-use Rattle.nf_builtins.specs.Args.{int_or}
+use Rattle.nf_texts.specs.Outcome.{Outcome, ◌>>=◌}
+use Rattle.nf_texts.specs.Args.{int_or}
 use Rattle.nf_builtins.specs.Numbers.{number}
 
 -- `a * b`

@@ -3,7 +3,7 @@ use Rattle.std.specs.Prelude.{ℕ, List, [], codes, if◌then◌else◌, Ok, Err
 use Rattle.std.specs.Str.{bytes_eq}
 use Rattle.nf_value.specs.Plain.{Plain, null, truth, int, text, file, list, table}
 use Rattle.nf_value.specs.declared.fault.EvalKind.TheVariants.{NoProperty}
-use Rattle.nf_builtins.specs.Outcome.{Outcome}
+use Rattle.nf_texts.specs.Outcome.{Outcome}
 use Rattle.nf_builtins.specs.Files.{file_name, file_base_name, file_extension, file_simple_name}
 use Rattle.nf_marks.specs.Read.{value_at}
 

@@ -3,8 +3,8 @@ use Rattle.std.specs.Prelude.{ℕ, zero, suc, ℤ, pos, negsuc, nat_eq, List, re
 use Rattle.std.specs.Cmp.Lexicographic.{pointwise}
 use Rattle.nf_value.specs.Plain.{Plain, null, truth, int, text, file, list, table, PlainPairs, no_pairs, pair}
 use Rattle.nf_value.specs.declared.fault.EvalKind.TheVariants.{WrongKind}
-use Rattle.nf_builtins.specs.Outcome.{Outcome, ◌>>=◌}
-use Rattle.nf_builtins.specs.Args.{int_or, text_or, items_of}
+use Rattle.nf_texts.specs.Outcome.{Outcome, ◌>>=◌}
+use Rattle.nf_texts.specs.Args.{int_or, text_or, items_of}
 
 abbrev pub or_null : Option Plain → Plain
 or_null (Some v) = v

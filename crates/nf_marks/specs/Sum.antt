@@ -4,8 +4,8 @@ use Rattle.std.specs.List.{list_any}
 use Rattle.nf_value.specs.Plain.{Plain, null, truth, int, text, file, list, table, PlainPairs, plain_pairs_of}
 use Rattle.nf_value.specs.Text.{value_text}
 use Rattle.nf_value.specs.declared.fault.EvalKind.TheVariants.{WrongKind}
-use Rattle.nf_builtins.specs.Outcome.{Outcome, ◌>>=◌}
-use Rattle.nf_builtins.specs.Args.{int_or, list_or, table_or, items_of}
+use Rattle.nf_texts.specs.Outcome.{Outcome, ◌>>=◌}
+use Rattle.nf_texts.specs.Args.{int_or, list_or, table_or, items_of}
 use Rattle.nf_builtins.specs.Lists.{list_of, is_same}
 use Rattle.nf_builtins.specs.Numbers.{number}
 use Rattle.nf_marks.specs.Pairs.{put_all, pairs_in}

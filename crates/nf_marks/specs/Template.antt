@@ -3,7 +3,7 @@ use Rattle.std.specs.Prelude.{◌≡◌, ℕ, ◌≤◌, ◌^◌, min, Bool, tru
 use Rattle.std.specs.List.{list_all}
 use Rattle.nf_value.specs.Plain.{Plain, null, truth, int, text, file, list, table}
 use Rattle.nf_value.specs.Text.{value_text}
-use Rattle.nf_builtins.specs.Args.{items_of}
+use Rattle.nf_texts.specs.Args.{items_of}
 use Rattle.nf_marks.specs.declared.templates.Written.{Written}
 
 abbrev pub is_file : Plain → Bool

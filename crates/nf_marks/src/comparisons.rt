@@ -3,7 +3,7 @@
 ghost use Rattle.std.specs.Prelude.{◌≡◌, map};
 ghost use Rattle.nf_value.specs.Plain.{plain_pairs_of};
 ghost use Rattle.nf_value.specs.View.{plain_of};
-ghost use Rattle.nf_builtins.specs.Outcome.{Gives};
+ghost use Rattle.nf_texts.specs.Outcome.{Gives};
 ghost use Rattle.nf_builtins.specs.Maps.{has_key as has_key_of};
 ghost use Rattle.nf_marks.specs.Compare.{compared, compared_int, compared_text, less as less_of, at_most as at_most_of, greater as greater_of, at_least as at_least_of, same as same_of, differs as differs_of, matches as matches_of, is_in as is_in_of, in_items, in_keys};
 

@@ -3,7 +3,7 @@
 ghost use Rattle.std.specs.Prelude.{◌≡◌, Ok, Err, MatchResult};
 ghost use Rattle.nf_value.specs.View.{plain_of};
 ghost use Rattle.nf_value.specs.declared.fault.EvalKind.TheVariants.{WrongKind};
-ghost use Rattle.nf_builtins.specs.Args.{int_or, text_or};
+ghost use Rattle.nf_texts.specs.Args.{int_or, text_or};
 
 use nf_value::{EvalKind, Txt, Value};
 

@@ -2,7 +2,7 @@
 
 ghost use Rattle.std.specs.Prelude.{◌≡◌, Ok, Err, MatchResult};
 ghost use Rattle.nf_value.specs.View.{plain_of};
-ghost use Rattle.nf_builtins.specs.Outcome.{Gives, limited};
+ghost use Rattle.nf_texts.specs.Outcome.{Gives, limited};
 
 use nf_builtins::CallFault;
 use nf_value::{EvalKind, Value, depth, weight};

@@ -2,7 +2,7 @@
 
 ghost use Rattle.std.specs.Prelude.{◌≡◌, [], IfOk, map};
 ghost use Rattle.nf_value.specs.View.{plain_of, pair_of};
-ghost use Rattle.nf_builtins.specs.Outcome.{Gives};
+ghost use Rattle.nf_texts.specs.Outcome.{Gives};
 ghost use Rattle.nf_marks.specs.Literal.{new_list as new_list_of, new_map as new_map_of};
 ghost use Rattle.nf_marks.specs.Pairs.{put_all};
 

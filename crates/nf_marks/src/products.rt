@@ -2,7 +2,7 @@
 
 ghost use Rattle.std.specs.Prelude.{◌≡◌};
 ghost use Rattle.nf_value.specs.View.{plain_of};
-ghost use Rattle.nf_builtins.specs.Outcome.{Gives};
+ghost use Rattle.nf_texts.specs.Outcome.{Gives};
 ghost use Rattle.nf_marks.specs.Product.{times as times_of, remainder as remainder_of, negative as negative_of, rest as rest_of};
 
 use crate::kinds::int_in;

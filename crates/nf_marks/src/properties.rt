@@ -3,7 +3,7 @@
 ghost use Rattle.std.specs.Prelude.{◌≡◌, ◌<◌, true, false, IfSome, slice_get};
 ghost use Rattle.nf_value.specs.Plain.{file as file_plain};
 ghost use Rattle.nf_value.specs.View.{plain_of};
-ghost use Rattle.nf_builtins.specs.Outcome.{Gives};
+ghost use Rattle.nf_texts.specs.Outcome.{Gives};
 ghost use Rattle.nf_builtins.specs.Rows.{is_closure};
 ghost use Rattle.nf_builtins.specs.Call.{builtin_rows, answer_of};
 ghost use Rattle.nf_marks.specs.Property.{property as property_of, file_property};

@@ -3,7 +3,7 @@
 ghost use Rattle.std.specs.Prelude.{◌≡◌, ◌≢◌, ◌+ℤ◌, MatchResult, map};
 ghost use Rattle.nf_value.specs.Plain.{int};
 ghost use Rattle.nf_value.specs.View.{plain_of};
-ghost use Rattle.nf_builtins.specs.Outcome.{Gives, limited};
+ghost use Rattle.nf_texts.specs.Outcome.{Gives, limited};
 ghost use Rattle.nf_builtins.specs.Lists.{list_of};
 ghost use Rattle.nf_marks.specs.Fault.{IsFaultOf};
 ghost use Rattle.nf_marks.specs.Range.{range as range_of, int_range, numbers_to, step_to};

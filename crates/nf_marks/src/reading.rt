@@ -3,7 +3,7 @@
 ghost use Rattle.std.specs.Prelude.{◌≡◌, map, MatchOption};
 ghost use Rattle.nf_value.specs.Plain.{null, plain_pairs_of};
 ghost use Rattle.nf_value.specs.View.{plain_of};
-ghost use Rattle.nf_builtins.specs.Outcome.{Gives};
+ghost use Rattle.nf_texts.specs.Outcome.{Gives};
 ghost use Rattle.nf_marks.specs.Read.{index as index_of, list_index, map_index, item_at as item_at_of, value_at as value_at_of};
 
 use crate::kinds::{int_in, text_in};

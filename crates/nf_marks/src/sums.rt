@@ -4,7 +4,7 @@ ghost use Rattle.std.specs.Prelude.{◌≡◌, ◌++◌, ◌∷◌, [], IfOk, fi
 ghost use Rattle.nf_value.specs.Plain.{plain_pairs_of};
 ghost use Rattle.nf_value.specs.View.{plain_of};
 ghost use Rattle.nf_value.specs.Text.{value_text};
-ghost use Rattle.nf_builtins.specs.Outcome.{Gives};
+ghost use Rattle.nf_texts.specs.Outcome.{Gives};
 ghost use Rattle.nf_marks.specs.Sum.{plus as plus_of, minus as minus_of, int_plus, text_plus, list_plus, map_plus, int_minus, list_minus, added_items, is_missing};
 
 use crate::comparisons::has_in;

@@ -5,7 +5,7 @@ ghost use Rattle.std.specs.List.{list_all};
 ghost use Rattle.nf_value.specs.Plain.{text as text_plain};
 ghost use Rattle.nf_value.specs.View.{plain_of};
 ghost use Rattle.nf_value.specs.Text.{value_text};
-ghost use Rattle.nf_builtins.specs.Outcome.{Gives};
+ghost use Rattle.nf_texts.specs.Outcome.{Gives};
 ghost use Rattle.nf_marks.specs.Template.{hole_text, with_blanks, are_files as are_files_of, is_file as is_file_of, listed as listed_of};
 
 use crate::limits::{MOST_WEIGHT, judged};

@@ -1,7 +1,7 @@
 use Rattle.std.proofs.Common.{◌≡◌, ◌≢◌, map, arith, rules, refl, w64, to_z, of_z, ap, sym, ◌∙◌}
 use Rattle.nf_value.specs.Plain.{int}
 use Rattle.nf_builtins.specs.Lists.{list_of}
-use Rattle.nf_builtins.specs.Outcome.{limited}
+use Rattle.nf_texts.specs.Outcome.{limited}
 use Rattle.nf_marks.specs.Range.{further, numbers_to}
 use Rattle.nf_marks.proofs.Stepping.{falls, started, heavier, last_made, made_more, too_many}
 use Rattle.nf_marks.proofs.ranges.numbers.Goals as goal
