@@ -1,0 +1,9 @@
+pub mod Fronts
+pub mod Cuts
+pub mod Written
+pub mod Strings
+pub mod Codes
+pub mod Marks
+pub mod Plain
+pub mod Patterns
+pub mod Templates

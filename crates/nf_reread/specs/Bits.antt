@@ -1,0 +1,21 @@
+-- The tokens and line ends that items come to.
+use Rattle.std.specs.Prelude.{◌≡◌, List, ◌++◌, map}
+use Rattle.nf_lexer.specs.declared.token.Token.{Token}
+use Rattle.nf_lexer.specs.Joined.{Placed, nothing, joined}
+use Rattle.nf_lexer.specs.Separators as s
+use Rattle.nf_lexer.specs.Separators.{Piece}
+
+-- a piece without its place
+pub data Bit : Type 0 where
+  token : Token → Bit
+  ending : Bit
+
+abbrev pub bit_of : Piece → Bit
+bit_of (s.lexed x) = token x.token
+bit_of (s.line_end_at place) = ending
+
+-- the items come to these, whatever follows
+pub record Gives (v : List Placed) (bits : List Bit) : Type 0 where
+  pub pieces : List Piece
+  pub joins : (tail : List Placed) → joined nothing (v ++ tail) ≡ pieces ++ joined nothing tail
+  pub are : map bit_of pieces ≡ bits

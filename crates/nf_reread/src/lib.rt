@@ -1,0 +1,2 @@
+//! What the canonical text of a script is read as.
+#![tactic(auto)]
