@@ -22,15 +22,16 @@ use Rattle.nf_lexer.specs.declared.open.Change.TheVariants.{Keep}
 use Rattle.nf_lexer.specs.Bytes.{is_blank, begins_name, is_in_name}
 use Rattle.nf_lexer.specs.Front.{Item, lexed, passes}
 use Rattle.nf_lexer.specs.Joined.{at}
-use Rattle.nf_lexer.specs.Open.{innermost, outermost, line_fault, changed}
+use Rattle.nf_lexer.specs.Open.{innermost, changed}
 use Rattle.nf_lexer.specs.Place.{place_of}
 use Rattle.nf_lexer.specs.Spellings.{keywords}
 use Rattle.nf_lexer.specs.Word.{keyword_in, keyword_or_name, word_token, limit, number}
 use Rattle.nf_lexer.specs.First.{in_code, in_open, broken_or, fault_at, first}
 use Rattle.nf_printer.specs.Ink.{keyword_text}
 use Rattle.nf_reread.specs.Leads.{Leads, stays, goes}
-use Rattle.nf_reread.proofs.Cuts.{run_before, both}
-use Rattle.nf_reread.proofs.Written.{if_true, if_false}
+use Rattle.nf_reread.proofs.Strings.{no_fault}
+use Rattle.nf_reread.proofs.Tests.{if_true, if_false, both, not_not, is_nothing}
+use Rattle.nf_reread.proofs.Cuts.{run_before}
 
 -- ---- between strings and comments
 
@@ -60,9 +61,6 @@ pub first_in_code : (o : List Open) (place : Place) (b : ℕ) (bs : List ℕ) �
 unfolding first
 first_in_code o place b bs h f = ap (λ z. broken_or z (in_open (innermost o) o place b bs)) f ∙ in_code_of (innermost o) o place b bs h
 
-pub no_fault : (b : ℕ) (o : List Open) → (b == 10) ≡ false → fault_at b o ≡ None
-no_fault b o h = ap (λ t. cond t (outermost line_fault o) None) h
-
 -- one item of so many bytes
 pub item_leads : (text bs rest : List ℕ) (o : List Open) (item : Item) (change : Change) (n : ℕ) → first o (place_of text (length bs)) bs ≡ passes item change n → drop n bs ≡ rest → Leads text o bs (at item (place_of text (length bs)) ∷ []) (changed change o) rest
 item_leads text bs rest o item change n e d = goes e (subst (λ z. Leads text (changed change o) z [] (changed change o) rest) (sym d) stays)
@@ -73,10 +71,6 @@ item_leads text bs rest o item change n e d = goes e (subst (λ z. Leads text (c
 abbrev pub fails_first : (ℕ → Bool) → List ℕ → Bool
 fails_first p [] = true
 fails_first p (c ∷ bs) = not (p c)
-
-not_not : (t : Bool) → not t ≡ true → t ≡ false
-not_not true h = absurd cc
-not_not false h = refl
 
 run_alone : (p : ℕ → Bool) (w : List ℕ) → list_all p w ≡ true → take_while p w ≡ w
 run_alone p [] h = refl
@@ -148,13 +142,9 @@ keyword_token k.Null = refl
 keyword_token k.Return = refl
 keyword_token k.True = refl
 
-none_is : {A : Type 0} (x : Option A) → is_none x ≡ true → x ≡ None
-none_is None h = refl
-none_is (Some c) h = absurd cc
-
 pub name_token : (w : List ℕ) → is_none (keyword_in keywords w) ≡ true → word_token w ≡ t.Name w
 unfolding word_token
-name_token w h = ap (λ x. keyword_or_name x w) (none_is (keyword_in keywords w) h)
+name_token w h = ap (λ x. keyword_or_name x w) (is_nothing (keyword_in keywords w) h)
 
 -- ---- numbers
 

@@ -7,6 +7,7 @@ use Rattle.std.proofs.lemmas.List.{take_at, drop_at, length-append}
 use Rattle.std.proofs.Math.Seq.{get_or-append_seam}
 use Rattle.std.proofs.lemmas.List.Sums.{take_while-cons}
 use Rattle.std.proofs.lemmas.Str.{IsUtf8-take, IsUtf8-drop, IsCharBoundary-after_ascii}
+use Rattle.nf_reread.proofs.Tests.{both}
 
 -- runs of bytes that pass the test, with a byte that doesn't after each but the last
 pub data Cut (p : ℕ → Bool) : List ℕ → Type 0 where
@@ -27,10 +28,6 @@ by_first p b w false h c = more [] b w refl h c
 pub cut : (p : ℕ → Bool) (w : List ℕ) → Cut p w
 cut p [] = done [] refl
 cut p (b ∷ w) = by_first p b w (p b) refl (cut p w)
-
-pub both : (a b : Bool) → (a && b) ≡ true → (a ≡ true) × (b ≡ true)
-both true b h = (refl, h)
-both false b h = absurd cc
 
 -- a run before a byte that isn't of it
 pub run_before : (p : ℕ → Bool) (w : List ℕ) (c : ℕ) (rest : List ℕ) → list_all p w ≡ true → p c ≡ false → take_while p (w ++ c ∷ rest) ≡ w

@@ -1,6 +1,6 @@
 -- What each mark, blank and line end is read as.
 use Rattle.std.proofs.Common.{◌≡◌, ℕ, Bool, true, false, cond, List, [], ◌∷◌, ◌++◌, length, drop, Some, None, refl, sym, ap, ◌∙◌}
-use Rattle.std.specs.Prelude.{not, ◌==◌, ◌||◌}
+use Rattle.std.specs.Prelude.{◌==◌, ◌||◌}
 use Rattle.std.proofs.lemmas.List.{drop_at}
 use Rattle.nf_value.specs.declared.place.Place.{Place}
 use Rattle.nf_lexer.specs.declared.token.Mark.{Mark}
@@ -16,8 +16,10 @@ use Rattle.nf_lexer.specs.Mark.{past, mark_or, mark, mark_token, mark_change, ma
 use Rattle.nf_lexer.specs.First.{line_item, in_code}
 use Rattle.nf_printer.specs.Ink.{mark_text}
 use Rattle.nf_reread.specs.Leads.{Leads}
+use Rattle.nf_reread.proofs.Strings.{no_fault}
+use Rattle.nf_reread.proofs.Tests.{neither, not_not}
 use Rattle.nf_reread.proofs.Cuts.{drop_nothing}
-use Rattle.nf_reread.proofs.Codes.{is_code, fails_first, first_in_code, no_fault, item_leads}
+use Rattle.nf_reread.proofs.Codes.{is_code, fails_first, first_in_code, item_leads}
 
 -- the bytes with which a longer mark goes on
 abbrev pub goes_on : Mark → ℕ → Bool
@@ -31,14 +33,6 @@ goes_on m.Not b = b == 61
 goes_on m.Pipe b = b == 124
 goes_on m.Question b = b == 46 || b == 58
 goes_on _ b = false
-
-not_not : (t : Bool) → not t ≡ true → t ≡ false
-not_not true h = absurd cc
-not_not false h = refl
-
-neither : (a b : Bool) → (a || b) ≡ false → (a ≡ false) × (b ≡ false)
-neither true b h = absurd cc
-neither false b h = (refl, h)
 
 mark_read : (x : Mark) (rest : List ℕ) → fails_first (goes_on x) rest ≡ true → mark (mark_text x ++ rest) ≡ Some (x, length (mark_text x))
 unfolding mark

@@ -25,8 +25,9 @@ use Rattle.nf_lexer.specs.First.{opens, slash, in_code, ended, has_escapes, in_t
 use Rattle.nf_printer.specs.Ink.{letter, with_letter, byte_text, escaped, quoted}
 use Rattle.nf_reread.specs.Leads.{Leads}
 use Rattle.nf_reread.specs.Bits.{Bit, token, Gives}
+use Rattle.nf_reread.proofs.Tests.{if_true, if_false, neither, not_not}
 use Rattle.nf_reread.proofs.Fronts.{leads_on}
-use Rattle.nf_reread.proofs.Written.{if_true, if_false, quote_mark, more_marks, closing_is, none_mark}
+use Rattle.nf_reread.proofs.Written.{quote_mark, more_marks, closing_is, none_mark}
 use Rattle.nf_reread.proofs.Strings.{Writes, writes_none, writes_more, first_in_text, no_fault, Calm, ends_well, string_found}
 use Rattle.nf_reread.proofs.Codes.{is_code, fails_first, first_in_code, item_leads}
 
@@ -93,14 +94,6 @@ abbrev pub opens_well : PlainKind → List ℕ → Bool
 opens_well Single bs = differs 39 bs
 opens_well TripleSingle bs = true
 opens_well Slashes bs = no_comment bs
-
-not_not : (t : Bool) → not t ≡ true → t ≡ false
-not_not true h = absurd cc
-not_not false h = refl
-
-neither : (a b : Bool) → (a || b) ≡ false → (a ≡ false) × (b ≡ false)
-neither true b h = absurd cc
-neither false b h = (refl, h)
 
 abbrev second_of : List ℕ → ℕ
 second_of [] = 0

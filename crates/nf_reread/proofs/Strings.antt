@@ -26,7 +26,8 @@ use Rattle.nf_lexer.specs.Spellings.{closing}
 use Rattle.nf_lexer.specs.First.{has_escapes, in_text, broken_or, fault_at, first}
 use Rattle.nf_printer.specs.Ink.{letter, with_letter, byte_text, escaped}
 use Rattle.nf_reread.specs.Leads.{Leads, stays, goes}
-use Rattle.nf_reread.proofs.Cuts.{Cut, done, more, cut, run_before, utf8_before, utf8_from, utf8_after, drop_nothing, both}
+use Rattle.nf_reread.proofs.Tests.{both, is_nothing}
+use Rattle.nf_reread.proofs.Cuts.{Cut, done, more, cut, run_before, utf8_before, utf8_from, utf8_after, drop_nothing}
 use Rattle.nf_reread.proofs.Written.{quote_mark, more_marks, closing_is, no_mark_next, none_mark, run_read, letter_read, special_read}
 
 -- these items are bytes that are written, and all of them these
@@ -125,10 +126,6 @@ small_by k l b (Some c) e h = letter_small k l b c e
 small_by k l b None e h = special_small b (none_is k l b None e h refl)
 
 -- ---- what is printed for a run
-
-is_nothing : (x : Option ℕ) → is_none x ≡ true → x ≡ None
-is_nothing None h = refl
-is_nothing (Some c) h = absurd cc
 
 plain_escaped : (k : TextKind) (l : Bool) (run : List ℕ) → list_all (stands k l) run ≡ true → escaped k l run ≡ run
 plain_escaped k l [] h = refl

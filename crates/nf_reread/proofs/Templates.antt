@@ -20,8 +20,9 @@ use Rattle.nf_lexer.specs.Place.{place_of}
 use Rattle.nf_lexer.specs.Spellings.{closing}
 use Rattle.nf_lexer.specs.First.{opens, in_code, in_text}
 use Rattle.nf_reread.specs.Leads.{Leads}
+use Rattle.nf_reread.proofs.Tests.{if_true, if_false}
 use Rattle.nf_reread.proofs.Cuts.{drop_nothing}
-use Rattle.nf_reread.proofs.Written.{if_true, if_false, not_closing}
+use Rattle.nf_reread.proofs.Written.{not_closing}
 use Rattle.nf_reread.proofs.Strings.{Writes, writes_none, writes_more, first_in_text, no_fault}
 use Rattle.nf_reread.proofs.Codes.{is_code, fails_first, first_in_code, item_leads}
 use Rattle.nf_reread.proofs.Marks.{goes_on, mark_leads}

@@ -17,14 +17,7 @@ use Rattle.nf_lexer.specs.Spellings.{closing}
 use Rattle.nf_lexer.specs.Escape.{escaped, escape, written_or_bad, kept}
 use Rattle.nf_lexer.specs.First.{has_escapes, has_holes, in_text}
 use Rattle.nf_printer.specs.Ink.{blank_letter, line_letter, letter}
-
-pub if_true : {A : Type 0} (c : Bool) (x y : A) → c ≡ true → cond c x y ≡ x
-if_true true x y h = refl
-if_true false x y h = absurd cc
-
-pub if_false : {A : Type 0} (c : Bool) (x y : A) → c ≡ false → cond c x y ≡ y
-if_false true x y h = absurd cc
-if_false false x y h = refl
+use Rattle.nf_reread.proofs.Tests.{if_true, if_false, not_not}
 
 -- ---- quote marks
 
@@ -173,10 +166,6 @@ none_slash (Template TripleDouble) l b h e = absurd (grind (arith, nat_tests))
 abbrev pub no_mark_next : List ℕ → Bool
 no_mark_next [] = true
 no_mark_next (c ∷ bs) = not (c == 47)
-
-not_not : (t : Bool) → not t ≡ true → t ≡ false
-not_not true h = absurd cc
-not_not false h = refl
 
 kept_slash : (bs : List ℕ) → no_mark_next bs ≡ true → kept bs ≡ passes (written (92 ∷ [])) Keep 1
 kept_slash [] h = refl
