@@ -1,0 +1,2 @@
+//! Lemmas on what holds of every tree that tokens spell.
+#![tactic(auto)]
