@@ -4,3 +4,6 @@ pub mod Endings
 pub mod Keeps
 pub mod Words
 pub mod Between
+pub mod Escapes
+pub mod Inside
+pub mod Lexed

@@ -1,5 +1,5 @@
 -- What the tokens of a text hold.
-use Rattle.std.specs.Prelude.{◌≡◌, ℕ, ◌≤◌, ◌<◌, Bool, true, false, not, ◌==◌, ◌&&◌, List, [], ◌∷◌, length, pos, IsUtf8}
+use Rattle.std.specs.Prelude.{◌≡◌, ℕ, ◌≤◌, Bool, true, false, not, ◌==◌, ◌&&◌, List, [], ◌∷◌, pos, IsUtf8}
 use Rattle.std.specs.List.{list_all}
 use Rattle.std.specs.Option.{is_none}
 use Rattle.nf_lexer.specs.declared.token.PlainKind.{PlainKind}
@@ -39,6 +39,11 @@ begins_well _ w = true
 abbrev pub is_one_line : List ℕ → Bool
 is_one_line w = list_all is_not_line_feed w
 
+-- a text of a template isn't empty
+abbrev pub is_some_text : List ℕ → Bool
+is_some_text [] = false
+is_some_text (b ∷ s) = true
+
 -- what a string of a kind can spell
 abbrev pub FitPlain : PlainKind → List ℕ → Type 0
 FitPlain Slashes s = (is_one_line s ≡ true) × (ends_well s ≡ true) × (begins_well Slashes s ≡ true)
@@ -52,7 +57,7 @@ FitToken (t.Name s) = (is_word s ≡ true) × (is_none (keyword_in keywords s) �
 FitToken (t.Number n) = (m : ℕ) × (n ≡ pos m) × (m ≤ limit)
 FitToken (t.Plain q s) = IsUtf8 s × FitPlain q s
 FitToken (t.Pattern s) = IsUtf8 s × (is_one_line s ≡ true) × (ends_well s ≡ true)
-FitToken (t.TemplateText s) = IsUtf8 s × (0 < length s)
+FitToken (t.TemplateText s) = IsUtf8 s × (is_some_text s ≡ true)
 FitToken _ = Unit {0}
 
 -- ---- the texts of templates
