@@ -3,7 +3,7 @@ use Rattle.std.proofs.Common.{◌≡◌, ℕ, Bool, true, false, cond, List, [],
 use Rattle.std.specs.Prelude.{nat_eq, not, ◌==◌, ◌&&◌, ◌||◌, take_while}
 use Rattle.std.specs.List.{starts_with}
 use Rattle.std.specs.Char.{is_ascii_digit}
-use Rattle.std.specs.Str.{IsUtf8, is_utf8}
+use Rattle.std.specs.Str.{is_utf8}
 use Rattle.std.proofs.lemmas.Str.{IsUtf8-nil}
 use Rattle.nf_value.specs.declared.place.Place.{Place}
 use Rattle.nf_lexer.specs.declared.token.PlainKind.TheVariants.{Single, TripleSingle, Slashes}
@@ -14,9 +14,9 @@ use Rattle.nf_lexer.specs.declared.open.Open.{Open}
 use Rattle.nf_lexer.specs.declared.open.Change.{Change}
 use Rattle.nf_lexer.specs.declared.open.Change.TheVariants.{Keep}
 use Rattle.nf_lexer.specs.Bytes.{is_blank, begins_name, is_not_line_feed, is_in_comment}
-use Rattle.nf_lexer.specs.Front.{Item, silent, line_end, passes, checked}
+use Rattle.nf_lexer.specs.Front.{silent, line_end, passes, checked}
 use Rattle.nf_lexer.specs.Joined.{nothing}
-use Rattle.nf_lexer.specs.Open.{around, changed, lets_lines_end}
+use Rattle.nf_lexer.specs.Open.{changed, lets_lines_end}
 use Rattle.nf_lexer.specs.Spellings.{closing}
 use Rattle.nf_lexer.specs.Word.{begins_property}
 use Rattle.nf_lexer.specs.Mark.{mark}

@@ -1,18 +1,16 @@
 -- What is known of the bytes that are held, by what is open, and what each item is to keep of it.
-use Rattle.std.proofs.Common.{◌≡◌, ℕ, Bool, true, false, cond, List, [], ◌∷◌, ◌++◌, drop, Option, Some, None, refl, ap, subst}
+use Rattle.std.proofs.Common.{◌≡◌, ℕ, Bool, true, false, cond, List, [], ◌∷◌, ◌++◌, drop, Option, Some, refl}
 use Rattle.std.specs.Prelude.{not, ◌==◌, ◌&&◌}
 use Rattle.std.specs.Str.{IsUtf8}
 use Rattle.std.proofs.lemmas.Str.{IsUtf8-append}
 use Rattle.nf_value.specs.declared.place.Place.{Place}
 use Rattle.nf_lexer.specs.declared.token.PlainKind.TheVariants.{Single, TripleSingle, Slashes}
-use Rattle.nf_lexer.specs.declared.token.Token.{Token}
 use Rattle.nf_lexer.specs.declared.token.Token.TheVariants as t
 use Rattle.nf_lexer.specs.declared.open.TextKind.{TextKind}
 use Rattle.nf_lexer.specs.declared.open.TextKind.TheVariants.{Plain, Pattern, Template}
 use Rattle.nf_lexer.specs.declared.open.Open.{Open}
 use Rattle.nf_lexer.specs.declared.open.Open.TheVariants.{Text}
-use Rattle.nf_lexer.specs.declared.open.Change.{Change}
-use Rattle.nf_lexer.specs.Front.{Item, silent, line_end, written, lexed, string_end, pattern_end, First, passes, finished, broken}
+use Rattle.nf_lexer.specs.Front.{Item, silent, line_end, written, lexed, string_end, pattern_end, First, passes}
 use Rattle.nf_lexer.specs.Joined.{Held, nothing, text, more}
 use Rattle.nf_lexer.specs.Open.{innermost, around, changed}
 use Rattle.nf_spelled.specs.Fit.{ends_well, is_one_line, FitToken, is_text}

@@ -2,7 +2,6 @@
 use Rattle.std.proofs.Common.{◌≡◌, Bool, true, false, cond, List, [], ◌∷◌, map, refl}
 use Rattle.std.specs.Prelude.{not, ◌&&◌}
 use Rattle.std.specs.List.{AllByRecursion}
-use Rattle.nf_value.specs.declared.place.Place.{Place}
 use Rattle.nf_lexer.specs.declared.token.Token.{Token}
 use Rattle.nf_lexer.specs.declared.token.Token.TheVariants as t
 use Rattle.nf_lexer.specs.declared.token.Lexeme.{Lexeme}

@@ -1,6 +1,6 @@
 -- Names, numbers and marks that a text has are fit tokens.
-use Rattle.std.proofs.Common.{◌≡◌, ℕ, ◌≤◌, Bool, true, false, cond, List, [], ◌∷◌, length, Option, Some, None, refl, sym, ap, ◌∙◌, subst, arith}
-use Rattle.std.specs.Prelude.{nat_lt, take_while, ◌&&◌}
+use Rattle.std.proofs.Common.{◌≡◌, ℕ, ◌≤◌, Bool, true, false, cond, List, [], ◌∷◌, Option, Some, None, refl, ap, ◌∙◌, arith}
+use Rattle.std.specs.Prelude.{nat_lt, take_while}
 use Rattle.std.specs.List.{list_all}
 use Rattle.std.specs.Option.{is_none}
 use Rattle.std.specs.Char.{is_ascii_digit}
@@ -13,7 +13,7 @@ use Rattle.nf_lexer.specs.declared.token.Mark.{Mark}
 use Rattle.nf_lexer.specs.declared.token.Mark.TheVariants as m
 use Rattle.nf_lexer.specs.declared.token.Token.{Token}
 use Rattle.nf_lexer.specs.declared.open.Open.{Open}
-use Rattle.nf_lexer.specs.declared.open.Open.TheVariants.{Round, Square, Brace, Hole}
+use Rattle.nf_lexer.specs.declared.open.Open.TheVariants.{Round, Square, Hole}
 use Rattle.nf_lexer.specs.Bytes.{begins_name, is_in_name}
 use Rattle.nf_lexer.specs.Joined.{nothing}
 use Rattle.nf_lexer.specs.Open.{innermost, around_nearest, after_brace, nearest, changed, is_brace_or_hole}
@@ -23,7 +23,7 @@ use Rattle.nf_lexer.specs.Mark.{brace_token, mark_token, leaves_round, leaves_sq
 use Rattle.nf_lexer.proofs.Runs.{all_of_run}
 use Rattle.nf_spelled.specs.Fit.{is_word, FitToken, is_text}
 use Rattle.nf_spelled.proofs.Endings.{join}
-use Rattle.nf_spelled.proofs.Keeps.{is_string, no_strings, Goes, if_goes, strings_around}
+use Rattle.nf_spelled.proofs.Keeps.{no_strings, Goes, if_goes, strings_around}
 
 -- a fit token that is no text of a template
 abbrev FitAlone : Token → Type 0
