@@ -14,3 +14,4 @@ pub mod Inks
 pub mod Margins
 pub mod Enclosed
 pub mod Quoted
+pub mod Pieces
