@@ -29,6 +29,7 @@ use Rattle.nf_lexer.specs.Word.{keyword_in, keyword_or_name, word_token, limit, 
 use Rattle.nf_lexer.specs.First.{in_code, in_open, broken_or, fault_at, first}
 use Rattle.nf_printer.specs.Ink.{keyword_text}
 use Rattle.nf_reread.specs.Leads.{Leads, stays, goes}
+use Rattle.nf_reread.specs.Fits.{is_word}
 use Rattle.nf_reread.proofs.Strings.{no_fault}
 use Rattle.nf_reread.proofs.Tests.{if_true, if_false, both, not_not, is_nothing}
 use Rattle.nf_reread.proofs.Cuts.{run_before}
@@ -83,11 +84,6 @@ run_stops p w [] h f = ap (take_while p) (append-nil w) ∙ run_alone p w h
 run_stops p w (c ∷ rest) h f = run_before p w c rest h (not_not (p c) f)
 
 -- ---- names and keywords
-
--- what can be a name or keyword
-abbrev pub is_word : List ℕ → Bool
-is_word [] = false
-is_word (b ∷ w) = begins_name b && list_all is_in_name w
 
 begins_in : (b : ℕ) → begins_name b ≡ true → is_in_name b ≡ true
 begins_in b h = grind (arith, nat_tests)

@@ -8,3 +8,10 @@ pub mod Marks
 pub mod Plain
 pub mod Patterns
 pub mod Templates
+pub mod Told
+pub mod Stands
+pub mod Inks
+pub mod Margins
+pub mod Enclosed
+pub mod Quoted
+pub mod Pieces

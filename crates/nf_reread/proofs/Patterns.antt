@@ -15,10 +15,11 @@ use Rattle.nf_lexer.specs.Place.{place_of}
 use Rattle.nf_lexer.specs.First.{opens, in_code}
 use Rattle.nf_printer.specs.Ink.{escaped, quoted}
 use Rattle.nf_reread.specs.Leads.{Leads}
+use Rattle.nf_reread.specs.Fits.{ends_well}
 use Rattle.nf_reread.specs.Bits.{token, Gives}
 use Rattle.nf_reread.proofs.Fronts.{leads_on}
 use Rattle.nf_reread.proofs.Cuts.{drop_nothing}
-use Rattle.nf_reread.proofs.Strings.{no_fault, Calm, ends_well, string_found}
+use Rattle.nf_reread.proofs.Strings.{no_fault, Calm, string_found}
 use Rattle.nf_reread.proofs.Codes.{is_code, first_in_code, item_leads}
 use Rattle.nf_reread.proofs.Plain.{ReadAs, end_leads, pattern_gives}
 

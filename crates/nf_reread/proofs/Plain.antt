@@ -24,11 +24,12 @@ use Rattle.nf_lexer.specs.Spellings.{closing}
 use Rattle.nf_lexer.specs.First.{opens, slash, in_code, ended, has_escapes, in_text}
 use Rattle.nf_printer.specs.Ink.{letter, with_letter, byte_text, escaped, quoted}
 use Rattle.nf_reread.specs.Leads.{Leads}
+use Rattle.nf_reread.specs.Fits.{ends_well, begins_slashed}
 use Rattle.nf_reread.specs.Bits.{Bit, token, Gives}
 use Rattle.nf_reread.proofs.Tests.{if_true, if_false, neither, not_not}
 use Rattle.nf_reread.proofs.Fronts.{leads_on}
 use Rattle.nf_reread.proofs.Written.{quote_mark, more_marks, closing_is, none_mark}
-use Rattle.nf_reread.proofs.Strings.{Writes, writes_none, writes_more, first_in_text, no_fault, Calm, ends_well, string_found}
+use Rattle.nf_reread.proofs.Strings.{Writes, writes_none, writes_more, first_in_text, no_fault, Calm, string_found}
 use Rattle.nf_reread.proofs.Codes.{is_code, fails_first, first_in_code, item_leads}
 
 -- ---- where it ends
@@ -144,8 +145,7 @@ begin_leads source k o bs i h =
 
 -- a string that a text can spell: what its bytes mean, and what it may begin and end with
 abbrev pub begins_well : PlainKind → List ℕ → Bool
-begins_well Slashes [] = false
-begins_well Slashes (b ∷ w) = not (b == 42)
+begins_well Slashes w = begins_slashed w
 begins_well _ w = true
 
 first_single : (l : Bool) (b : ℕ) (bs : List ℕ) (x : Option ℕ) → letter (Plain Single) l b ≡ x → differs 39 (with_letter b x ++ bs) ≡ true

@@ -26,6 +26,7 @@ use Rattle.nf_lexer.specs.Spellings.{closing}
 use Rattle.nf_lexer.specs.First.{has_escapes, in_text, broken_or, fault_at, first}
 use Rattle.nf_printer.specs.Ink.{letter, with_letter, byte_text, escaped}
 use Rattle.nf_reread.specs.Leads.{Leads, stays, goes}
+use Rattle.nf_reread.specs.Fits.{ends_well}
 use Rattle.nf_reread.proofs.Tests.{both, is_nothing}
 use Rattle.nf_reread.proofs.Cuts.{Cut, done, more, cut, run_before, utf8_before, utf8_from, utf8_after, drop_nothing}
 use Rattle.nf_reread.proofs.Written.{quote_mark, more_marks, closing_is, no_mark_next, none_mark, run_read, letter_read, special_read}
@@ -92,12 +93,6 @@ run_found text k l p o (b ∷ run) x bs rest w h u s f =
 abbrev pub Calm : TextKind → Bool → Option LexFault → List ℕ → Type 0
 Calm k l f [] = Unit {0}
 Calm k l f (b ∷ w) = ((b == 10) ≡ true → letter k l b ≡ None → f ≡ None) × Calm k l f w
-
--- a backslash between slashes isn't the last byte
-abbrev pub ends_well : List ℕ → Bool
-ends_well [] = true
-ends_well (b ∷ []) = not (b == 92)
-ends_well (b ∷ c ∷ w) = ends_well (c ∷ w)
 
 fault_by : (b : ℕ) (o : List Open) (t : Bool) → (b == 10) ≡ t → ((b == 10) ≡ true → outermost line_fault o ≡ None) → fault_at b o ≡ None
 fault_by b o true e h = ap (λ t. cond t (outermost line_fault o) None) e ∙ h e

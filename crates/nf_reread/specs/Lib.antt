@@ -1,2 +1,4 @@
 pub mod Leads
 pub mod Bits
+pub mod Retold
+pub mod Fits
