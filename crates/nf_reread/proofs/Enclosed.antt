@@ -7,7 +7,7 @@ use Rattle.nf_lexer.specs.declared.open.Open.TheVariants.{Round, Square, Brace}
 use Rattle.nf_printer.specs.Ink.{Ink, inked, mark}
 use Rattle.nf_printer.specs.Levels.{round, within}
 use Rattle.nf_printer.specs.Lines.{Layout}
-use Rattle.nf_reread.proofs.Told.{Told, told_on, Reads, on, weaker}
+use Rattle.nf_reread.proofs.Told.{Told, told_on, Reads, weaker}
 use Rattle.nf_reread.proofs.Stands.{Stand, Lined, in_round, in_square, in_brace, Any, Apart, ends_any}
 use Rattle.nf_reread.proofs.Inks.{mark_told}
 
@@ -32,11 +32,3 @@ apart a = weaker (λ o p. p) (λ rest q. tt) a
 pub within_reads : {l : Layout} {xs : List Ink} (b : Bool) → Reads (Stand l) Apart xs → Reads (Stand l) Apart (within b xs)
 within_reads true a = apart (round_reads a)
 within_reads false a = a
-
--- ---- what stands in braces, in two or three parts
-
-pub body_reads : {l : Layout} {Q : List ℕ → Type 0} {xs ys : List Ink} → ((rest : List ℕ) → Apart rest → Q (inked ys ++ rest)) → Reads (Lined l) Q xs → Reads (Lined l) Apart ys → Reads (Stand l) Any (mark m.OpenBrace ∷ xs ++ (ys ++ mark m.CloseBrace ∷ []))
-body_reads {l} {Q} {xs} {ys} f a b = subst (λ z. Reads (Stand l) Any (mark m.OpenBrace ∷ z)) (append_assoc xs ys (mark m.CloseBrace ∷ [])) (brace_reads (on f a b))
-
-pub inner_reads : {l : Layout} {Q R : List ℕ → Type 0} {xs ys zs : List Ink} → ((rest : List ℕ) → Apart rest → Q (inked (ys ++ zs) ++ rest)) → ((rest : List ℕ) → Apart rest → R (inked zs ++ rest)) → Reads (Lined l) Q xs → Reads (Lined l) R ys → Reads (Lined l) Apart zs → Reads (Stand l) Any (mark m.OpenBrace ∷ xs ++ (ys ++ (zs ++ mark m.CloseBrace ∷ [])))
-inner_reads {l} {Q} {R} {xs} {ys} {zs} f g a b c = subst (λ z. Reads (Stand l) Any (mark m.OpenBrace ∷ xs ++ z)) (append_assoc ys zs (mark m.CloseBrace ∷ [])) (body_reads f a (on g b c))

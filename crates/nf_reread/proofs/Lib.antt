@@ -15,3 +15,6 @@ pub mod Margins
 pub mod Enclosed
 pub mod Quoted
 pub mod Pieces
+pub mod Begins
+pub mod Phrases
+pub mod Trees
