@@ -1,6 +1,6 @@
 -- What the text of inks begins with.
-use Rattle.std.proofs.Common.{◌≡◌, ℕ, ℤ, pos, negsuc, ◌≤◌, ◌<◌, Bool, true, false, List, [], ◌∷◌, ◌++◌, length, refl, ap, ◌∙◌, subst, arith}
-use Rattle.std.specs.Prelude.{not, ◌==◌, ◌||◌, ◌&&◌}
+use Rattle.std.proofs.Common.{◌≡◌, ℕ, ℤ, pos, negsuc, ◌≤◌, ◌<◌, Bool, true, false, List, [], ◌∷◌, ◌++◌, length, refl, subst, arith}
+use Rattle.std.specs.Prelude.{not, ◌==◌, ◌||◌}
 use Rattle.std.specs.List.{list_all}
 use Rattle.std.specs.Char.{is_ascii_digit}
 use Rattle.std.specs.Fmt.{decimal}
@@ -17,7 +17,7 @@ use Rattle.nf_printer.specs.Ink.{Ink, inked}
 use Rattle.nf_printer.specs.Levels.{within}
 use Rattle.nf_reread.specs.Fits.{is_word, IsName, IsNumber}
 use Rattle.nf_reread.proofs.Tests.{both}
-use Rattle.nf_reread.proofs.Codes.{fails_first, digits_pass}
+use Rattle.nf_reread.proofs.Codes.{digits_pass}
 use Rattle.nf_reread.proofs.Told.{inked_on}
 use Rattle.nf_reread.proofs.Stands.{parts_tokens, Apart, Ends, apart_ends}
 

@@ -18,3 +18,6 @@ pub mod Pieces
 pub mod Begins
 pub mod Phrases
 pub mod Trees
+pub mod Scripts
+pub mod Settling
+pub mod Whole

@@ -1,7 +1,6 @@
 -- What parts of expressions and statements are read as, joined from theirs.
-use Rattle.std.proofs.Common.{◌≡◌, ℕ, Bool, true, false, List, [], ◌∷◌, ◌++◌, refl, sym, ap, ◌∙◌, subst}
+use Rattle.std.proofs.Common.{◌≡◌, ℕ, Bool, true, false, List, [], ◌∷◌, ◌++◌, refl, ap}
 use Rattle.std.specs.Prelude.{not, codes}
-use Rattle.std.proofs.lemmas.List.{append_assoc}
 use Rattle.nf_lexer.specs.declared.token.Keyword.{Keyword}
 use Rattle.nf_lexer.specs.declared.token.Keyword.TheVariants as k
 use Rattle.nf_lexer.specs.declared.token.Mark.{Mark}
@@ -15,16 +14,14 @@ use Rattle.nf_ast.specs.Tree as tree
 use Rattle.nf_ast.specs.Tree.{Tree}
 use Rattle.nf_printer.specs.Ink as ink
 use Rattle.nf_printer.specs.Ink.{Ink, inked, mark, keyword, blank}
-use Rattle.nf_printer.specs.Levels.{round, within}
-use Rattle.nf_printer.specs.Lines.{Layout, lines, inline, deeper, between, before_first, first_before, closure_last}
+use Rattle.nf_printer.specs.Lines.{Layout, lines, inline, deeper, between, first_before, closure_last}
 use Rattle.nf_printer.specs.Exprs.{spaced, infix_inks, prefix_ink, comma, colon, equals, truth_ink, colon_alone, blank_after, else_before, inks, listed, parts}
 use Rattle.nf_reread.specs.Fits.{IsName, IsNameTree}
-use Rattle.nf_reread.proofs.Codes.{fails_first}
 use Rattle.nf_reread.proofs.Marks.{goes_on}
 use Rattle.nf_reread.proofs.Told.{Reads, on, weaker, none}
-use Rattle.nf_reread.proofs.Stands.{Stand, Lined, deeper_lined, Any, Apart, Ends, apart_ends}
-use Rattle.nf_reread.proofs.Begins.{Begins, begins_on, Starts, Fronts, apart_starts, starts_not, starts_minus, name_after_dot}
-use Rattle.nf_reread.proofs.Inks.{is_bracket, mark_reads, lone_reads, keyword_reads, name_reads, separator_reads, blank_reads}
+use Rattle.nf_reread.proofs.Stands.{Stand, Lined, deeper_lined, Any, Apart}
+use Rattle.nf_reread.proofs.Begins.{Begins, Starts, Fronts, apart_starts, starts_not, starts_minus, name_after_dot}
+use Rattle.nf_reread.proofs.Inks.{is_bracket, mark_reads, lone_reads, keyword_reads, name_reads, blank_reads}
 use Rattle.nf_reread.proofs.Enclosed.{apart, square_reads}
 
 -- after what anything may follow
@@ -137,7 +134,7 @@ choice_reads t a b c = word_reads k.If (else_reads t (after a (blank_before b)) 
 
 -- ---- the name after a `.`
 
-dot_name : {l : Layout} (s : List ℕ) → IsName s → Reads (Stand l) Apart (mark m.Dot ∷ ink.name s ∷ [])
+pub dot_name : {l : Layout} (s : List ℕ) → IsName s → Reads (Stand l) Apart (mark m.Dot ∷ ink.name s ∷ [])
 dot_name s h = on (λ rest r. name_after_dot s rest h) (mark_reads m.Dot refl) (name_reads s h)
 
 pub dot_reads : {l : Layout} (n : Tree) → IsNameTree n → Reads (Stand l) Apart (mark m.Dot ∷ inks n l false)

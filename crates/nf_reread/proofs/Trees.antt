@@ -1,5 +1,5 @@
 -- The inks of a tree that fits are read as their bits.
-use Rattle.std.proofs.Common.{◌≡◌, ℕ, Bool, true, false, List, [], ◌∷◌, ◌++◌, refl}
+use Rattle.std.proofs.Common.{ℕ, Bool, false, List, [], ◌∷◌, ◌++◌, refl}
 use Rattle.std.specs.Prelude.{not, ◌&&◌}
 use Rattle.nf_value.specs.declared.place.Place.{Place}
 use Rattle.nf_lexer.specs.declared.token.Keyword.TheVariants as k
@@ -12,12 +12,12 @@ use Rattle.nf_printer.specs.Ink as ink
 use Rattle.nf_printer.specs.Ink.{Ink, mark, blank}
 use Rattle.nf_printer.specs.Levels.{left_level, right_level, prefix_level, postfix_level, needs, prints, round, within}
 use Rattle.nf_printer.specs.Lines.{Layout, inline, is_inline, deeper, between, is_short, first_before}
-use Rattle.nf_printer.specs.Exprs.{spaced, comma, colon, equals, inks, listed, parts, piece, pieces}
+use Rattle.nf_printer.specs.Exprs.{spaced, comma, colon, equals, inks, listed, parts, pieces}
 use Rattle.nf_reread.specs.Fits.{Fits, FitPieces, FitAfterText}
 use Rattle.nf_reread.proofs.Told.{Reads, on, none}
 use Rattle.nf_reread.proofs.Stands.{Stand, Lined, Any, Apart}
 use Rattle.nf_reread.proofs.Begins.{Starts, by_front, starts_none, fronts_on, fronts_more, starts_within, name_starts, number_starts, plain_starts, template_starts}
-use Rattle.nf_reread.proofs.Inks.{keyword_reads, name_reads, number_reads, blank_reads}
+use Rattle.nf_reread.proofs.Inks.{keyword_reads, name_reads, number_reads}
 use Rattle.nf_reread.proofs.Margins.{IsMargin, deeper_margin, lined, between_reads, first_reads, last_reads}
 use Rattle.nf_reread.proofs.Enclosed.{round_reads, square_reads, apart, within_reads, brace_reads}
 use Rattle.nf_reread.proofs.Quoted.{plain_reads, pattern_reads}
