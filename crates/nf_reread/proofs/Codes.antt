@@ -144,7 +144,7 @@ name_token w h = ap (λ x. keyword_or_name x w) (is_nothing (keyword_in keywords
 
 -- ---- numbers
 
-digits_pass : (ds : List ℕ) → AllDigits 10 ds → list_all is_ascii_digit ds ≡ true
+pub digits_pass : (ds : List ℕ) → AllDigits 10 ds → list_all is_ascii_digit ds ≡ true
 digits_pass [] h = refl
 digits_pass (c ∷ ds) h =
     let d = digit_from_value c h.0 in

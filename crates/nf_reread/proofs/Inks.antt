@@ -1,8 +1,5 @@
 -- What each printed ink between strings is read as.
-use Rattle.std.proofs.Common.{◌≡◌, ℕ, ℤ, pos, negsuc, ◌≤◌, Bool, true, false, List, [], ◌∷◌, ◌++◌, length, refl, sym, ap, ◌∙◌, subst}
-use Rattle.std.specs.Prelude.{not, ◌==◌, ◌&&◌}
-use Rattle.std.specs.List.{list_all}
-use Rattle.std.proofs.lemmas.Bool.Decides.{Decides-eqb}
+use Rattle.std.proofs.Common.{◌≡◌, ℕ, ℤ, pos, negsuc, Bool, true, false, List, [], ◌∷◌, ◌++◌, length, refl, sym, ap, ◌∙◌, subst}
 use Rattle.std.proofs.lemmas.List.{append-nil}
 use Rattle.nf_value.specs.declared.place.Place.{Place}
 use Rattle.nf_lexer.specs.declared.token.Keyword.{Keyword}
@@ -11,7 +8,6 @@ use Rattle.nf_lexer.specs.declared.token.Mark.TheVariants as m
 use Rattle.nf_lexer.specs.declared.token.Token.{Token}
 use Rattle.nf_lexer.specs.declared.token.Token.TheVariants as t
 use Rattle.nf_lexer.specs.declared.open.Open.{Open}
-use Rattle.nf_lexer.specs.Bytes.{is_in_name}
 use Rattle.nf_lexer.specs.Front.{silent, lexed}
 use Rattle.nf_lexer.specs.Joined.{Placed, at, lexeme}
 use Rattle.nf_lexer.specs.Separators as s
@@ -23,7 +19,7 @@ use Rattle.nf_printer.specs.Ink as ink
 use Rattle.nf_printer.specs.Ink.{Ink, ink_text, mark_text, keyword_text, mark, keyword, blank}
 use Rattle.nf_printer.specs.Lines.{Layout}
 use Rattle.nf_reread.specs.Leads.{Leads}
-use Rattle.nf_reread.specs.Bits.{Bit, token, Gives}
+use Rattle.nf_reread.specs.Bits.{token, Gives}
 use Rattle.nf_reread.specs.Retold.{ink_bits}
 use Rattle.nf_reread.specs.Fits.{IsName, IsNumber}
 use Rattle.nf_reread.proofs.Codes.{is_code, fails_first, word_leads, keyword_is_word, keyword_token, name_token, number_leads}

@@ -15,3 +15,9 @@ pub mod Margins
 pub mod Enclosed
 pub mod Quoted
 pub mod Pieces
+pub mod Begins
+pub mod Phrases
+pub mod Trees
+pub mod Scripts
+pub mod Settling
+pub mod Whole

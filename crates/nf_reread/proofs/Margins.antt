@@ -12,8 +12,8 @@ use Rattle.nf_lexer.specs.Separators as s
 use Rattle.nf_lexer.specs.Open.{outermost, line_fault, lets_lines_end}
 use Rattle.nf_lexer.specs.Place.{place_of}
 use Rattle.nf_lexer.specs.First.{line_item}
-use Rattle.nf_printer.specs.Ink.{Ink, line, blank, separator}
-use Rattle.nf_printer.specs.Lines.{Layout, lines, inline, is_inline, deeper, before_first, between, after_last, first_before, closure_last}
+use Rattle.nf_printer.specs.Ink.{Ink, line}
+use Rattle.nf_printer.specs.Lines.{Layout, lines, inline, deeper, before_first, between, first_before, closure_last}
 use Rattle.nf_reread.specs.Leads.{Leads, stays}
 use Rattle.nf_reread.specs.Bits.{ending, Gives}
 use Rattle.nf_reread.proofs.Tests.{both}

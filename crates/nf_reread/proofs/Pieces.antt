@@ -1,6 +1,6 @@
 -- What a whole template is read as, from its parts.
-use Rattle.std.proofs.Common.{◌≡◌, ℕ, Bool, true, false, List, [], ◌∷◌, ◌++◌, length, Option, Some, None, refl, sym, ap, ◌∙◌, subst}
-use Rattle.std.specs.Prelude.{not, ◌==◌, ◌||◌, map}
+use Rattle.std.proofs.Common.{◌≡◌, ℕ, Bool, true, List, [], ◌∷◌, ◌++◌, length, Option, Some, None, refl, sym, ap, ◌∙◌, subst}
+use Rattle.std.specs.Prelude.{not, ◌==◌, ◌||◌}
 use Rattle.std.proofs.lemmas.List.{append_assoc, append-nil}
 use Rattle.nf_value.specs.declared.place.Place.{Place}
 use Rattle.nf_lexer.specs.declared.token.TemplateKind.{TemplateKind}
@@ -14,15 +14,14 @@ use Rattle.nf_lexer.specs.Bytes.{is_special}
 use Rattle.nf_lexer.specs.Front.{lexed}
 use Rattle.nf_lexer.specs.Joined.{Placed, at, nothing, joined, lexeme}
 use Rattle.nf_lexer.specs.Separators as s
-use Rattle.nf_lexer.specs.Open.{outermost, line_fault}
 use Rattle.nf_lexer.specs.Place.{place_of}
 use Rattle.nf_lexer.specs.Spellings.{closing}
 use Rattle.nf_printer.specs.Ink as ink
 use Rattle.nf_printer.specs.Ink.{Ink, ink_text, inked, letter, with_letter, byte_text, escaped}
 use Rattle.nf_printer.specs.Lines.{Layout, inline, is_inline}
 use Rattle.nf_reread.specs.Leads.{Leads}
-use Rattle.nf_reread.specs.Bits.{Bit, token, bit_of, Gives}
-use Rattle.nf_reread.specs.Retold.{ink_bits, inks_bits, text_bits}
+use Rattle.nf_reread.specs.Bits.{Bit, token, Gives}
+use Rattle.nf_reread.specs.Retold.{inks_bits}
 use Rattle.nf_reread.specs.Fits.{IsPiece, is_some_text}
 use Rattle.nf_reread.proofs.Fronts.{leads_on}
 use Rattle.nf_reread.proofs.Written.{quote_mark, more_marks, closing_is, none_mark}
@@ -31,7 +30,7 @@ use Rattle.nf_reread.proofs.Codes.{fails_first}
 use Rattle.nf_reread.proofs.Plain.{end_leads, differs}
 use Rattle.nf_reread.proofs.Templates.{opens_well, begin_leads, hole_leads, hole_end_leads, text_gives}
 use Rattle.nf_reread.proofs.Told.{Told, gives_on, told_on, Reads}
-use Rattle.nf_reread.proofs.Stands.{Stand, in_hole, Any, Apart, ends_double}
+use Rattle.nf_reread.proofs.Stands.{Stand, in_hole, Apart, ends_double}
 use Rattle.nf_reread.proofs.Inks.{told_one, token_gives}
 use Rattle.nf_reread.proofs.Quoted.{template_calm}
 
@@ -175,6 +174,8 @@ open_told : (source : List ℕ) (q : TemplateKind) (o : List Open) (p : Place) (
 open_told source q o p bs l = told_one source o (Text (Template q) p ∷ o) (ink.open_template q) bs _ l (token_gives (t.OpenTemplate q) p)
 
 pub template_reads : {l : Layout} {xs : List Ink} (q : TemplateKind) → Inner l q xs → Reads (Stand l) Apart (ink.open_template q ∷ xs)
-template_reads {l} {xs} q h = record { told = λ source o rest s a.
-  let begun = begin_leads source q o (inked xs ++ rest) s.code (h.opens rest a) in
-  told_on {xs = ink.open_template q ∷ []} (open_told source q o begun.0 (inked xs ++ rest) begun.1) (h.told source begun.0 o rest s) }
+template_reads {l} {xs} q h = record {
+  told = λ source o rest s a.
+      let begun = begin_leads source q o (inked xs ++ rest) s.code (h.opens rest a) in
+      told_on {xs = ink.open_template q ∷ []} (open_told source q o begun.0 (inked xs ++ rest) begun.1) (h.told source begun.0 o rest s);
+}

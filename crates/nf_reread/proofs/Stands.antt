@@ -42,7 +42,7 @@ inline_deeper : (l : Layout) → is_inline (deeper l) ≡ is_inline l
 inline_deeper (lines m) = refl
 inline_deeper inline = refl
 
-deeper_stand : (l : Layout) (o : List Open) → Stand l o → Stand (deeper l) o
+pub deeper_stand : (l : Layout) (o : List Open) → Stand l o → Stand (deeper l) o
 deeper_stand (lines m) o s = record { code = s.code; quiet = s.quiet }
 deeper_stand inline o s = record { code = s.code; quiet = s.quiet }
 

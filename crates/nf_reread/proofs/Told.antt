@@ -1,5 +1,5 @@
 -- Lists of inks that are read as their bits, and lists after each other.
-use Rattle.std.proofs.Common.{◌≡◌, ℕ, List, [], ◌∷◌, ◌++◌, refl, sym, ap, ◌∙◌, subst}
+use Rattle.std.proofs.Common.{◌≡◌, ℕ, List, [], ◌++◌, refl, sym, ap, ◌∙◌, subst}
 use Rattle.std.specs.Prelude.{map}
 use Rattle.std.proofs.lemmas.List.{append_assoc, map-append}
 use Rattle.std.proofs.lemmas.Grind.{flat_map-append}
@@ -24,7 +24,7 @@ gives_on {v} {w} {a} {b} x y = record {
   are = map-append bit_of x.pieces y.pieces ∙ ap (λ z. z ++ map bit_of y.pieces) x.are ∙ ap (λ z. a ++ z) y.are;
 }
 
-inked_on : (xs ys : List Ink) (rest : List ℕ) → inked xs ++ (inked ys ++ rest) ≡ inked (xs ++ ys) ++ rest
+pub inked_on : (xs ys : List Ink) (rest : List ℕ) → inked xs ++ (inked ys ++ rest) ≡ inked (xs ++ ys) ++ rest
 inked_on xs ys rest = sym (append_assoc (inked xs) (inked ys) rest) ∙ ap (λ z. z ++ rest) (sym (flat_map-append ink_text xs ys))
 
 pub told_on : {source : List ℕ} {o p q : List Open} {xs ys : List Ink} {rest : List ℕ} → Told source o p xs (inked ys ++ rest) → Told source p q ys rest → Told source o q (xs ++ ys) rest

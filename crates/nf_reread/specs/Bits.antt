@@ -1,6 +1,7 @@
 -- The tokens and line ends that items come to.
 use Rattle.std.specs.Prelude.{◌≡◌, List, ◌++◌, map}
 use Rattle.nf_lexer.specs.declared.token.Token.{Token}
+use Rattle.nf_lexer.specs.declared.token.Lexeme.{Lexeme}
 use Rattle.nf_lexer.specs.Joined.{Placed, nothing, joined}
 use Rattle.nf_lexer.specs.Separators as s
 use Rattle.nf_lexer.specs.Separators.{Piece}
@@ -10,8 +11,11 @@ pub data Bit : Type 0 where
   token : Token → Bit
   ending : Bit
 
+abbrev pub token_of : Lexeme → Token
+token_of x = x.token
+
 abbrev pub bit_of : Piece → Bit
-bit_of (s.lexed x) = token x.token
+bit_of (s.lexed x) = token (token_of x)
 bit_of (s.line_end_at place) = ending
 
 -- the items come to these, whatever follows

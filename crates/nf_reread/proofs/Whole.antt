@@ -1,0 +1,78 @@
+-- The canonical text of a script has the tokens that its inks come to.
+use Rattle.std.proofs.Common.{◌≡◌, ℕ, ◌≤◌, true, false, List, [], ◌∷◌, ◌++◌, length, None, refl, sym, ap, ◌∙◌, subst, arith}
+use Rattle.std.specs.Prelude.{not, ◌==◌, map, nat_eq, codes}
+use Rattle.std.specs.List.{starts_with}
+use Rattle.std.proofs.lemmas.Bool.Decides.{nat_tests}
+use Rattle.std.proofs.lemmas.List.{append-nil}
+use Rattle.nf_value.specs.declared.place.Place.{Place}
+use Rattle.nf_lexer.specs.declared.token.Lexeme.{Lexeme}
+use Rattle.nf_lexer.specs.First.{first}
+use Rattle.nf_lexer.specs.Joined.{nothing, joined}
+use Rattle.nf_lexer.specs.Separators.{settled}
+use Rattle.nf_lexer.specs.Place.{place_after}
+use Rattle.nf_lexer.specs.Tokens.{Reads, ends, at_start, most_bytes, IsTokensOf}
+use Rattle.nf_ast.specs.Tree as tree
+use Rattle.nf_ast.specs.Tree.{Tree}
+use Rattle.nf_printer.specs.Ink.{Ink, inked}
+use Rattle.nf_printer.specs.Tops.{script, canonical}
+use Rattle.nf_reread.specs.Leads.{Leads}
+use Rattle.nf_reread.specs.Bits.{token_of}
+use Rattle.nf_reread.specs.Retold as r
+use Rattle.nf_reread.specs.Retold.{retold}
+use Rattle.nf_reread.specs.Fits.{Fits}
+use Rattle.nf_reread.proofs.Tests.{if_false}
+use Rattle.nf_reread.proofs.Written.{no_front}
+use Rattle.nf_reread.proofs.Fronts.{leads_reads}
+use Rattle.nf_reread.proofs.Told.{Told}
+use Rattle.nf_reread.proofs.Stands.{Ends}
+use Rattle.nf_reread.proofs.Begins.{is_never_first}
+use Rattle.nf_reread.proofs.Scripts.{script_reads, script_fronts}
+use Rattle.nf_reread.proofs.Settling.{settled_bits}
+
+-- ---- where a text begins
+
+no_hash : (b : ℕ) → not (is_never_first b) ≡ true → (b == 35) ≡ false
+no_hash b h = grind (arith, nat_tests)
+
+no_comment : (text : List ℕ) → Ends is_never_first text → at_start text ≡ []
+unfolding at_start
+no_comment [] h = refl
+no_comment (b ∷ bs) h = if_false (starts_with nat_eq (b ∷ bs) (codes "#!")) _ _ (no_front b 35 bs (33 ∷ []) (no_hash b h))
+
+begun : (xs : Tree) → Fits xs → at_start (canonical xs) ≡ []
+begun (tree.cons x xs) f = no_comment (canonical (tree.cons x xs)) (subst (Ends is_never_first) (append-nil (canonical (tree.cons x xs))) ((script_fronts x xs f.0).fronts []))
+begun _ f = no_comment [] refl
+
+-- ---- the whole
+
+at_end : (text : List ℕ) → Reads text [] [] [] None
+unfolding first
+at_end text = ends refl
+
+told_reads : (text : List ℕ) (xs : List Ink) → (a : Told text [] [] xs []) → inked xs ≡ text → at_start text ≡ [] → Reads text (at_start text) text (a.items ++ []) None
+told_reads text xs a e b =
+    let whole : Leads text [] text a.items [] [] = subst (λ z. Leads text [] z a.items [] []) (append-nil (inked xs) ∙ e) a.leads in
+    subst (λ z. Reads text z text (a.items ++ []) None) (sym b) (leads_reads whole (at_end text))
+
+told_tokens : (text : List ℕ) (xs : List Ink) → (a : Told text [] [] xs []) → map token_of (settled [] (joined nothing (a.items ++ []))) ≡ retold xs
+told_tokens text xs a =
+    ap (λ z. map token_of (settled [] z)) (a.gives.joins [] ∙ append-nil a.gives.pieces)
+    ∙ settled_bits a.gives.pieces []
+    ∙ ap (λ z. r.settled [] z) a.gives.are
+
+-- a script that fits, whose canonical text isn't too long, is told again by it
+pub told_again : (xs : Tree) → Fits xs → length (canonical xs) ≤ most_bytes → (ts : List Lexeme) × (end : Place) × IsTokensOf (canonical xs) (ts, end) × (map token_of ts ≡ retold (script xs))
+told_again xs f small =
+    let told : Told (canonical xs) [] [] (script xs) [] = (script_reads xs f).told (canonical xs) [] [] (record { stand = record { code = refl; quiet = λ n. refl }; ends = refl }) refl in
+    let ts = settled [] (joined nothing (told.items ++ [])) in (
+      ts,
+      place_after (canonical xs),
+      record {
+        within = small;
+        items = told.items ++ [];
+        reads = told_reads (canonical xs) (script xs) told refl (begun xs f);
+        tokens = refl;
+        end = refl;
+      },
+      told_tokens (canonical xs) (script xs) told,
+    )
