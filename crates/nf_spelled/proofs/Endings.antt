@@ -6,7 +6,7 @@ use lib.Pointwise.{bytes_decides}
 use Rattle.std.proofs.lemmas.Bool.Decides.{nat_tests, Decides-eqb}
 use Rattle.std.proofs.lemmas.List.Folds.{list_all-append}
 use Rattle.nf_lexer.specs.Bytes.{is_not_line_feed, is_ordinary}
-use Rattle.nf_spelled.specs.Fit.{ends_well, is_one_line}
+use Rattle.nf_reread.specs.Fits.{ends_well}
 
 pub both : (a b : Bool) → (a && b) ≡ true → (a ≡ true) × (b ≡ true)
 both true b h = (refl, h)
@@ -36,6 +36,9 @@ run_ends (b ∷ []) h = ordinary_end b (both (is_ordinary b) true h).0
 run_ends (b ∷ c ∷ x) h = run_ends (c ∷ x) (both (is_ordinary b) (list_all is_ordinary (c ∷ x)) h).1
 
 -- ---- line ends
+
+abbrev pub is_one_line : List ℕ → Bool
+is_one_line w = list_all is_not_line_feed w
 
 ordinary_line : (b : ℕ) → is_ordinary b ≡ true → is_not_line_feed b ≡ true
 ordinary_line b h = grind (arith, nat_tests)

@@ -21,9 +21,9 @@ use Rattle.nf_lexer.specs.Spellings.{closing}
 use Rattle.nf_lexer.specs.Escape.{escaped, hex_number, character, written_or_bad, escape, kept}
 use Rattle.nf_lexer.specs.First.{ended, has_escapes, has_holes, hole, in_text}
 use Rattle.nf_lexer.proofs.Runs.{all_of_run}
-use Rattle.nf_spelled.specs.Fit.{ends_well, begins_well, is_one_line}
-use Rattle.nf_spelled.proofs.Endings.{both, join, ends_on, run_ends, run_line, line_on, one_line, is_slash_next, is_no_comment, slash_first}
-use Rattle.nf_spelled.proofs.Keeps.{Holding, is_begun, Within, Goes, if_goes, held_around, adds}
+use Rattle.nf_reread.specs.Fits.{ends_well, begins_slashed, IsSlashed}
+use Rattle.nf_spelled.proofs.Endings.{both, join, ends_on, run_ends, run_line, line_on, is_one_line, one_line, is_slash_next, is_no_comment, slash_first}
+use Rattle.nf_spelled.proofs.Keeps.{Holding, Sound, is_begun, Within, Goes, if_goes, held_around, adds}
 use Rattle.nf_spelled.proofs.Escapes.{byte_utf8, escaped_utf8, character_utf8}
 
 -- ---- what bytes ask for that are added
@@ -52,21 +52,24 @@ within_on (Template q) bs rest c x l e b w g = tt
 no_slash : (b : ℕ) → (b == 47) ≡ true → not (b == 47 || b == 42) ≡ true → ⊥
 no_slash b h g = absurd (grind (arith, nat_tests))
 
-begins_by : (b : ℕ) (bs w : List ℕ) → (b == 47) ≡ true → is_begun (b ∷ bs) w ≡ true → begins_well Slashes w ≡ true
+begins_by : (b : ℕ) (bs w : List ℕ) → (b == 47) ≡ true → is_begun (b ∷ bs) w ≡ true → begins_slashed w ≡ true
 begins_by b bs [] h g = absurd (no_slash b h g)
 begins_by b bs (c ∷ w) h g = g
 
+-- what is between slashes, where a slash comes
+slashed : (w : List ℕ) (b : ℕ) (bs : List ℕ) → IsUtf8 w → Sound (b ∷ bs) w → starts_with nat_eq (b ∷ bs) (47 ∷ []) ≡ true → IsSlashed w
+slashed w b bs u s e = record { utf8 = u; on_line = s.0; ends = s.1 (slash_first b bs e) }
+
 close_goes : (k : TextKind) (p : Place) (o : List Open) (b : ℕ) (bs : List ℕ) (held : Held) (place : Place) → Holding (Text k p ∷ o) (b ∷ bs) held → starts_with nat_eq (b ∷ bs) (closing k) ≡ true → Goes (Text k p ∷ o) (b ∷ bs) held place (passes (ended k) Leave (length (closing k)))
 close_goes (Plain Single) p o b bs nothing place g e = absurd cc
-close_goes (Plain Single) p o b bs (text start w) place g e = ((g.1, tt), g.0)
+close_goes (Plain Single) p o b bs (text start w) place g e = (g.1, g.0)
 close_goes (Plain TripleSingle) p o b bs nothing place g e = absurd cc
-close_goes (Plain TripleSingle) p o b bs (text start w) place g e = ((g.1, tt), g.0)
+close_goes (Plain TripleSingle) p o b bs (text start w) place g e = (g.1, g.0)
 close_goes (Plain Slashes) p o b bs nothing place g e = absurd cc
 close_goes (Plain Slashes) p o b bs (text start w) place g e =
-    let s = slash_first b bs e in
-    ((g.1, (g.2.0.0, g.2.0.1 s, begins_by b bs w s g.2.1)), g.0)
+    (record { slashed = slashed w b bs g.1 g.2.0 e; begins = begins_by b bs w (slash_first b bs e) g.2.1 }, g.0)
 close_goes Pattern p o b bs nothing place g e = absurd cc
-close_goes Pattern p o b bs (text start w) place g e = ((g.1, g.2.0, g.2.1 (slash_first b bs e)), g.0)
+close_goes Pattern p o b bs (text start w) place g e = (slashed w b bs g.1 g.2 e, g.0)
 close_goes (Template q) p o b bs held place g e = ((tt, refl), held_around (Text (Template q) p ∷ o) (b ∷ bs) held g)
 
 -- ---- escapes

@@ -13,8 +13,9 @@ use Rattle.nf_lexer.specs.declared.open.Open.TheVariants.{Text}
 use Rattle.nf_lexer.specs.Front.{Item, silent, line_end, written, lexed, string_end, pattern_end, First, passes}
 use Rattle.nf_lexer.specs.Joined.{Held, nothing, text, more}
 use Rattle.nf_lexer.specs.Open.{innermost, around, changed}
-use Rattle.nf_spelled.specs.Fit.{ends_well, is_one_line, FitToken, is_text}
-use Rattle.nf_spelled.proofs.Endings.{is_slash_next, is_no_comment}
+use Rattle.nf_reread.specs.Fits.{ends_well}
+use Rattle.nf_spelled.specs.Fit.{FitToken, is_text}
+use Rattle.nf_spelled.proofs.Endings.{is_one_line, is_slash_next, is_no_comment}
 
 -- ---- what is open
 

@@ -20,7 +20,8 @@ use Rattle.nf_lexer.specs.Place.{place_of}
 use Rattle.nf_lexer.specs.Separators.{Piece, settled}
 use Rattle.nf_lexer.specs.First.{has_escapes, in_open, broken_or, fault_at, first}
 use Rattle.nf_lexer.specs.Tokens.{Reads, ends, breaks, goes, at_start, IsTokensOf}
-use Rattle.nf_spelled.specs.Fit.{token_of, FitToken, is_text, no_two_texts}
+use Rattle.nf_reread.specs.Bits.{token_of}
+use Rattle.nf_spelled.specs.Fit.{FitToken, is_text, no_two_texts}
 use Rattle.nf_spelled.proofs.Settles.{FitPiece, Apart, settled_fit, settled_apart}
 use Rattle.nf_spelled.proofs.Keeps.{no_strings, Holding, after, FitItem, Goes}
 use Rattle.nf_spelled.proofs.Between.{code_goes, named_goes, line_comment_goes, comment_goes}
@@ -95,7 +96,7 @@ item_fits held line_end place v f u h = ((tt, h.0), h.1)
 item_fits held (written w) place v f u h = h
 item_fits nothing (lexed x) place v f u h = ((f.0, h.0), (λ e. never (is_text x) f.1 e, h.1))
 item_fits (text start []) (lexed x) place v f u h = ((f.0, h.0), (λ e. never (is_text x) f.1 e, h.1))
-item_fits (text start (b ∷ w)) (lexed x) place v f u h = (((u, refl), (f.0, h.0)), (λ _. ap not f.1, (λ e. never (is_text x) f.1 e, h.1)))
+item_fits (text start (b ∷ w)) (lexed x) place v f u h = ((record { utf8 = u; some = refl }, (f.0, h.0)), (λ _. ap not f.1, (λ e. never (is_text x) f.1 e, h.1)))
 item_fits nothing (string_end k) place v f u h = ((f, h.0), (λ e. absurd cc, h.1))
 item_fits (text start w) (string_end k) place v f u h = ((f, h.0), (λ e. absurd cc, h.1))
 item_fits nothing pattern_end place v f u h = ((f, h.0), (λ e. absurd cc, h.1))

@@ -6,7 +6,8 @@ use Rattle.nf_lexer.specs.declared.token.Token.{Token}
 use Rattle.nf_lexer.specs.declared.token.Token.TheVariants as t
 use Rattle.nf_lexer.specs.declared.token.Lexeme.{Lexeme}
 use Rattle.nf_lexer.specs.Separators.{Piece, lexed, line_end_at, is_separator, is_after_separator, line_end_separates, separator, is_extra, settled}
-use Rattle.nf_spelled.specs.Fit.{token_of, FitToken, is_text, begins_with_text, no_two_texts}
+use Rattle.nf_reread.specs.Bits.{token_of}
+use Rattle.nf_spelled.specs.Fit.{FitToken, is_text, begins_with_text, no_two_texts}
 
 -- each piece is a fit token or a line end
 abbrev pub FitPiece : Piece → Type 0

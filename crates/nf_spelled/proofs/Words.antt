@@ -21,7 +21,8 @@ use Rattle.nf_lexer.specs.Spellings.{keywords}
 use Rattle.nf_lexer.specs.Word.{keyword_in, keyword_or_name, word_token, word, limit, number}
 use Rattle.nf_lexer.specs.Mark.{brace_token, mark_token, leaves_round, leaves_square, mark_change, marked}
 use Rattle.nf_lexer.proofs.Runs.{all_of_run}
-use Rattle.nf_spelled.specs.Fit.{is_word, FitToken, is_text}
+use Rattle.nf_reread.specs.Fits.{is_word}
+use Rattle.nf_spelled.specs.Fit.{FitToken, is_text}
 use Rattle.nf_spelled.proofs.Endings.{join}
 use Rattle.nf_spelled.proofs.Keeps.{no_strings, Goes, if_goes, strings_around}
 
@@ -33,7 +34,7 @@ FitAlone x = FitToken x × (is_text x ≡ false)
 
 fit_by : (w : List ℕ) (x : Option Keyword) → keyword_in keywords w ≡ x → is_word w ≡ true → FitAlone (keyword_or_name x w)
 fit_by w (Some k) e h = (tt, refl)
-fit_by w None e h = ((h, ap is_none e), refl)
+fit_by w None e h = (record { word = h; no_keyword = ap is_none e }, refl)
 
 word_fits : (w : List ℕ) → is_word w ≡ true → FitAlone (word_token w)
 unfolding word_token
@@ -59,7 +60,7 @@ pub number_goes : (o : List Open) (bs : List ℕ) (place : Place) → no_strings
 unfolding number
 number_goes o bs place g =
     if_goes o bs nothing place (nat_lt limit (digits_value 10 (take_while is_ascii_digit bs))) _ _ (λ _. tt)
-    (λ h. (((digits_value 10 (take_while is_ascii_digit bs), refl, not_over (digits_value 10 (take_while is_ascii_digit bs)) h), refl), g))
+    (λ h. ((not_over (digits_value 10 (take_while is_ascii_digit bs)) h, refl), g))
 
 -- ---- marks
 
