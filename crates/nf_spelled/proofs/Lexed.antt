@@ -1,9 +1,8 @@
 -- Every token of a text is fit, and no two texts of a template stand in a row.
-use Rattle.std.proofs.Common.{◌≡◌, ℕ, Bool, true, false, cond, List, [], ◌∷◌, length, map, All, Option, Some, None, refl, sym, ap, subst}
+use Rattle.std.proofs.Common.{◌≡◌, ℕ, Bool, true, false, cond, List, [], ◌∷◌, length, Option, Some, None, refl, sym, ap, subst}
 use Rattle.std.specs.Prelude.{nat_eq, not, ◌==◌, codes}
-use Rattle.std.specs.List.{AllByRecursion, starts_with}
+use Rattle.std.specs.List.{starts_with}
 use Rattle.std.specs.Str.{IsUtf8}
-use Rattle.std.proofs.lemmas.List.Elements.{All-from_recursion}
 use Rattle.nf_value.specs.declared.place.Place.{Place}
 use Rattle.nf_lexer.specs.declared.fault.LexFault.{LexFault}
 use Rattle.nf_lexer.specs.declared.fault.LexFault.TheVariants.{OpenString}
@@ -17,12 +16,10 @@ use Rattle.nf_lexer.specs.Front.{Item, silent, line_end, written, lexed, string_
 use Rattle.nf_lexer.specs.Joined.{Placed, at, Held, nothing, text, joined}
 use Rattle.nf_lexer.specs.Open.{innermost, outermost, line_fault, end_fault, rather}
 use Rattle.nf_lexer.specs.Place.{place_of}
-use Rattle.nf_lexer.specs.Separators.{Piece, settled}
 use Rattle.nf_lexer.specs.First.{has_escapes, in_open, broken_or, fault_at, first}
 use Rattle.nf_lexer.specs.Tokens.{Reads, ends, breaks, goes, at_start, IsTokensOf}
-use Rattle.nf_reread.specs.Bits.{token_of}
-use Rattle.nf_spelled.specs.Fit.{FitToken, is_text, no_two_texts}
-use Rattle.nf_spelled.proofs.Settles.{FitPiece, Apart, settled_fit, settled_apart}
+use Rattle.nf_spelled.specs.Fit.{is_text, AreFit}
+use Rattle.nf_spelled.proofs.Settles.{FitPieces, settled_fit}
 use Rattle.nf_spelled.proofs.Keeps.{no_strings, Holding, after, FitItem, Goes}
 use Rattle.nf_spelled.proofs.Between.{code_goes, named_goes, line_comment_goes, comment_goes}
 use Rattle.nf_spelled.proofs.Inside.{text_goes}
@@ -83,28 +80,25 @@ held_utf8 : (o : List Open) (bs : List ℕ) (held : Held) → Holding o bs held 
 held_utf8 o bs nothing g = tt
 held_utf8 o bs (text start w) g = g.1
 
-abbrev FitPieces : List Piece → Type 0
-FitPieces ps = AllByRecursion FitPiece ps × Apart ps
-
 never : {A : Type 0} (c : Bool) → c ≡ false → c ≡ true → A
 never true h k = absurd cc
 never false h k = absurd cc
 
 item_fits : (held : Held) (item : Item) (place : Place) (v : List Placed) → FitItem held item → HeldUtf8 held → FitPieces (joined (after held item place) v) → FitPieces (joined held (at item place ∷ v))
 item_fits held silent place v f u h = h
-item_fits held line_end place v f u h = ((tt, h.0), h.1)
+item_fits held line_end place v f u h = h
 item_fits held (written w) place v f u h = h
-item_fits nothing (lexed x) place v f u h = ((f.0, h.0), (λ e. never (is_text x) f.1 e, h.1))
-item_fits (text start []) (lexed x) place v f u h = ((f.0, h.0), (λ e. never (is_text x) f.1 e, h.1))
-item_fits (text start (b ∷ w)) (lexed x) place v f u h = ((record { utf8 = u; some = refl }, (f.0, h.0)), (λ _. ap not f.1, (λ e. never (is_text x) f.1 e, h.1)))
-item_fits nothing (string_end k) place v f u h = ((f, h.0), (λ e. absurd cc, h.1))
-item_fits (text start w) (string_end k) place v f u h = ((f, h.0), (λ e. absurd cc, h.1))
-item_fits nothing pattern_end place v f u h = ((f, h.0), (λ e. absurd cc, h.1))
-item_fits (text start w) pattern_end place v f u h = ((f, h.0), (λ e. absurd cc, h.1))
+item_fits nothing (lexed x) place v f u h = (f.0, λ e. never (is_text x) f.1 e, h)
+item_fits (text start []) (lexed x) place v f u h = (f.0, λ e. never (is_text x) f.1 e, h)
+item_fits (text start (b ∷ w)) (lexed x) place v f u h = (record { utf8 = u; some = refl }, λ _. ap not f.1, (f.0, λ e. never (is_text x) f.1 e, h))
+item_fits nothing (string_end k) place v f u h = (f, λ e. absurd cc, h)
+item_fits (text start w) (string_end k) place v f u h = (f, λ e. absurd cc, h)
+item_fits nothing pattern_end place v f u h = (f, λ e. absurd cc, h)
+item_fits (text start w) pattern_end place v f u h = (f, λ e. absurd cc, h)
 
 joined_fit : {text : List ℕ} {o : List Open} {bs : List ℕ} {v : List Placed} {e : Option LexFault} → Reads text o bs v e → (held : Held) → Holding o bs held → FitPieces (joined held v)
-joined_fit (ends e) held g = (tt, tt)
-joined_fit (breaks e) held g = (tt, tt)
+joined_fit (ends e) held g = tt
+joined_fit (breaks e) held g = tt
 joined_fit {text = source} {o} {bs} (goes {v = v} {item = item} {change = change} {n = n} e r) held g =
     let place = place_of source (length bs) in
     let k : Goes o bs held place (passes item change n) = subst (Goes o bs held place) e (first_goes o place bs held g) in
@@ -120,15 +114,6 @@ start_strings : (source : List ℕ) → no_strings (at_start source) ≡ true
 unfolding at_start
 start_strings source = if_no_strings (starts_with nat_eq source (codes "#!"))
 
-pub lexed_fit : (source : List ℕ) (t : List Lexeme × Place) → IsTokensOf source t → AllByRecursion FitToken (map token_of t.0) × (no_two_texts (map token_of t.0) ≡ true)
-lexed_fit source t p =
-    let ps = joined_fit p.reads nothing (start_strings source) in
-    let fit : AllByRecursion FitToken (map token_of (settled [] (joined nothing p.items))) = settled_fit [] (joined nothing p.items) ps.0 in
-    let apart : no_two_texts (map token_of (settled [] (joined nothing p.items))) ≡ true = settled_apart [] (joined nothing p.items) ps.1 in
-    (subst (λ (z : List Lexeme). AllByRecursion FitToken (map token_of z)) (sym p.tokens) fit, subst (λ (z : List Lexeme). no_two_texts (map token_of z) ≡ true) (sym p.tokens) apart)
-
 -- every token of a text is fit, and no two texts of a template stand in a row
-pub lexed_are_fit : (source : List ℕ) (t : List Lexeme × Place) → IsTokensOf source t → All FitToken (map token_of t.0) × (no_two_texts (map token_of t.0) ≡ true)
-lexed_are_fit source t p =
-    let fit = lexed_fit source t p in
-    (All-from_recursion FitToken (map token_of t.0) fit.0, fit.1)
+pub lexed_are_fit : (source : List ℕ) (t : List Lexeme × Place) → IsTokensOf source t → AreFit t.0
+lexed_are_fit source t p = subst AreFit (sym p.tokens) (settled_fit [] (joined nothing p.items) (joined_fit p.reads nothing (start_strings source)))

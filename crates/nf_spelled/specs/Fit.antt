@@ -1,10 +1,11 @@
--- What the tokens of a text hold.
-use Rattle.std.specs.Prelude.{Bool, true, false, not, ◌&&◌, List, [], ◌∷◌}
+-- What tokens of a text hold.
+use Rattle.std.specs.Prelude.{◌≡◌, Bool, true, false, ◌&&◌, List, [], ◌∷◌}
 use Rattle.nf_lexer.specs.declared.token.Token.{Token}
 use Rattle.nf_lexer.specs.declared.token.Token.TheVariants as t
+use Rattle.nf_lexer.specs.declared.token.Lexeme.{Lexeme}
 use Rattle.nf_reread.specs.Fits.{IsName, IsNumber, IsPlain, IsSlashed, IsPiece}
 
--- what a token holds can be printed and read again: a name is a word and no keyword, a number is within its limit, and a string is what its kind can spell
+-- a name is a word and no keyword, a number is within its limit, and a string holds what its kind can spell
 abbrev pub FitToken : Token → Type 0
 FitToken (t.Name s) = IsName s
 FitToken (t.Number n) = IsNumber n
@@ -17,11 +18,11 @@ abbrev pub is_text : Token → Bool
 is_text (t.TemplateText s) = true
 is_text _ = false
 
-abbrev pub begins_with_text : List Token → Bool
-begins_with_text [] = false
-begins_with_text (x ∷ v) = is_text x
+abbrev pub text_next : List Lexeme → Bool
+text_next [] = false
+text_next (x ∷ ts) = is_text x.token
 
--- no text of a template stands directly after one
-abbrev pub no_two_texts : List Token → Bool
-no_two_texts [] = true
-no_two_texts (x ∷ v) = not (is_text x && begins_with_text v) && no_two_texts v
+-- each is fit, and no text of a template stands right after another
+abbrev pub AreFit : List Lexeme → Type 0
+AreFit [] = Unit {0}
+AreFit (x ∷ ts) = FitToken x.token × ((is_text x.token && text_next ts) ≡ false) × AreFit ts
