@@ -21,8 +21,9 @@ use Rattle.nf_lexer.specs.Spellings.{closing}
 use Rattle.nf_lexer.specs.Word.{begins_property}
 use Rattle.nf_lexer.specs.Mark.{mark}
 use Rattle.nf_lexer.specs.First.{opens, quote, slash, tilde, in_code, in_named_hole, in_line_comment, star, in_comment}
+use Rattle.nf_reread.proofs.Cuts.{drop_nothing}
 use Rattle.nf_spelled.proofs.Endings.{is_no_comment}
-use Rattle.nf_spelled.proofs.Keeps.{no_strings, Within, Goes, if_goes, strings_around, drop_nothing}
+use Rattle.nf_spelled.proofs.Keeps.{no_strings, Within, Goes, if_goes, strings_around}
 use Rattle.nf_spelled.proofs.Words.{word_goes, number_goes, marked_goes}
 
 -- ---- where strings begin

@@ -7,18 +7,11 @@ use Rattle.std.proofs.lemmas.Bool.Decides.{nat_tests, Decides-eqb}
 use Rattle.std.proofs.lemmas.List.Folds.{list_all-append}
 use Rattle.nf_lexer.specs.Bytes.{is_not_line_feed, is_ordinary}
 use Rattle.nf_reread.specs.Fits.{ends_well}
-
-pub both : (a b : Bool) → (a && b) ≡ true → (a ≡ true) × (b ≡ true)
-both true b h = (refl, h)
-both false b h = absurd cc
+use Rattle.nf_reread.proofs.Tests.{both}
 
 pub join : (a b : Bool) → a ≡ true → b ≡ true → (a && b) ≡ true
 join true b h k = k
 join false b h k = absurd cc
-
-pub not_true : (c : Bool) → not c ≡ true → c ≡ false
-not_true true h = absurd cc
-not_true false h = refl
 
 -- ---- the last byte
 

@@ -22,7 +22,8 @@ use Rattle.nf_lexer.specs.Escape.{escaped, hex_number, character, written_or_bad
 use Rattle.nf_lexer.specs.First.{ended, has_escapes, has_holes, hole, in_text}
 use Rattle.nf_lexer.proofs.Runs.{all_of_run}
 use Rattle.nf_reread.specs.Fits.{ends_well, begins_slashed, IsSlashed}
-use Rattle.nf_spelled.proofs.Endings.{both, join, ends_on, run_ends, run_line, line_on, is_one_line, one_line, is_slash_next, is_no_comment, slash_first}
+use Rattle.nf_reread.proofs.Tests.{both}
+use Rattle.nf_spelled.proofs.Endings.{join, ends_on, run_ends, run_line, line_on, is_one_line, one_line, is_slash_next, is_no_comment, slash_first}
 use Rattle.nf_spelled.proofs.Keeps.{Holding, Sound, is_begun, Within, Goes, if_goes, held_around, adds}
 use Rattle.nf_spelled.proofs.Escapes.{byte_utf8, escaped_utf8, character_utf8}
 

@@ -101,10 +101,6 @@ held_around o bs (text start w) h = h.0
 
 -- ---- bytes that are added
 
-pub drop_nothing : (bs : List ℕ) → drop 0 bs ≡ bs
-drop_nothing [] = refl
-drop_nothing (b ∷ bs) = refl
-
 -- a string's bytes and these, where all stays as it is to be
 pub adds : (k : TextKind) (p : Place) (o : List Open) (bs rest x : List ℕ) (held : Held) (place : Place) → IsUtf8 x → ((w : List ℕ) → Within k bs w → Within k rest (w ++ x)) → Holding (Text k p ∷ o) bs held → Holding (Text k p ∷ o) rest (more held place x)
 adds (Plain Single) p o bs rest x nothing place u h g = absurd cc

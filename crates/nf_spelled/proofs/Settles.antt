@@ -5,6 +5,7 @@ use Rattle.nf_lexer.specs.declared.token.Token.{Token}
 use Rattle.nf_lexer.specs.declared.token.Token.TheVariants as t
 use Rattle.nf_lexer.specs.declared.token.Lexeme.{Lexeme}
 use Rattle.nf_lexer.specs.Separators.{Piece, lexed, line_end_at, is_separator, is_after_separator, line_end_separates, separator, is_extra, settled}
+use Rattle.nf_reread.proofs.Tests.{not_not}
 use Rattle.nf_spelled.specs.Fit.{FitToken, is_text, text_next, AreFit}
 
 -- a token comes first that is no text, or nothing
@@ -30,10 +31,6 @@ not_both : (a b : Bool) → b ≡ false → (a && b) ≡ false
 not_both true b h = h
 not_both false b h = refl
 
-no_text : (t : Bool) → not t ≡ true → t ≡ false
-no_text true h = absurd cc
-no_text false h = refl
-
 if_goes_on : (c : Bool) (u v : List Lexeme) → c ≡ false → text_next v ≡ false → text_next (cond c u v) ≡ false
 if_goes_on true u v h k = absurd cc
 if_goes_on false u v h k = k
@@ -43,7 +40,7 @@ settled_goes_on : (before : List Lexeme) (x : Lexeme) (ps : List Piece) → is_t
 settled_goes_on before x [] h k = refl
 settled_goes_on before x (lexed y ∷ rest) h k =
     if_goes_on (is_extra (x ∷ before) y) (settled (x ∷ before) rest) (y ∷ settled (y ∷ x ∷ before) rest)
-    (not_both (is_separator y.token) (is_separator x.token) (text_parts x.token h)) (no_text (is_text y.token) k)
+    (not_both (is_separator y.token) (is_separator x.token) (text_parts x.token h)) (not_not (is_text y.token) k)
 settled_goes_on before x (line_end_at place ∷ rest) h k = absurd cc
 
 -- ---- the tokens
