@@ -1,0 +1,2 @@
+//! The tree that the tokens of a canonical text spell.
+#![tactic(auto)]
