@@ -69,9 +69,6 @@ er_name = er_token name_erases
 er_maybe : {h i : Gram} (c : List Lexeme → Bool) → Blind c → Erases h i → Erases (g.maybe h c) (g.maybe i c)
 er_maybe c b e = er_either e (er_where b (er_gives refl))
 
-er_then : {h i : Gram} (a : Tree) → Erases h i → Erases (h >>= λ s. gives a) (i >>= λ s. gives (bare a))
-er_then a e = er_bind e (λ s. er_gives refl)
-
 er_comma_then : {h i : Gram} (n : ℕ) (acc : Tree) → Erases h i → Erases (g.comma_then h n acc) (g.comma_then i n (bare acc))
 er_comma_then n acc e = er_bind (er_mark m.Comma) (λ c. er_bind e (λ b. er_gives (snoc_bare acc b)))
 

@@ -58,10 +58,6 @@ pub more_closes : (xs : Tree) (l : Layout) (tl : List Lexeme) → Closes tl → 
 more_closes (cons x xs) l tl c = by_comma
 more_closes _ l tl c = c
 
-pub next_closes : (xs : Tree) (l : Layout) (tl : List Lexeme) → Closes tl → Closes (next_parts xs l tl)
-next_closes (cons x xs) l tl c = by_separator
-next_closes _ l tl c = c
-
 module _ (g : Gram) (l : Layout) (end : List Lexeme → Bool) where
   -- after the first, up to where the test holds
   pub more_read : {xs acc : Tree} (n : ℕ) (tl : List Lexeme) → Each (Plain g l) xs → IsRow acc → Closes tl → end tl ≡ true → Reads rules (many end (comma_then g) n acc) (spelt.more xs l tl) (joined acc (bare xs)) tl

@@ -71,17 +71,6 @@ statements_section (some {x = x} p q) tl e = statements_read x p q 1 inside (sep
 
 -- ---- directives
 
-or_left : (a b : Bool) → (a || b) ≡ false → a ≡ false
-or_left true b e = e
-or_left false b e = refl
-
-or_right : (a b : Bool) → (a || b) ≡ false → b ≡ false
-or_right true b e = absurd (let g : true ≡ false = e in cc)
-or_right false b e = e
-
-no_round : List Lexeme → Bool
-no_round = no_next (mark_of m.OpenRound)
-
 held_round : (b c : Bool) (h : List Lexeme → List Lexeme) (us : List Lexeme) → (b || c) ≡ false → (c ≡ false → no_next (mark_of m.OpenRound) (h us) ≡ true) → no_next (mark_of m.OpenRound) (held b h us) ≡ true
 held_round true c h us e k = absurd (let g : true ≡ false = e in cc)
 held_round false c h us e k = k e

@@ -31,9 +31,6 @@ use Rattle.nf_reparse.proofs.Sections.{lines_read, statements_section, main_sect
 
 -- ---- which section comes
 
-end_of : Tree → List Lexeme → List Lexeme
-end_of s tl = body_of (codes "stub") s (mark m.CloseBrace tl)
-
 stub_ends : {s : Tree} → Shaped (sort.maybe (sort.section (sort.row sort.statement))) s → (tl : List Lexeme) → body_ends (body_of (codes "stub") s (mark m.CloseBrace tl)) ≡ true
 stub_ends sort.absent tl = refl
 stub_ends (sort.present (sort.section_of h)) tl = refl
