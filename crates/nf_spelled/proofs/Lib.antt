@@ -7,3 +7,9 @@ pub mod Between
 pub mod Escapes
 pub mod Inside
 pub mod Lexed
+pub mod Steps
+pub mod Tokens
+pub mod Pieces
+pub mod Exprs
+pub mod Tops
+pub mod Whole
