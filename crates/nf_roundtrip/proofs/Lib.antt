@@ -1,0 +1,4 @@
+pub mod Places
+pub mod TopPlaces
+pub mod Told
+pub mod Reading

@@ -1,0 +1,9 @@
+//! Formatting a script and reading what was written: it is the script again.
+#![tactic(auto)]
+
+mod again;
+pub mod laws;
+#[cfg(test)]
+mod tests;
+
+pub use again::{Again, read_again};
