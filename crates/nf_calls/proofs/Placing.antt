@@ -8,7 +8,7 @@ use Rattle.nf_value.specs.declared.fault.EvalRefusal.{EvalRefusal}
 use Rattle.nf_texts.specs.declared.fault.CallFault.{CallFault}
 use Rattle.nf_texts.specs.declared.fault.CallFault.TheVariants as call
 use Rattle.nf_texts.specs.Outcome.{Outcome, Gives, limited, ◌>>=◌}
-use Rattle.nf_eval.specs.Placed.{Evaluates, made, at_place, placed_of}
+use Rattle.nf_calls.specs.Placed.{Evaluates, made, at_place, placed_of}
 
 made_is : (p : Place) (o : Outcome) → made p o ≡ at_place p (o >>= limited)
 made_is p (Ok x) = refl

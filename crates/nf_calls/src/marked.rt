@@ -2,16 +2,18 @@
 
 ghost use Rattle.nf_value.specs.View.{plain_of};
 ghost use Rattle.nf_texts.specs.Outcome.{Gives};
-ghost use Rattle.nf_eval.specs.Placed.{Evaluates, made};
-ghost use Rattle.nf_eval.specs.Marked.{infix_of, prefix_of};
+ghost use Rattle.nf_marks.specs.Compare.{matches as matches_of};
+ghost use Rattle.nf_calls.specs.Placed.{Evaluates, made};
+ghost use Rattle.nf_calls.specs.Marked.{infix_of, prefix_of};
 
 use crate::places::placed;
 use nf_ast::{InfixMark, PrefixMark};
 use nf_builtins::CallFault;
 use nf_marks::{
-    at_least, at_most, differs, greater, is_in, less, minus, negative, plus, range, remainder,
-    same, times,
+    at_least, at_most, differs, greater, is_in, less, matches, minus, negative, plus, range,
+    remainder, same, times,
 };
+use nf_pattern::WholeRe;
 use nf_value::{EvalKind, EvalRefusal, Place, Value, truth};
 use std::alloc::Global;
 
@@ -54,6 +56,23 @@ fn between(alloc: Global, mark: InfixMark, left: Value, right: Value) -> Result<
             Err(CallFault::Kind(EvalKind::WrongKind))
         }
     }
+}
+
+/// `a ==~ re` at the place of the mark: whether a whole text matches a regular expression (Nextflow reference documentation, "Syntax", "Binary
+/// expressions").
+///
+/// # Errors
+///
+/// `WrongKind` at its place where the value is no text (own). `Mem` for want of memory, which each search needs for itself.
+pub fn matches_value(
+    alloc: Global,
+    place: Place,
+    value: &Value,
+    re: &WholeRe,
+) -> Result<Value, EvalRefusal>
+    ensures { Evaluates (made place (matches_of (plain_of value.now) re.now)) result }
+{
+    placed(place, matches(alloc, value, re))
 }
 
 /// What a mark before a value gives (Nextflow reference documentation, "Syntax", "Unary expressions").

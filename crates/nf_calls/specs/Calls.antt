@@ -14,8 +14,8 @@ use Rattle.nf_texts.specs.Args.{items_of}
 use Rattle.nf_builtins.specs.Call.{builtin_rows, answer_of}
 use Rattle.nf_builtins.specs.Lists.{list_of}
 use Rattle.nf_builtins.specs.Method.{method_name}
-use Rattle.nf_eval.specs.Placed.{Placed, ◌>>=◌, fault, made}
-use Rattle.nf_eval.specs.Scope.{Env, Function, function_in}
+use Rattle.nf_calls.specs.Placed.{Placed, ◌>>=◌, fault, made}
+use Rattle.nf_calls.specs.Scope.{Env, Function, function_in}
 
 -- an argument: a value, or what a closure gives for its own arguments
 pub data Argument : Type 0 where
@@ -134,13 +134,18 @@ abbrev pub answered : Place → Option Plain → Placed Plain
 answered p (Some v) = Ok v
 answered p None = fault Native p
 
-abbrev pub by_title : Option ℕ → Place → Env → List Plain → Placed Plain
-by_title None p env vs = fault NoMethod p
-by_title (Some id) p env vs = answered p (env.answer id vs)
+-- a function of the program, by its number
+abbrev pub by_title : Option ℕ → Place → (ℕ → List Plain → Option Plain) → List Plain → Placed Plain
+by_title None p answer vs = fault NoMethod p
+by_title (Some id) p answer vs = answered p (answer id vs)
+
+-- a function of the program, by its name
+abbrev pub native_call : Place → List ℕ → List (List ℕ) → (ℕ → List Plain → Option Plain) → List Plain → Placed Plain
+native_call p n titles answer vs = by_title (id_from 0 n titles) p answer vs
 
 abbrev pub by_function : Option Function → Place → List ℕ → Env → List Plain → Placed Plain
 by_function (Some f) p n env vs = if length vs == f.arity then f.gives vs else fault Arity p
-by_function None p n env vs = by_title (id_from 0 n env.titles) p env vs
+by_function None p n env vs = native_call p n env.titles env.answer vs
 
 -- a function of the script, or else one of the program's
 abbrev pub function_call : Place → List ℕ → Env → List Argument → Placed Plain
