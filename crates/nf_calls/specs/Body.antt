@@ -1,5 +1,6 @@
 -- What parameters, patterns and statements do to names.
 use Rattle.std.specs.Prelude.{◌≡◌, ℕ, ◌==◌, nat_lt, ◌&&◌, Bool, false, List, [], ◌∷◌, length, map, codes, if◌then◌else◌, Option, Some, None, Result, Ok, Err}
+use Rattle.std.specs.Global.{Vec}
 use Rattle.std.specs.Str.{bytes_eq}
 use Rattle.nf_value.specs.Plain.{Plain, null, truth, int, text, file, list, table}
 use Rattle.nf_value.specs.View.{pair_of}
@@ -88,7 +89,7 @@ with_all [] env = env
 with_all (b ∷ bs) env = with_all bs (defined b.0 b.1 env)
 
 -- the call gives these names with their values, or has this fault; want of memory is free
-abbrev pub Binds : Placed (List (List ℕ × Plain)) → Result (List (List ℕ × Value)) EvalRefusal → Type 0
-Binds o (Ok bs) = o ≡ Ok (map pair_of bs)
+abbrev pub Binds : Placed (List (List ℕ × Plain)) → Result (Vec (List ℕ × Value)) EvalRefusal → Type 0
+Binds o (Ok bs) = o ≡ Ok (map pair_of bs.items)
 Binds o (Err (refusal.Fault e)) = o ≡ Err e
 Binds o (Err refusal.Mem) = Unit {0}

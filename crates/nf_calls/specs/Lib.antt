@@ -3,3 +3,5 @@ pub mod Marked
 pub mod Scope
 pub mod Calls
 pub mod Body
+pub mod Row
+pub mod Blocks
