@@ -4,11 +4,9 @@ use Rattle.std.specs.Str.{bytes_eq}
 use Rattle.std.proofs.Math.ListN.{drop_of_length-le}
 use Rattle.std.proofs.lemmas.Option.{none-some, same_Some}
 use Rattle.nf_value.specs.Plain.{Plain}
-use Rattle.nf_value.specs.View.{plain_of}
 use Rattle.nf_value.specs.declared.place.Place.{Place}
 use Rattle.nf_value.specs.declared.value.Value.{Value}
 use Rattle.nf_value.specs.declared.fault.EvalRefusal.{EvalRefusal}
-use Rattle.nf_value.specs.declared.fault.EvalKind.TheVariants.{Native}
 use Rattle.nf_texts.specs.declared.fault.CallFault.{CallFault}
 use Rattle.nf_texts.specs.declared.fault.CallFault.TheVariants as call
 use Rattle.nf_builtins.specs.Natives.{AnswersNative}

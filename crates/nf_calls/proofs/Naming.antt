@@ -11,7 +11,7 @@ use Rattle.nf_value.specs.declared.fault.EvalKind.TheVariants.{Arity}
 use Rattle.nf_value.specs.declared.fault.EvalRefusal.{EvalRefusal}
 use Rattle.nf_value.specs.declared.fault.EvalRefusal.TheVariants as refusal
 use Rattle.nf_texts.proofs.Inside.{items_of-plains_of}
-use Rattle.nf_value.specs.View.{plain_of, pair_of}
+use Rattle.nf_value.specs.View.{plain_of}
 use Rattle.nf_value.specs.declared.place.Place.{Place}
 use Rattle.nf_value.specs.declared.value.Value.{Value}
 use Rattle.nf_ast.specs.View.{names}

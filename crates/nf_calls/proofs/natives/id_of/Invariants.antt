@@ -1,4 +1,4 @@
-use Rattle.std.proofs.Common.{◌≡◌, ◌≤◌, drop, length}
+use Rattle.std.proofs.Common.{◌≡◌, drop}
 use Rattle.nf_calls.specs.Calls.{id_from}
 use Rattle.nf_calls.proofs.natives.id_of.Given as goal
 

@@ -1,4 +1,3 @@
-use Rattle.std.proofs.Common.{sym}
 use Rattle.nf_calls.proofs.Finding.{none_named, one_named}
 use Rattle.nf_calls.proofs.rows.row_named.Goals as goal
 
