@@ -10,15 +10,16 @@ use Rattle.nf_ast.specs.declared.marks.InfixMark.TheVariants as mark
 use Rattle.nf_ast.specs.declared.marks.PrefixMark.TheVariants as before
 use Rattle.nf_ast.specs.Tree as tree
 use Rattle.nf_ast.specs.Tree.{Tree, empty, cons}
-use Rattle.nf_eval.specs.Placed.{fault}
-use Rattle.nf_eval.specs.Scope.{Env}
+use Rattle.nf_marks.specs.Compare.{matches}
+use Rattle.nf_calls.specs.Placed.{fault, made}
+use Rattle.nf_calls.specs.Scope.{Env}
 use Rattle.nf_eval.specs.Evaluation.{Closing, eval_of, apply_of, branch_of, labels_of}
 
 abbrev at : ℕ → Place
 at k = record { line = 1; col = k }
 
 abbrev x_is_ten : Env
-x_is_ten = record { names = (codes "x", int (pos 10)) ∷ []; functions = []; titles = codes "one" ∷ []; answer = λ k vs. Some (int (pos 1)); in_process = false }
+x_is_ten = record { names = (codes "x", int (pos 10)) ∷ []; captured = []; functions = []; patterns = codes "a+" ∷ []; titles = codes "one" ∷ []; answer = λ k vs. Some (int (pos 1)); in_process = false }
 
 abbrev one : Tree
 one = tree.number (at 1) (pos 1)
@@ -127,9 +128,12 @@ keys : eval_of (tree.index (at 9) (tree.map (at 6) (cons (tree.pair (tree.name (
 unfolding digits
 keys = refl
 
--- `if (it) { def y = 1; x = 2; return x } 3`
+abbrev y : Tree
+y = tree.name (at 3) (codes "y")
+
+-- `if (it) { def y = 1; y = 2; return y } 3`
 abbrev returns_in_arm : Tree
-returns_in_arm = cons (tree.choice (at 1) it (tree.statements (cons (tree.define (at 2) (tree.name (at 3) (codes "y")) one) (cons (tree.assign x two) (cons (tree.return_ (at 4) x) empty)))) empty) (cons (tree.number (at 5) (pos 3)) empty)
+returns_in_arm = cons (tree.choice (at 1) it (tree.statements (cons (tree.define (at 2) y one) (cons (tree.assign y two) (cons (tree.return_ (at 4) y) empty)))) empty) (cons (tree.number (at 5) (pos 3)) empty)
 
 abbrev closing : Tree → Tree → Closing
 closing names b = record { place = at 7; params = names; body = b; env = x_is_ten }
@@ -170,6 +174,29 @@ no_statement = refl
 split : apply_of (closing empty (cons (tree.define_all (at 1) (cons (tree.name (at 1) (codes "a")) (cons (tree.name (at 2) (codes "b")) empty)) it) (cons (tree.name (at 3) (codes "b")) empty))) (list (plains_of (null ∷ null ∷ null ∷ [])) ∷ []) ≡ fault Arity (at 1)
 unfolding digits
 split = refl
+
+-- a closure sees the names around it: `{ def y = 1; [1, 2].collect { it + y } }`
+sees_around : apply_of (closing empty (cons (tree.define (at 2) y one) (cons (tree.call_with (tree.property both_numbers (tree.name (at 8) (codes "collect"))) (block_of (tree.binary (at 9) mark.Plus it y))) empty))) (null ∷ []) ≡ Ok (list (plains_of (int (pos 2) ∷ int (pos 3) ∷ [])))
+unfolding digits
+sees_around = refl
+
+-- a name that is only captured keeps its value: `{ x = 2; x }`
+captured : apply_of (closing empty (cons (tree.assign x two) (cons x empty))) (null ∷ []) ≡ Ok (int (pos 10))
+unfolding digits
+captured = refl
+
+-- a pattern that isn't built is of the wrong kind, after what is matched against it; one that is built is looked for in the text
+not_built : eval_of (tree.binary (at 9) mark.Matches (tree.text (at 1) kind.Single (codes "b")) (tree.pattern (at 3) (codes "b"))) x_is_ten ≡ fault WrongKind (at 9)
+unfolding digits
+not_built = refl
+
+before_the_pattern : eval_of (tree.binary (at 9) mark.Matches (zero_div 8) (tree.pattern (at 3) (codes "b"))) x_is_ten ≡ fault DivZero (at 8)
+unfolding digits
+before_the_pattern = refl
+
+built : eval_of (tree.binary (at 9) mark.Matches (tree.text (at 1) kind.Single (codes "aa")) (tree.pattern (at 3) (codes "a+"))) x_is_ten ≡ made (at 9) (matches (text (codes "aa")) (codes "a+"))
+unfolding digits
+built = refl
 
 -- labels
 abbrev small_or_large : Tree

@@ -1,11 +1,11 @@
 -- What an expression gives in an environment: a value, or one fault with its place, from left to right.
-use Rattle.std.specs.Prelude.{ℕ, pos, ◌+◌, Bool, true, false, List, [], ◌∷◌, ◌++◌, length, codes, if◌then◌else◌, Option, Some, None, Ok}
-use Rattle.std.specs.Str.{bytes_eq}
+use Rattle.std.specs.Prelude.{ℕ, pos, ◌+◌, Bool, true, false, List, [], ◌∷◌, ◌++◌, length, if◌then◌else◌, Option, Some, None, Ok}
 use Rattle.nf_value.specs.Plain.{Plain, null, truth, int, text}
 use Rattle.nf_value.specs.Truth.{truth_of}
 use Rattle.nf_value.specs.declared.place.Place.{Place}
 use Rattle.nf_value.specs.declared.fault.EvalKind.TheVariants.{WrongKind}
 use Rattle.nf_builtins.specs.Lists.{list_of}
+use Rattle.nf_builtins.specs.Natives.{is_among}
 use Rattle.nf_ast.specs.declared.marks.InfixMark.{InfixMark}
 use Rattle.nf_ast.specs.declared.marks.InfixMark.TheVariants as mark
 use Rattle.nf_ast.specs.Tree as tree
@@ -15,11 +15,11 @@ use Rattle.nf_marks.specs.Literal.{new_list, new_map}
 use Rattle.nf_marks.specs.Property.{property}
 use Rattle.nf_marks.specs.Read.{index}
 use Rattle.nf_marks.specs.Template.{hole_text}
-use Rattle.nf_eval.specs.Placed.{Placed, ◌>>=◌, fault, made}
-use Rattle.nf_eval.specs.Marked.{infix_of, prefix_of}
-use Rattle.nf_eval.specs.Scope.{Env, Function, value_of, defined, rebound, left_by}
-use Rattle.nf_eval.specs.Calls.{Argument, plain, block, Callee, nothing, method, function, math, called}
-use Rattle.nf_eval.specs.Body.{Flow, going, returned, value_of_body, name_in, key_text, pattern_in, names_in, bound, paired, with_all, all_defined}
+use Rattle.nf_calls.specs.Placed.{Placed, ◌>>=◌, fault, made}
+use Rattle.nf_calls.specs.Marked.{infix_of, prefix_of}
+use Rattle.nf_calls.specs.Scope.{Env, Function, value_of, defined, rebound, left_by, inside}
+use Rattle.nf_calls.specs.Calls.{Argument, plain, block, Callee, nothing, method, function, math, called}
+use Rattle.nf_calls.specs.Body.{Flow, going, returned, value_of_body, name_in, key_text, pattern_in, is_math, names_in, bound, paired, split, with_all}
 
 -- what arguments give where they stand
 abbrev pub Arguments : Type 0
@@ -95,9 +95,9 @@ either a b env = a env >>= λ v. if truth_of v then Ok (truth true) else b env >
 abbrev pub both : (Env → Placed Plain) → (Env → Placed Plain) → Env → Placed Plain
 both a b env = a env >>= λ v. if truth_of v then (b env >>= λ w. Ok (truth (truth_of w))) else Ok (truth false)
 
--- what is matched against has to be a pattern or a plain string
+-- what is matched against has to be a pattern or a plain string, and built
 abbrev pub matched : Place → (Env → Placed Plain) → Option (List ℕ) → (Env → Placed Plain) → Env → Placed Plain
-matched p a (Some re) b env = a env >>= λ v. made p (matches v re)
+matched p a (Some re) b env = a env >>= λ v. if is_among re env.patterns then made p (matches v re) else fault WrongKind p
 matched p a None b env = a env >>= λ v. b env >>= λ w. fault WrongKind p
 
 abbrev pub binary : Place → InfixMark → (Env → Placed Plain) → Option (List ℕ) → (Env → Placed Plain) → Env → Placed Plain
@@ -108,9 +108,9 @@ binary p k a re b env = a env >>= λ v. b env >>= λ w. made p (infix_of k v w)
 
 -- ---- closures
 
--- what a body gives for arguments, in the names around it
+-- what a body gives for arguments, where the names around it are captured
 abbrev pub closure : Place → Tree → (Env → Plain → Placed Flow) → Env → List Plain → Placed Plain
-closure p ps body env vs = bound p ps vs >>= λ ns. body (with_all ns env) null >>= λ f. Ok (value_of_body f)
+closure p ps body env vs = bound p ps vs >>= λ ns. body (with_all ns (inside env)) null >>= λ f. Ok (value_of_body f)
 
 -- the place of a closure's `{`
 abbrev pub opening : Tree → Place
@@ -118,10 +118,6 @@ opening (tree.closure p ps b) = p
 opening _ = nowhere
 
 -- ---- names that are read
-
-abbrev pub is_math : Tree → Bool
-is_math (tree.name p n) = bytes_eq n (codes "Math")
-is_math _ = false
 
 abbrev pub method_of : Bool → (Env → Placed Plain) → Place → List ℕ → Env → Placed Callee
 method_of true value p n env = Ok (math p n)
@@ -192,7 +188,7 @@ meaning_of (tree.call p f xs) = record (expression (λ env. (meaning_of f).appli
 meaning_of (tree.named n e) = record (expression (meaning_of e).value) { argument = λ env. fault WrongKind (place_of n) }
 meaning_of (tree.call_with f c) = expression (λ env. (meaning_of f).closed (opening c) (λ inner. (meaning_of c).argument inner >>= λ x. Ok (x ∷ [])) env)
 meaning_of (tree.define p n e) = statement (λ env. (meaning_of e).value env >>= λ v. Ok (going (defined (name_in n) v env) null))
-meaning_of (tree.define_all p ns e) = statement (λ env. (meaning_of e).value env >>= λ v. all_defined p (names_in ns) v env >>= λ after. Ok (going after null))
+meaning_of (tree.define_all p ns e) = statement (λ env. (meaning_of e).value env >>= λ v. split p (names_in ns) v >>= λ bs. Ok (going (with_all bs env) null))
 meaning_of (tree.assign n e) = statement (λ env. (meaning_of e).value env >>= λ v. Ok (going (rebound (name_in n) v env) null))
 meaning_of (tree.return_ p e) = statement (λ env. (meaning_of e).value env >>= λ v. Ok (returned v))
 meaning_of (tree.choice p c b last) = statement (λ env. (meaning_of c).value env >>= λ v. chosen (meaning_of b).done (meaning_of last).done env (truth_of v))
@@ -219,14 +215,14 @@ pub record Closing : Type 0 where
   pub env : Env
 
 abbrev pub apply_of : Closing → List Plain → Placed Plain
-apply_of c vs = bound c.place c.params vs >>= λ ns. body_of c.body (with_all ns c.env)
+apply_of c vs = bound c.place c.params vs >>= λ ns. body_of c.body (with_all ns (inside c.env))
 
 -- the number of the first label that is true, from 0, or null; and the values of all labels
 abbrev pub branch_of : Closing → List Plain → Placed Plain
-branch_of c vs = bound c.place c.params vs >>= λ ns. (meaning_of c.body).first_true (with_all ns c.env) 0
+branch_of c vs = bound c.place c.params vs >>= λ ns. (meaning_of c.body).first_true (with_all ns (inside c.env)) 0
 
 abbrev pub labels_of : Closing → List Plain → Placed Plain
-labels_of c vs = bound c.place c.params vs >>= λ ns. (meaning_of c.body).items (with_all ns c.env) >>= λ ws. Ok (list_of ws)
+labels_of c vs = bound c.place c.params vs >>= λ ns. (meaning_of c.body).items (with_all ns (inside c.env)) >>= λ ws. Ok (list_of ws)
 
 -- ---- functions, where each calls only those before it
 
@@ -236,16 +232,18 @@ pub record Definition : Type 0 where
   pub body : Tree
 
 -- what each gives: its body, where its parameters are the only names
-abbrev pub functions_of : List Definition → List (List ℕ) → (ℕ → List Plain → Option Plain) → List Function
-functions_of [] titles answer = []
-functions_of (d ∷ earlier) titles answer = record {
+abbrev pub functions_of : List Definition → List (List ℕ) → List (List ℕ) → (ℕ → List Plain → Option Plain) → List Function
+functions_of [] patterns titles answer = []
+functions_of (d ∷ earlier) patterns titles answer = record {
   name = d.name;
   arity = length d.params;
-  gives = λ vs. body_of d.body (record {
-    names = paired d.params vs;
-    functions = functions_of earlier titles answer;
+  gives = λ vs. body_of d.body (with_all (paired d.params vs) (record {
+    names = [];
+    captured = [];
+    functions = functions_of earlier patterns titles answer;
+    patterns = patterns;
     titles = titles;
     answer = answer;
     in_process = false;
-  });
-} ∷ functions_of earlier titles answer
+  }));
+} ∷ functions_of earlier patterns titles answer

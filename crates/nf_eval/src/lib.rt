@@ -3,15 +3,12 @@
 
 #[cfg(test)]
 mod leaf_tests;
-mod marked;
-mod places;
 mod scope;
 mod sums;
 #[cfg(test)]
 mod tests;
 mod tree;
 
-pub use marked::{infix_value, prefix_value};
 pub use scope::Scope;
 pub use sums::sum;
 pub use tree::{Operand, Sum, SumMark};

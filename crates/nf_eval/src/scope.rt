@@ -3,7 +3,7 @@
 ghost use Rattle.std.specs.Prelude.{◌≡◌, ◌∷◌, ◌-◌, [], MatchOption, OnOk, drop, length};
 ghost use Rattle.nf_value.specs.Plain.{null};
 ghost use Rattle.nf_value.specs.View.{plain_of};
-ghost use Rattle.nf_eval.specs.Scope.{value_in, rebound_in};
+ghost use Rattle.nf_calls.specs.Scope.{value_in, rebound_in};
 ghost use Rattle.nf_eval.specs.Latest.{HasNone, IsLatest};
 
 use nf_value::{Mem, Txt, Value};

@@ -1,0 +1,5 @@
+pub mod Chains
+pub mod Parts
+pub mod Alone
+pub mod Steps
+pub mod Titles

@@ -1,0 +1,4 @@
+pub mod Uses
+pub mod Leaves
+pub mod Chains
+pub mod Bound

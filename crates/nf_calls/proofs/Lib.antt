@@ -1,0 +1,5 @@
+pub mod Placing
+pub mod Finding
+pub mod Arguments
+pub mod Answering
+pub mod Naming

@@ -1,0 +1,21 @@
+//! What calls, marks and the parts of expressions give at their places.
+#![tactic(auto)]
+
+mod blocks;
+mod marked;
+mod methods;
+mod natives;
+mod params;
+mod parts;
+mod places;
+mod rows;
+#[cfg(test)]
+mod tests;
+
+pub use blocks::{BlockMethod, block_method, math_block};
+pub use marked::{infix_value, matches_value, prefix_value};
+pub use methods::{math_value, method_value};
+pub use natives::native_value;
+pub use params::{bound, split};
+pub use parts::{copy_value, index_value, list_value, map_value, property_value, text_value};
+pub use places::{fault_at, placed};

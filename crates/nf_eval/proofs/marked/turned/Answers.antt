@@ -1,5 +1,0 @@
-use Rattle.nf_eval.proofs.Placing.{turned}
-use Rattle.nf_eval.proofs.marked.turned.Goals as goal
-
-pub returns-in-Not : goal.returns-in-Not
-returns-in-Not c = rw c.in-Not.is (turned c.truth.result _ c.truth.ensures)
