@@ -71,13 +71,16 @@ impl CollectState {
         Ok(Vec::new(self.alloc))
     }
 
-    /// Ends the input, and gives the list. Takes some n log n comparisons of values for n items.
+    /// Ends the input, and gives the list. Takes some n log n comparisons of values for n items. What the options said, and whether there was an item,
+    /// stays as it was.
     ///
     /// # Errors
     ///
     /// `TooDeep` where the list is deeper than 64, `Mem` where there is no memory.
     pub fn close(&mut self) -> Result<Vec<(u32, Value)>, OpFault>
-        ensures { (flat : Bool) → (p : List Push) → IsCollectAfter flat p self.old → MatchResult result (λ es. HasEnded (collect_row flat) p (emits_of es.items)) (CloseRefused (collect_row flat) p) }
+        ensures ends { (flat : Bool) → (p : List Push) → IsCollectAfter flat p self.old → MatchResult result (λ es. HasEnded (collect_row flat) p (emits_of es.items)) (CloseRefused (collect_row flat) p) }
+        ensures flat { self.new.flat ≡ self.old.flat }
+        ensures none { self.new.none ≡ self.old.none }
     {
         laws::collect();
         promises();

@@ -1,6 +1,6 @@
 //! `count`, which emits how many items there were.
 
-ghost use Rattle.std.specs.Prelude.{List, [], ◌∷◌, ◌<◌, ◌≤◌, ◌^◌, IfOk, IsOk, MatchResult, IsTrue, ◌↔◌};
+ghost use Rattle.std.specs.Prelude.{◌≡◌, List, [], ◌∷◌, ◌<◌, ◌≤◌, ◌^◌, IfOk, IsOk, MatchResult, IsTrue, ◌↔◌};
 ghost use Rattle.nf_value.specs.View.{plain_of};
 ghost use Rattle.nf_opstream.specs.Push.{Push, push_of};
 ghost use Rattle.nf_opstream.specs.Promise.{emits_of, HasEmitted, HasEnded, PushRefused, CloseRefused};
@@ -72,13 +72,14 @@ impl CountState {
         Ok(Vec::new(self.alloc))
     }
 
-    /// Ends the input, and gives the number of items.
+    /// Ends the input, and gives the number of items, which stays as it was.
     ///
     /// # Errors
     ///
     /// `Mem` where there is no memory.
     pub fn close(&mut self) -> Result<Vec<(u32, Value)>, OpFault>
-        ensures { (p : List Push) → IsCountAfter p self.old → MatchResult result (λ es. HasEnded count_row p (emits_of es.items)) (CloseRefused count_row p) }
+        ensures ends { (p : List Push) → IsCountAfter p self.old → MatchResult result (λ es. HasEnded count_row p (emits_of es.items)) (CloseRefused count_row p) }
+        ensures kept { self.new.count ≡ self.old.count }
     {
         laws::count();
         promises();

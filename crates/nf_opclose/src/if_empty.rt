@@ -73,13 +73,14 @@ impl IfEmptyState {
         emit(&mut self.items, item)
     }
 
-    /// Ends the input, and gives the value where there was no item.
+    /// Ends the input, and gives the value where there was no item. Whether there was one stays as it was.
     ///
     /// # Errors
     ///
     /// `TooDeep` where that value is deeper than 64, `Mem` where there is no memory.
     pub fn close(&mut self) -> Result<Vec<(u32, Value)>, OpFault>
-        ensures { (v : Plain) → (p : List Push) → IsIfEmptyAfter v p self.old → MatchResult result (λ es. HasEnded (if_empty_row v) p (emits_of es.items)) (CloseRefused (if_empty_row v) p) }
+        ensures ends { (v : Plain) → (p : List Push) → IsIfEmptyAfter v p self.old → MatchResult result (λ es. HasEnded (if_empty_row v) p (emits_of es.items)) (CloseRefused (if_empty_row v) p) }
+        ensures none { self.new.none ≡ self.old.none }
     {
         laws::if_empty();
         promises();

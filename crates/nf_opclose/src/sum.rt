@@ -1,6 +1,6 @@
 //! `sum`, which emits the total of its items.
 
-ghost use Rattle.std.specs.Prelude.{List, [], ◌∷◌, ◌<◌, ◌^◌, IfOk, IsOk, MatchResult, IsTrue, ◌↔◌};
+ghost use Rattle.std.specs.Prelude.{◌≡◌, List, [], ◌∷◌, ◌<◌, ◌^◌, IfOk, IsOk, MatchResult, IsTrue, ◌↔◌};
 ghost use Rattle.nf_value.specs.View.{plain_of};
 ghost use Rattle.nf_opstream.specs.Push.{Push, push_of};
 ghost use Rattle.nf_opstream.specs.Promise.{emits_of, HasEmitted, HasEnded, PushRefused, CloseRefused};
@@ -76,13 +76,14 @@ impl SumState {
         }
     }
 
-    /// Ends the input, and gives the total.
+    /// Ends the input, and gives the total, which stays as it was.
     ///
     /// # Errors
     ///
     /// `Overflow` where the total leaves 64 signed bits, `Mem` where there is no memory.
     pub fn close(&mut self) -> Result<Vec<(u32, Value)>, OpFault>
-        ensures { (p : List Push) → IsSumAfter p self.old → MatchResult result (λ es. HasEnded sum_row p (emits_of es.items)) (CloseRefused sum_row p) }
+        ensures ends { (p : List Push) → IsSumAfter p self.old → MatchResult result (λ es. HasEnded sum_row p (emits_of es.items)) (CloseRefused sum_row p) }
+        ensures kept { self.new.numbers ≡ self.old.numbers }
     {
         laws::sum();
         promises();

@@ -266,19 +266,24 @@ fn totals_are_judged_as_a_whole(rt: HostRuntime) -> Result<(), Fail> {
     Ok(())
 }
 
-/// Kinds of closure, with what they make of 4, 0 and -2.
-const KINDS: &[(Total, &str)] = &[
-    (Total::Sum, "[2]"),
-    (Total::Least, "[-2]"),
-    (Total::Greatest, "[4]"),
-    (Total::All, "[false]"),
-    (Total::Any, "[true]"),
+/// Numbers whose partial sums leave 64 bits.
+const GREAT: &[i64] = &[i64::MAX, i64::MAX, i64::MIN, i64::MIN, 5];
+
+/// Kinds of closure, with what they make of 4, 0 and -2, and of the great numbers.
+const KINDS: &[(Total, &str, &str)] = &[
+    (Total::Sum, "[2]", "[3]"),
+    (Total::Least, "[-2]", "[-9223372036854775808]"),
+    (Total::Greatest, "[4]", "[9223372036854775807]"),
+    (Total::All, "[false]", "[true]"),
+    (Total::Any, "[true]", "[true]"),
 ];
 
 #[test]
 fn reduce_has_five_kinds(rt: HostRuntime) -> Result<(), Fail> {
     let alloc = rt.alloc();
-    for (total, want) in KINDS.iter().copied() {
+    for (total, want, of_great) in KINDS.iter().copied() {
+        let found = reduced(alloc, total, None, GREAT)?;
+        assert_eq!(rt; found.as_str(), of_great);
         let found = reduced(alloc, total, None, &[4, 0, -2])?;
         assert_eq!(rt; found.as_str(), want);
         let found = reduced(alloc, total, None, &[-2, 0, 4])?;

@@ -1,6 +1,6 @@
 //! `combine`, which emits the pairs of items of its two inputs.
 
-ghost use Rattle.std.specs.Prelude.{List, [], ◌∷◌, Bool, is_some, IfOk, IsOk, MatchResult};
+ghost use Rattle.std.specs.Prelude.{◌≡◌, List, [], ◌∷◌, Bool, is_some, IfOk, IsOk, MatchResult};
 ghost use Rattle.nf_value.specs.View.{plain_of};
 ghost use Rattle.nf_opstream.specs.Push.{Push, push_of};
 ghost use Rattle.nf_opstream.specs.Promise.{emits_of, HasEmitted, HasEnded, PushRefused, CloseRefused};
@@ -96,7 +96,7 @@ impl CombineState {
         }
     }
 
-    /// Ends the input. Nothing is emitted then.
+    /// Ends the input. Nothing is emitted then. What the options said stays as it was.
     ///
     /// # Errors
     ///
@@ -104,6 +104,7 @@ impl CombineState {
     pub fn close(&mut self) -> Result<Vec<(u32, Value)>, OpFault>
         ensures ends { (by_first : Bool) → (p : List Push) → IsCombineAfter by_first p self.old → MatchResult result (λ es. HasEnded (combine_row by_first) p (emits_of es.items)) (CloseRefused (combine_row by_first) p) }
         ensures ended { IsOk result }
+        ensures by { self.new.by_first ≡ self.old.by_first }
     {
         laws::combined();
         promises();

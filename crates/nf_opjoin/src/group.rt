@@ -1,6 +1,6 @@
 //! `groupTuple`, which gathers tuples by their keys.
 
-ghost use Rattle.std.specs.Prelude.{ℕ, List, [], ◌∷◌, Bool, unwrap_or, IfOk, IsOk, MatchResult};
+ghost use Rattle.std.specs.Prelude.{◌≡◌, ℕ, List, [], ◌∷◌, Bool, unwrap_or, IfOk, IsOk, MatchResult};
 ghost use Rattle.nf_value.specs.View.{plain_of};
 ghost use Rattle.nf_opstream.specs.Push.{Push, push_of};
 ghost use Rattle.nf_opstream.specs.Promise.{emits_of, HasEmitted, HasEnded, PushRefused, CloseRefused};
@@ -80,13 +80,16 @@ impl GroupState {
         }
     }
 
-    /// Ends the input, and gives the groups, in the order of their keys. Takes some n log n comparisons of values for n items.
+    /// Ends the input, and gives the groups, in the order of their keys. Takes some n log n comparisons of values for n items. What the options said
+    /// stays as it was.
     ///
     /// # Errors
     ///
     /// `TooDeep` where a group is deeper than 64, `Mem` where there is no memory.
     pub fn close(&mut self) -> Result<Vec<(u32, Value)>, OpFault>
-        ensures { (n : ℕ) → (sort : Bool) → (p : List Push) → IsGroupAfter n sort p self.old → MatchResult result (λ es. HasEnded (group_row n sort) p (emits_of es.items)) (CloseRefused (group_row n sort) p) }
+        ensures ends { (n : ℕ) → (sort : Bool) → (p : List Push) → IsGroupAfter n sort p self.old → MatchResult result (λ es. HasEnded (group_row n sort) p (emits_of es.items)) (CloseRefused (group_row n sort) p) }
+        ensures by { self.new.by ≡ self.old.by }
+        ensures sort { self.new.sort ≡ self.old.sort }
     {
         laws::grouped();
         promises();

@@ -1,6 +1,6 @@
 //! `join`, which emits the pairs of items with equal keys.
 
-ghost use Rattle.std.specs.Prelude.{ℕ, List, [], ◌∷◌, Bool, unwrap_or, IfOk, IsOk, MatchResult};
+ghost use Rattle.std.specs.Prelude.{◌≡◌, ℕ, List, [], ◌∷◌, Bool, unwrap_or, IfOk, IsOk, MatchResult};
 ghost use Rattle.nf_value.specs.View.{plain_of};
 ghost use Rattle.nf_opstream.specs.Push.{Push, push_of};
 ghost use Rattle.nf_opstream.specs.Promise.{emits_of, HasEmitted, HasEnded, PushRefused, CloseRefused};
@@ -101,13 +101,15 @@ impl JoinState {
         }
     }
 
-    /// Ends the input, and gives what has no partner where that is wanted.
+    /// Ends the input, and gives what has no partner where that is wanted. What the options said stays as it was.
     ///
     /// # Errors
     ///
     /// `TooDeep` where a list that is to be emitted is deeper than 64, `Mem` where there is no memory.
     pub fn close(&mut self) -> Result<Vec<(u32, Value)>, OpFault>
-        ensures { (n : ℕ) → (wanted : Bool) → (p : List Push) → IsJoinAfter n wanted p self.old → MatchResult result (λ es. HasEnded (join_row n wanted) p (emits_of es.items)) (CloseRefused (join_row n wanted) p) }
+        ensures ends { (n : ℕ) → (wanted : Bool) → (p : List Push) → IsJoinAfter n wanted p self.old → MatchResult result (λ es. HasEnded (join_row n wanted) p (emits_of es.items)) (CloseRefused (join_row n wanted) p) }
+        ensures by { self.new.by ≡ self.old.by }
+        ensures remainder { self.new.remainder ≡ self.old.remainder }
     {
         laws::joined();
         promises();

@@ -57,7 +57,7 @@ impl BranchState {
         }
     }
 
-    /// Ends the input. Nothing is emitted then.
+    /// Ends the input. Nothing is emitted then. What the options said stays as it was.
     ///
     /// # Errors
     ///
@@ -65,6 +65,7 @@ impl BranchState {
     pub fn close(&mut self) -> Result<Vec<(u32, Value)>, OpFault>
         ensures ends { (p : List Push) → AreFine (branch_row self.old.outs) p → MatchResult result (λ es. HasEnded (branch_row self.old.outs) p (emits_of es.items)) (CloseRefused (branch_row self.old.outs) p) }
         ensures ended { IsOk result }
+        ensures outs { self.new.outs ≡ self.old.outs }
     {
         Ok(Vec::new(self.alloc))
     }

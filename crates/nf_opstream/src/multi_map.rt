@@ -58,7 +58,7 @@ impl MultiMapState {
         judge(emits)
     }
 
-    /// Ends the input. Nothing is emitted then.
+    /// Ends the input. Nothing is emitted then. What the options said stays as it was.
     ///
     /// # Errors
     ///
@@ -66,6 +66,7 @@ impl MultiMapState {
     pub fn close(&mut self) -> Result<Vec<(u32, Value)>, OpFault>
         ensures ends { (p : List Push) → AreFine (multi_map_row self.old.outs) p → MatchResult result (λ es. HasEnded (multi_map_row self.old.outs) p (emits_of es.items)) (CloseRefused (multi_map_row self.old.outs) p) }
         ensures ended { IsOk result }
+        ensures outs { self.new.outs ≡ self.old.outs }
     {
         Ok(Vec::new(self.alloc))
     }

@@ -8,10 +8,10 @@ use Rattle.nf_opclose.proofs.Inputs.{sorted_alike}
 use Rattle.nf_opclose.proofs.Kept.{any_due, none_any}
 use Rattle.nf_opclose.proofs.collect.CollectState.close.Goals as goal
 
-pub returns-then-self : goal.returns-then-self
-returns-then-self c = λ flat p after. ends_with (collect_row flat) (c.collect.ensures flat) c.promises.ensures.ended p after.fine c.new.result.items [] (ap emits_of c.new.ensures.items)
+pub returns-then-self-clause-ends : goal.returns-then-self-clause-ends
+returns-then-self-clause-ends c = λ flat p after. ends_with (collect_row flat) (c.collect.ensures flat) c.promises.ensures.ended p after.fine c.new.result.items [] (ap emits_of c.new.ensures.items)
     (none_any p (sorted_list (collected flat p)) (sym after.none ∙ c.if-self.true))
 
-pub returns : goal.returns
-returns c = λ flat p after. ended (λ t. t.items) (collect_row flat) (c.collect.ensures flat) c.promises.ensures.ended c.promises.ensures.broken p after.fine c.emit_sorted.result
+pub returns-clause-ends : goal.returns-clause-ends
+returns-clause-ends c = λ flat p after. ended (λ t. t.items) (collect_row flat) (c.collect.ensures flat) c.promises.ensures.ended c.promises.ensures.broken p after.fine c.emit_sorted.result
     (due_alike (λ t. t.items) (ap (λ v. sorted_list (map plain_of v.items)) c.replace-parts.ensures.value ∙ sorted_alike c.sorting.ensures.by_bag after.parts ∙ any_due p (sorted_list (collected flat p)) (sym after.none ∙ c.if-self.false)) c.emit_sorted.result c.emit_sorted.ensures)
