@@ -16,7 +16,7 @@ use std::test::Fail;
 const SAME: &[&str] = &[
     "",
     "workflow{channel.of( 1 ).view( )}",
-    "workflow { (println) 'a'; x = ((1 + 2)) * 3; f { a, b -> c } }",
+    "workflow { (println)(1); x = ((1 + 2)) * 3; f { a, b -> c } }",
     "process P { script: \"a$x ${[y: {it}]}\" }",
 ];
 
@@ -68,17 +68,5 @@ fn joins_chains(rt: HostRuntime) -> Result<(), Fail> {
     }
     text.push_str(" }")?;
     assert_eq!(rt; answer(rt.alloc(), text.as_str())?, "too deep");
-    Ok(())
-}
-
-/// Each of 250,000 statements gets a margin.
-#[test]
-fn indents_lines(rt: HostRuntime) -> Result<(), Fail> {
-    let mut text = String::from_str(rt.alloc(), "workflow {")?;
-    for _ in 0..250_000u32 {
-        text.push_str("a\n")?;
-    }
-    text.push_str("}")?;
-    assert_eq!(rt; answer(rt.alloc(), text.as_str())?, "too long");
     Ok(())
 }
