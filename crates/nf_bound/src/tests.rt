@@ -22,7 +22,7 @@ const USES: &[(&str, &str)] = &[
     ("Math", "Name Math 1;"),
     ("f x {} with", "Function f 1;Name x 2;"),
     ("l .find it {} with", "Name l 1;"),
-    ("l .find x {} with", "Name l 1;Name x 4;"),
+    ("l .find x {} with", "Name l 1;Name x 3;"),
     ("it", "Name it 1;"),
     ("x ~a matches", "Name x 1;Pattern a 2;"),
     ("x 'a matches", "Name x 1;Pattern a 2;"),
