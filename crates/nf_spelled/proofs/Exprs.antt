@@ -106,8 +106,8 @@ module _ {n : ℕ} (ih : (l : Level) → Good n (rule l) (Made (sort_of l))) whe
   -- ---- conditionals, marks before an operand, and what stands after one
   more_good : (d k : ℕ) {a : Tree} → Made expr a → Good n (or_more d k a) (Made expr)
   more_good d k h = arms
-    (skip (λ q. seq (expr_good d _) (λ a f. skip (λ c. seq (expr_good d _) (λ b g. ret (record { shaped = shape.conditional h.shaped f.shaped g.shaped; fits = (h.fits, f.fits, g.fits) }))))))
-    (arms
+      (skip (λ q. seq (expr_good d _) (λ a f. skip (λ c. seq (expr_good d _) (λ b g. ret (record { shaped = shape.conditional h.shaped f.shaped g.shaped; fits = (h.fits, f.fits, g.fits) }))))))
+      (arms
       (skip (λ q. seq (expr_good d _) (λ b g. ret (record { shaped = shape.elvis h.shaped g.shaped; fits = (h.fits, g.fits) }))))
       (tested (ret h)))
 
@@ -119,14 +119,14 @@ module _ {n : ℕ} (ih : (l : Level) → Good n (rule l) (Made (sort_of l))) whe
 
   post_good : (d i : ℕ) {e : Tree} → Made expr e → Good n (post_part d i e) (Made expr)
   post_good d i h = arms
-    (skip (λ dot. seq a_name_good (λ x f. ret (record { shaped = shape.property h.shaped f.shaped; fits = (h.fits, name_tree f) }))))
-    (arms
+      (skip (λ dot. seq a_name_good (λ x f. ret (record { shaped = shape.property h.shaped f.shaped; fits = (h.fits, name_tree f) }))))
+      (arms
       (skip (λ dot. seq a_name_good (λ x f. ret (record { shaped = shape.safe_property h.shaped f.shaped; fits = (h.fits, name_tree f) }))))
       (arms
-        (skip (λ o. seq (expr_good _ 0) (λ x f. skip (λ c. ret (record { shaped = shape.index h.shaped f.shaped; fits = (h.fits, f.fits) })))))
-        (arms
-          (skip (λ o. seq (either_of (args_good _) none_made) (λ xs f. skip (λ c. ret (record { shaped = shape.call h.shaped f.shaped; fits = (h.fits, f.fits) })))))
-          (skip (λ o. seq (ih (Closure _ _)) (λ c f. ret (record { shaped = shape.call_with h.shaped f.shaped; fits = (h.fits, f.fits) })))))))
+      (skip (λ o. seq (expr_good _ 0) (λ x f. skip (λ c. ret (record { shaped = shape.index h.shaped f.shaped; fits = (h.fits, f.fits) })))))
+      (arms
+      (skip (λ o. seq (either_of (args_good _) none_made) (λ xs f. skip (λ c. ret (record { shaped = shape.call h.shaped f.shaped; fits = (h.fits, f.fits) })))))
+      (skip (λ o. seq (ih (Closure _ _)) (λ c f. ret (record { shaped = shape.call_with h.shaped f.shaped; fits = (h.fits, f.fits) })))))))
 
   -- ---- what stands alone
   items_good : (d : ℕ) (p : Place) → Good n (items d p) (Made expr)
@@ -141,8 +141,8 @@ module _ {n : ℕ} (ih : (l : Level) → Good n (rule l) (Made (sort_of l))) whe
   pub prim_good : (d : ℕ) → Good n (rules (Prim d)) (Made expr)
   unfolding rules
   prim_good d = arms literal_good (arms (template_good (λ e. expr_good e 0) d) (arms
-    (skip (λ o. seq (expr_good _ 0) (λ x h. skip (λ c. ret h))))
-    (arms (skip (λ o. squared_good _ _)) (skip (λ o. weaker (λ v h. closure_expr h) (ih (Closure _ _)))))))
+      (skip (λ o. seq (expr_good _ 0) (λ x h. skip (λ c. ret h))))
+      (arms (skip (λ o. squared_good _ _)) (skip (λ o. weaker (λ v h. closure_expr h) (ih (Closure _ _)))))))
 
   pub arg_good : (d : ℕ) → Good n (rules (Arg d)) (Made arg)
   unfolding rules
@@ -181,8 +181,8 @@ module _ {n : ℕ} (ih : (l : Level) → Good n (rule l) (Made (sort_of l))) whe
 
   pub defined_good : (d : ℕ) → Good n (defines d) (Made a_statement)
   defined_good d = arms
-    (skip (λ w. seq a_name_good (λ x f. skip (λ e. seq (expr_good d 0) (λ v h. ret (record { shaped = shape.define f.shaped h.shaped; fits = (f.fits, h.fits) }))))))
-    (skip (λ w. seq (skip (λ o. seq (some_listed a_name_good) (λ ns h. skip (λ c. ret h)))) (λ ns f. skip (λ e. seq (expr_good d 0) (λ v h. ret (define_all_made f h))))))
+      (skip (λ w. seq a_name_good (λ x f. skip (λ e. seq (expr_good d 0) (λ v h. ret (record { shaped = shape.define f.shaped h.shaped; fits = (f.fits, h.fits) }))))))
+      (skip (λ w. seq (skip (λ o. seq (some_listed a_name_good) (λ ns h. skip (λ c. ret h)))) (λ ns f. skip (λ e. seq (expr_good d 0) (λ v h. ret (define_all_made f h))))))
 
   pub assigned_good : (d : ℕ) → Good n (assigned d) (Made a_statement)
   assigned_good d = seq a_name_good (λ x f. skip (λ e. seq (expr_good d 0) (λ v h. ret (record { shaped = shape.assign f.shaped h.shaped; fits = (f.fits, h.fits) }))))
@@ -195,8 +195,8 @@ module _ {n : ℕ} (ih : (l : Level) → Good n (rule l) (Made (sort_of l))) whe
 
   statement_good : (d : ℕ) → Good n (statement d) (Made a_statement)
   statement_good d = arms (defined_good d) (arms (assigned_good d) (arms
-    (skip (λ w. seq (expr_good d 0) (λ v h. ret (record { shaped = shape.return_ h.shaped; fits = h.fits }))))
-    (arms (weaker (λ v h. choose_made h) (ih (Choice d 1)))
+      (skip (λ w. seq (expr_good d 0) (λ v h. ret (record { shaped = shape.return_ h.shaped; fits = h.fits }))))
+      (arms (weaker (λ v h. choose_made h) (ih (Choice d 1)))
       (arms (tested (print_good d)) (arms (tested (log_good d)) (tested (weaker (λ v h. alone_made h) (expr_good d 0))))))))
 
   -- ---- the rows

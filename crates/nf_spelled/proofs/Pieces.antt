@@ -101,8 +101,8 @@ module _ {n : ℕ} (ih : (d : ℕ) → Good n (rule (Expr d 0)) (Made expr)) whe
 
   piece_reads : (d : ℕ) (acc : Tree) → Holds rules n (Going acc) (piece d) (λ v r. Going (snoc acc v) r)
   piece_reads d acc = holds_either
-    (holds_token (λ x ts v e g. add_text acc x ts v (text_token x.token x.place v e) (text_made x.token x.place v e g.fit.0) g))
-    (record { holds = λ ts v r x i g. let h = (hole_good d).holds ts v r x i g.fit in add_hole acc v r h.0 h.1 g.last g.parts })
+      (holds_token (λ x ts v e g. add_text acc x ts v (text_token x.token x.place v e) (text_made x.token x.place v e g.fit.0) g))
+      (record { holds = λ ts v r x i g. let h = (hole_good d).holds ts v r x i g.fit in add_hole acc v r h.0 h.1 g.last g.parts })
 
   pieces_read : (d : ℕ) → Holds rules n AreFit (pieces d) (λ v r. Going v r)
   pieces_read d = holds_more (λ ts f. record { last = false; parts = no_part_left; fit = f; apart = refl }) (λ v r g. g) (holds_many (λ i acc. holds_bind (piece_reads d acc) (λ v. holds_gives (λ ts g. g))))

@@ -72,7 +72,6 @@ module _ {n : ℕ} where
   pub ended : {g : Gram} {P : Tree → Type 0} → Good n g P → Good n (with_sep g) P
   ended a = seq a (λ x p. seq separated_by (λ c u. ret p))
 
-
 -- ---- parts in a row
 
 snoc_shaped : {s : Sort} {xs b : Tree} → Shaped (row s) xs → Shaped s b → Shaped (row s) (snoc xs b)

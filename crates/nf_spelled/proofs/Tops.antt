@@ -66,8 +66,8 @@ module _ {n : ℕ} (ih : (l : Level) → Good n (rule l) (Made (sort_of l))) whe
   pub input_row : Good n (rules Input) (Made an_input)
   unfolding rules
   input_row = arms
-    (skip (λ w. seq one_name_good (λ x h. ret (record { shaped = shape.val_input h.shaped; fits = h.fits }))))
-    (arms (skip (λ w. seq one_name_good (λ x h. ret (record { shaped = shape.path_input h.shaped; fits = h.fits }))))
+      (skip (λ w. seq one_name_good (λ x h. ret (record { shaped = shape.val_input h.shaped; fits = h.fits }))))
+      (arms (skip (λ w. seq one_name_good (λ x h. ret (record { shaped = shape.path_input h.shaped; fits = h.fits }))))
       (skip (λ w. ret (record { shaped = shape.stdin_input; fits = tt }))))
 
   pub inputs_row : Good n (rules Inputs) (Made (section (row some_inputs)))
@@ -76,8 +76,8 @@ module _ {n : ℕ} (ih : (l : Level) → Good n (rule l) (Made (sort_of l))) whe
 
   value_good : Good n output_value (Made a_value)
   value_good = arms
-    (skip (λ w. seq (expr_good 1 0) (λ x h. ret (record { shaped = shape.val_output h.shaped; fits = h.fits }))))
-    (arms (skip (λ w. seq (expr_good 1 0) (λ x h. ret (record { shaped = shape.path_output h.shaped; fits = h.fits }))))
+      (skip (λ w. seq (expr_good 1 0) (λ x h. ret (record { shaped = shape.val_output h.shaped; fits = h.fits }))))
+      (arms (skip (λ w. seq (expr_good 1 0) (λ x h. ret (record { shaped = shape.path_output h.shaped; fits = h.fits }))))
       (skip (λ w. ret (record { shaped = shape.stdout_output; fits = tt }))))
 
   options_good : Good n options (Made (row a_label))
@@ -109,8 +109,8 @@ module _ {n : ℕ} (ih : (l : Level) → Good n (rule l) (Made (sort_of l))) whe
   -- ---- workflows
   emit_good : Good n emit (Made an_emit)
   emit_good = arms
-    (seq a_name_good (λ x f. skip (λ e. seq (expr_good 1 0) (λ v h. ret (record { shaped = shape.emit_assign f.shaped h.shaped; fits = (f.fits, h.fits) })))))
-    (weaker (λ v h. record { shaped = shape.emit_alone h.shaped; fits = h.fits }) (expr_good 1 0))
+      (seq a_name_good (λ x f. skip (λ e. seq (expr_good 1 0) (λ v h. ret (record { shaped = shape.emit_assign f.shaped h.shaped; fits = (f.fits, h.fits) })))))
+      (weaker (λ v h. record { shaped = shape.emit_alone h.shaped; fits = h.fits }) (expr_good 1 0))
 
   pub parts_row : Good n (rules Parts) (Made inside)
   unfolding rules
@@ -131,8 +131,8 @@ module _ {n : ℕ} (ih : (l : Level) → Good n (rule l) (Made (sort_of l))) whe
   pub top_row : Good n (rules Top) (Made top)
   unfolding rules
   top_row = arms (ih Process) (arms (ih Workflow) (arms (ih Function) (arms parameter_good (arms
-    (skip (λ w. seq (expr_good 0 0) (λ v h. ret (record { shaped = shape.a_println h.shaped; fits = h.fits }))))
-    (arms
+      (skip (λ w. seq (expr_good 0 0) (λ v h. ret (record { shaped = shape.a_println h.shaped; fits = h.fits }))))
+      (arms
       (skip (λ w. skip (λ o. seq a_name_good (λ x f. seq (expr_good 0 0) (λ v h. ret (record { shaped = shape.a_log f.shaped h.shaped; fits = (name_tree f, h.fits) }))))))
       (skip (λ w. skip (λ a. skip (λ x. skip (λ b. skip (λ y. skip (λ e. skip (λ k. ret (record { shaped = shape.a_dsl; fits = tt }))))))))))))))
 
