@@ -3,5 +3,7 @@
 
 mod again;
 pub mod laws;
+#[cfg(test)]
+mod tests;
 
 pub use again::{Again, read_again};
