@@ -1,24 +1,14 @@
 -- The canonical text of a script that some text spells has tokens that spell it again.
-use Rattle.std.proofs.Common.{◌≡◌, ◌≤◌, ℕ, List, [], length}
-use Rattle.nf_value.specs.declared.place.Place.{Place}
-use Rattle.nf_lexer.specs.declared.token.Lexeme.{Lexeme}
-use Rattle.nf_lexer.specs.Tokens.{IsTokensOf, most_bytes}
+use Rattle.std.proofs.Common.{◌≤◌, [], length}
+use Rattle.nf_lexer.specs.Tokens.{most_bytes}
 use Rattle.nf_ast.specs.Tree.{Tree}
 use Rattle.nf_exprs.specs.Level as level
 use Rattle.nf_printer.specs.Tops.{canonical}
 use Rattle.nf_reread.proofs.Whole.{told_again}
-use Rattle.nf_reparse.specs.Again.{SpellsAgain}
 use Rattle.nf_reparse.proofs.Again.{spells_again}
 use Rattle.nf_spelled.proofs.Lexed.{lexed_are_fit}
 use Rattle.nf_spelled.proofs.Whole.{spelled_is_made}
-use Rattle.nf_roundtrip.specs.Again.{IsSpelled}
-
--- tokens of the canonical text, which spell the tree again
-pub record IsTold (tree : Tree) : Type 0 where
-  pub tokens : List Lexeme
-  pub end : Place
-  pub lexed : IsTokensOf (canonical tree) (tokens, end)
-  pub spells : SpellsAgain tokens tree
+use Rattle.nf_roundtrip.specs.Again.{IsSpelled, IsTold}
 
 pub is_told : (tree : Tree) → IsSpelled tree → length (canonical tree) ≤ most_bytes → IsTold tree
 is_told tree s small =

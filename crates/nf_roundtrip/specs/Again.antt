@@ -11,6 +11,7 @@ use Rattle.nf_printer.specs.Tops.{canonical}
 use Rattle.nf_exprs.specs.declared.fault.ParseFault.{ParseFault}
 use Rattle.nf_exprs.specs.declared.fault.ParseFault.TheVariants as parse
 use Rattle.nf_parser.specs.Spells.{Whole, Spells, IsTooDeep}
+use Rattle.nf_reparse.specs.Again.{SpellsAgain}
 use Rattle.nf_reparse.specs.Bare.{bare}
 use Rattle.nf_roundtrip.specs.declared.again.Again.{Again}
 use Rattle.nf_roundtrip.specs.declared.again.Again.TheVariants as again
@@ -22,6 +23,13 @@ pub record IsSpelled (tree : Tree) : Type 0 where
   pub end : Place
   pub lexed : IsTokensOf text (tokens, end)
   pub whole : Whole tokens tree
+
+-- the canonical text has tokens, and these spell the tree again, limits on brackets and chains aside
+pub record IsTold (tree : Tree) : Type 0 where
+  pub tokens : List Lexeme
+  pub end : Place
+  pub lexed : IsTokensOf (canonical tree) (tokens, end)
+  pub spells : SpellsAgain tokens tree
 
 -- one tree but for its places, with one canonical text
 pub record IsSame (tree other : Tree) : Type 0 where

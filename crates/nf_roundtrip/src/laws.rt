@@ -1,7 +1,16 @@
 //! Laws of formatting.
 
-ghost use Rattle.std.specs.Prelude.{◌≡◌, ℕ, List};
-ghost use Rattle.nf_roundtrip.specs.Again.{Formats};
+ghost use Rattle.std.specs.Prelude.{◌≡◌, ◌≤◌, ℕ, List, length};
+ghost use Rattle.nf_lexer.specs.Tokens.{most_bytes};
+ghost use Rattle.nf_ast.specs.Tree.{Tree};
+ghost use Rattle.nf_printer.specs.Tops.{canonical};
+ghost use Rattle.nf_roundtrip.specs.Again.{IsSpelled, IsTold, Formats};
+
+/// The tokens of the canonical text of a script spell the script again, where some text spells it and the canonical text isn't too long for a
+/// script.
+pub fn printed_spells_again()
+    ensures { (tree : Tree) → IsSpelled tree → length (canonical tree) ≤ most_bytes → IsTold tree }
+{}
 
 /// Formatting what was formatted changes nothing: of a text that has a script, and whose canonical text is a script by itself, the canonical text
 /// is that text.

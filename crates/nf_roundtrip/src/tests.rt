@@ -49,6 +49,7 @@ fn answer(alloc: Global, text: &str) -> Result<&'static str, Fail> {
 #[test]
 fn formats_once(rt: HostRuntime) -> Result<(), Fail> {
     laws::formatted_once();
+    laws::printed_spells_again();
     for text in SAME.iter().copied() {
         assert_eq!(rt; answer(rt.alloc(), text)?, "same", "at {text:?}");
     }
