@@ -70,7 +70,7 @@ IsAtPlace _ _ = ⊥
 
 -- ---- formatting
 
--- a text that has the script of the text before as its tree, in canonical text
+-- the text spells a script, whose canonical text is this
 pub record Formats (text out : List ℕ) : Type 0 where
   pub tokens : List Lexeme
   pub end : Place
