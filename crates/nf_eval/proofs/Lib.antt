@@ -1,3 +1,11 @@
 pub mod Operands
 pub mod Worked
 pub mod Names
+pub mod Evaluating
+pub mod Turning
+pub mod Chaining
+pub mod Shaping
+pub mod Running
+pub mod Lefts
+pub mod Passing
+pub mod Blocking

@@ -22,7 +22,7 @@ later xs i x h is = ap bindings (drop-cons xs i x h ∙ ap (λ y. y ∷ drop (su
 -- what is looked up in all is looked up among the first, as far as was looked
 pub record IsSought (n : List ℕ) (xs : List (List ℕ × Value)) (end : ℕ) : Type 0 where
   pub within : end ≤ length xs
-  pub value : value_in n (bindings xs) ≡ value_in n (bindings (take end xs))
+  pub value : (after : List (List ℕ × Plain)) → value_in n (bindings xs ++ after) ≡ value_in n (bindings (take end xs) ++ after)
   pub rebinds : (v : Plain) → rebound_in n v (bindings xs) ≡ bindings (drop end xs) ++ rebound_in n v (bindings (take end xs))
 
 whole : (xs : List (List ℕ × Value)) → take (length xs) xs ≡ xs
@@ -36,7 +36,7 @@ past (x ∷ xs) = past xs
 pub sought_all : (n : List ℕ) (xs : List (List ℕ × Value)) (end : ℕ) → end ≡ length xs → IsSought n xs end
 sought_all n xs end e = subst (λ (k : ℕ). IsSought n xs k) (sym e) record {
   within = omega arith;
-  value = ap (λ l. value_in n (bindings l)) (sym (whole xs));
+  value = λ after. ap (λ l. value_in n (bindings l ++ after)) (sym (whole xs));
   rebinds = λ v. ap (λ l. rebound_in n v (bindings l)) (sym (whole xs)) ∙ ap (λ l. bindings l ++ rebound_in n v (bindings (take (length xs) xs))) (sym (past xs));
 }
 
@@ -50,7 +50,7 @@ sought_none n xs h = (h.value, λ v. h.rebinds v ∙ append_nil (bindings xs))
 pub sought_more : (n : List ℕ) (xs : List (List ℕ × Value)) (i : ℕ) (x : List ℕ × Value) → i < length xs → x ≡ get_or xs i x → bytes_eq x.0 n ≡ false → IsSought n xs (suc i) → IsSought n xs i
 sought_more n xs i x lt is other h = record {
   within = omega arith;
-  value = h.value ∙ ap (value_in n) (latest xs i x lt is) ∙ rw other refl;
+  value = λ after. h.value after ∙ ap (λ l. value_in n (l ++ after)) (latest xs i x lt is) ∙ rw other refl;
   rebinds = λ v. h.rebinds v ∙ ap (λ l. bindings (drop (suc i) xs) ++ rebound_in n v l) (latest xs i x lt is) ∙ rw other (sym (append_assoc (bindings (drop (suc i) xs)) (pair_of x ∷ []) (rebound_in n v (bindings (take i xs))))) ∙ ap (λ l. l ++ rebound_in n v (bindings (take i xs))) (sym (later xs i x lt is));
 }
 
@@ -75,7 +75,7 @@ sought_here n xs i x lt is same e h =
     let here : (d : List ℕ × Value) → get_or xs i d ≡ x = λ d. other_default xs i d x lt ∙ sym is in (
       lt,
       (
-        λ d. h.value ∙ ap (value_in n) (latest xs i x lt is) ∙ rw same (ap (λ (y : List ℕ × Value). plain_of y.1) (sym (here d))),
+        λ after d. h.value after ∙ ap (λ l. value_in n (l ++ after)) (latest xs i x lt is) ∙ rw same (ap (λ (y : List ℕ × Value). plain_of y.1) (sym (here d))),
         λ d w. h.rebinds (plain_of w) ∙ ap (λ l. bindings (drop (suc i) xs) ++ rebound_in n (plain_of w) l) (latest xs i x lt is) ∙ rw same (of w)
             ∙ ap (λ (y : List ℕ × Value). bindings (set xs i (y.0, w))) (sym (here d)),
       ),

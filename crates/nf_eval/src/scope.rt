@@ -1,8 +1,8 @@
 //! Names and their values.
 
-ghost use Rattle.std.specs.Prelude.{◌≡◌, ◌∷◌, ◌-◌, [], MatchOption, OnOk, drop, length};
-ghost use Rattle.nf_value.specs.Plain.{null};
-ghost use Rattle.nf_value.specs.View.{plain_of};
+ghost use Rattle.std.specs.Prelude.{◌≡◌, ◌∷◌, ◌-◌, ◌++◌, [], ℕ, List, MatchOption, OnOk, drop, length, map, reverse};
+ghost use Rattle.nf_value.specs.Plain.{Plain};
+ghost use Rattle.nf_value.specs.View.{plain_of, pair_of};
 ghost use Rattle.nf_calls.specs.Scope.{value_in, rebound_in};
 ghost use Rattle.nf_eval.specs.Latest.{HasNone, IsLatest};
 
@@ -28,6 +28,13 @@ impl Scope {
         }
     }
 
+    /// These names, the latest last. Takes no memory.
+    pub fn of(names: Vec<(Txt, Value)>) -> Scope
+        ensures { names_of result ≡ reverse (map pair_of names.items) }
+    {
+        Scope { names }
+    }
+
     /// How many names there are. Takes no memory.
     pub fn len(&self) -> usize
         ensures { result ≡ length (names_of self.now) }
@@ -35,9 +42,9 @@ impl Scope {
         self.names.len()
     }
 
-    /// The value of a name: of several of that name, the latest. Takes no memory, and time by the number of names.
+    /// The value of a name: of several of that name, the latest, whatever names come after these. Takes no memory, and time by the number of names.
     pub fn value(&self, name: &str) -> Option<&Value>
-        ensures { MatchOption result (value_in name.now (names_of self.now) ≡ null) (λ v. value_in name.now (names_of self.now) ≡ plain_of v.now) }
+        ensures { MatchOption result ((after : List (List ℕ × Plain)) → value_in name.now (names_of self.now ++ after) ≡ value_in name.now after) (λ v. (after : List (List ℕ × Plain)) → value_in name.now (names_of self.now ++ after) ≡ plain_of v.now) }
     {
         let place = place_of(&self.names, name)?;
         Some(&self.names[place].1)
@@ -52,6 +59,20 @@ impl Scope {
         ensures { OnOk result (names_of self.new ≡ (name, plain_of value) ∷ names_of self.old) }
     {
         self.names.push((name, value))?;
+        Ok(())
+    }
+
+    /// Adds names, the first first.
+    ///
+    /// # Errors
+    ///
+    /// `Mem` where there is no memory for them.
+    pub fn define_all(&mut self, names: Vec<(Txt, Value)>) -> Result<(), Mem>
+        ensures { OnOk result (names_of self.new ≡ reverse (map pair_of names.items) ++ names_of self.old) }
+    {
+        for name in names {
+            self.names.push(name)?;
+        }
         Ok(())
     }
 

@@ -1,0 +1,58 @@
+-- Calls of values, and calls where a closure is among the arguments.
+use Rattle.std.proofs.Common.{◌≡◌, ◌∙◌, ℕ, List, [], ◌∷◌, length, map, Ok, Err, refl, sym, ap, subst}
+use Rattle.std.specs.Prelude.{Option, Some, None, option_map, Result}
+use Rattle.nf_value.specs.Plain.{Plain}
+use Rattle.nf_value.specs.declared.value.Value.{Value}
+use Rattle.nf_value.specs.declared.place.Place.{Place}
+use Rattle.nf_value.specs.declared.fault.EvalKind.TheVariants.{WrongKind}
+use Rattle.nf_value.specs.declared.fault.EvalRefusal.{EvalRefusal}
+use Rattle.nf_value.specs.declared.fault.EvalRefusal.TheVariants as refusal
+use Rattle.nf_marks.specs.Template.{listed}
+use Rattle.nf_calls.specs.declared.blocks.BlockMethod.{BlockMethod}
+use Rattle.nf_calls.specs.Placed.{Placed, ◌>>=◌, Evaluates}
+use Rattle.nf_calls.specs.Scope.{Env, function_in}
+use Rattle.nf_calls.specs.Calls.{Argument, plain, block, values_in, native_call, by_values, by_function, over_items, method_call, math_call, function_call, Callee, nothing, method, function, math, called}
+use Rattle.nf_calls.specs.Blocks.{row_method, IsFaultOfBlocks}
+use Rattle.nf_eval.specs.Memory.{IsBare}
+
+pub function_of_blocks : (k : Callee) (p : Place) (n : List ℕ) (xs : List Argument) (env : Env) (r : EvalRefusal) → k ≡ function p n → values_in xs ≡ None → r ≡ refusal.Fault (record { kind = WrongKind; place = p }) → Evaluates (called k (λ e. Ok xs) env) (Err r)
+function_of_blocks k p n xs env r is none e =
+    let gives : called k (λ e. Ok xs) env ≡ Err (record { kind = WrongKind; place = p }) = ap (λ c. called c (λ e. Ok xs) env) is ∙ ap (λ (vs : Option (List Plain)). by_values p vs (λ ws. by_function (function_in n env.functions) p n env ws)) none in
+    subst (λ (q : EvalRefusal). Evaluates (called k (λ e. Ok xs) env) (Err q)) (sym e) gives
+
+pub math_of_blocks : (k : Callee) (p : Place) (n : List ℕ) (xs : List Argument) (env : Env) (r : EvalRefusal) → k ≡ math p n → values_in xs ≡ None → IsFaultOfBlocks (math_call p n) (length xs) r → Evaluates (called k (λ e. Ok xs) env) (Err r)
+math_of_blocks k p n xs env (refusal.Fault e) is none h = ap (λ c. called c (λ e. Ok xs) env) is ∙ h xs refl none
+math_of_blocks k p n xs env refusal.Mem is none h = tt
+
+pub method_of_blocks : (k : Callee) (v : Plain) (p : Place) (n : List ℕ) (xs : List Argument) (env : Env) (m : ℕ) (r : EvalRefusal) → k ≡ method v p n → values_in xs ≡ None → length xs ≡ m → IsFaultOfBlocks (method_call p n v) m r → Evaluates (called k (λ e. Ok xs) env) (Err r)
+method_of_blocks k v p n xs env m (refusal.Fault e) is none len h = ap (λ c. called c (λ e. Ok xs) env) is ∙ h xs len none
+method_of_blocks k v p n xs env m refusal.Mem is none len h = tt
+
+-- the one closure goes over the items
+pub over_one : (k : Callee) (v : Plain) (p : Place) (n : List ℕ) (xs : List Argument) (f : List Plain → Placed Plain) (env : Env) (b : BlockMethod) (items : List Plain) (s : Result Value EvalRefusal) → k ≡ method v p n → xs ≡ block f ∷ [] → ((g : List Plain → Placed Plain) → method_call p n v (block g ∷ []) ≡ over_items p (row_method b) g (listed v)) → items ≡ listed v → Evaluates (over_items p (row_method b) f items) s → Evaluates (called k (λ e. Ok xs) env) s
+over_one k v p n xs f env b items s is one h those done =
+    let gives : called k (λ e. Ok xs) env ≡ over_items p (row_method b) f items = ap (λ c. called c (λ e. Ok xs) env) is ∙ ap (method_call p n v) one ∙ h f ∙ ap (over_items p (row_method b) f) (sym those) in
+    subst (λ (o : Placed Plain). Evaluates o s) (sym gives) done
+
+-- ---- calls of values
+
+values_after : (v : Plain) (xs : List Argument) (vs : List Plain) (o : Option (List Plain)) → ((ws : List Plain) → o ≡ Some ws → xs ≡ map plain ws) → option_map (λ ws. v ∷ ws) o ≡ Some vs → plain v ∷ xs ≡ map plain vs
+values_after v xs vs (Some ws) are h = let e : vs ≡ v ∷ ws = cc in ap (λ l. plain v ∷ l) (are ws refl) ∙ sym (ap (map plain) e)
+values_after v xs vs None are h = absurd (cc)
+
+values_are : (xs : List Argument) (vs : List Plain) → values_in xs ≡ Some vs → xs ≡ map plain vs
+values_are [] vs h = let e : vs ≡ [] = cc in sym (ap (map plain) e)
+values_are (plain v ∷ xs) vs h = values_after v xs vs (values_in xs) (λ ws e. values_are xs ws e) h
+values_are (block f ∷ xs) vs h = absurd (cc)
+
+pub method_of_values : (k : Callee) (v : Plain) (p : Place) (n : List ℕ) (xs : List Argument) (vs : List Plain) (env : Env) (s : Result Value EvalRefusal) → k ≡ method v p n → values_in xs ≡ Some vs → Evaluates (method_call p n v (map plain vs)) s → Evaluates (called k (λ e. Ok xs) env) s
+method_of_values k v p n xs vs env s is some done = subst (λ (o : Placed Plain). Evaluates o s) (sym (ap (λ c. called c (λ e. Ok xs) env) is ∙ ap (method_call p n v) (values_are xs vs some))) done
+
+pub math_of_values : (k : Callee) (p : Place) (n : List ℕ) (xs : List Argument) (vs : List Plain) (env : Env) (s : Result Value EvalRefusal) → k ≡ math p n → values_in xs ≡ Some vs → Evaluates (math_call p n (map plain vs)) s → Evaluates (called k (λ e. Ok xs) env) s
+math_of_values k p n xs vs env s is some done = subst (λ (o : Placed Plain). Evaluates o s) (sym (ap (λ c. called c (λ e. Ok xs) env) is ∙ ap (math_call p n) (values_are xs vs some))) done
+
+pub function_of_values : (k : Callee) (p : Place) (n : List ℕ) (xs : List Argument) (vs : List Plain) (env : Env) (titles : List (List ℕ)) (answer : ℕ → List Plain → Option Plain) (s : Result Value EvalRefusal) → k ≡ function p n → values_in xs ≡ Some vs → IsBare env titles answer → Evaluates (native_call p n titles answer vs) s → Evaluates (called k (λ e. Ok xs) env) s
+function_of_values k p n xs vs env titles answer s is some bare done =
+    let known : called k (λ e. Ok xs) env ≡ by_function (function_in n env.functions) p n env vs = ap (λ c. called c (λ e. Ok xs) env) is ∙ ap (λ (o : Option (List Plain)). by_values p o (λ ws. by_function (function_in n env.functions) p n env ws)) some in
+    let native : called k (λ e. Ok xs) env ≡ native_call p n titles answer vs = known ∙ ap (λ fs. by_function (function_in n fs) p n env vs) bare.no_functions ∙ ap (λ ts. native_call p n ts env.answer vs) bare.has_titles ∙ ap (λ f. native_call p n titles f vs) bare.has_answer in
+    subst (λ (o : Placed Plain). Evaluates o s) (sym native) done

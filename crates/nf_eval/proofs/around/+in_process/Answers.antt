@@ -1,0 +1,12 @@
+use Rattle.std.proofs.Common.{◌≡◌, ◌∙◌, ap, sym, rules}
+use Rattle.nf_calls.specs.Scope.{with_names, inside}
+use Rattle.nf_eval.specs.declared.around.Around.{the_lemmas}
+use Rattle.nf_eval.specs.Latest.{names_of}
+use Rattle.nf_eval.specs.Memory.{seen}
+use Rattle.nf_eval.proofs.around.+in_process.Goals as goal
+
+pub returns-in-Body : goal.returns-in-Body
+returns-in-Body t c titles answer =
+    let is : seen c.args.around.now titles answer ≡ with_names (names_of c.in-Body.field-0.now) (inside (seen c.in-Body.outer.now titles answer)) = search (rules, the_lemmas) in
+    let outer : c.in_process.result ≡ (seen c.in-Body.outer.now titles answer).in_process = c.in_process.ensures titles answer in
+    outer ∙ ap (λ e. e.in_process) (sym is)

@@ -1,0 +1,7 @@
+use Rattle.std.proofs.Common.{◌≡◌, drop}
+use Rattle.nf_builtins.specs.Natives.{is_among}
+use Rattle.nf_eval.specs.Memory.{texts_of}
+use Rattle.nf_eval.proofs.environment.matched.Given as goal
+
+abbrev pub invariant-loop-pattern : goal.invariant-loop-pattern
+invariant-loop-pattern l = is_among l.text (texts_of (drop l.pattern-index l.patterns)) ≡ is_among l.text (texts_of l.patterns)

@@ -1,0 +1,85 @@
+//! What is seen from within a body.
+
+ghost use Rattle.std.specs.Prelude.{◌≡◌, ℕ, List, Option, IfOk, if◌then◌else◌};
+ghost use Rattle.nf_value.specs.Plain.{Plain};
+ghost use Rattle.nf_value.specs.View.{plain_of};
+ghost use Rattle.nf_value.specs.declared.fault.EvalKind.TheVariants.{WrongKind};
+ghost use Rattle.nf_builtins.specs.Natives.{is_among};
+ghost use Rattle.nf_marks.specs.Compare.{matches};
+ghost use Rattle.nf_calls.specs.Placed.{Evaluates, made, fault};
+ghost use Rattle.nf_calls.specs.Scope.{value_of};
+ghost use Rattle.nf_eval.specs.Memory.{seen, IsBare};
+
+use crate::environment::{Env, matched};
+use crate::scope::Scope;
+use nf_value::{EvalRefusal, Mem, Place, Value};
+use std::alloc::Global;
+
+/// What is seen: all that an environment has, and in a body its names before those around it.
+#[derive(Clone, Copy)]
+pub(crate) enum Around<'a> {
+    /// An environment.
+    Whole(&'a Env),
+    /// The names of a body, and what is seen around it.
+    Body(&'a Scope, &'a Around<'a>),
+}
+
+/// The value of a name, null where it has none. Takes time by the number of names.
+///
+/// # Errors
+///
+/// `Mem` where there is no memory for a copy.
+pub(crate) fn value_seen(name: &str, around: &Around<'_>) -> Result<Value, Mem>
+    ensures { IfOk result (λ v. (titles : List (List ℕ)) (answer : ℕ → List Plain → Option Plain) → value_of name.now (seen around.now titles answer) ≡ plain_of v) }
+{
+    match around {
+        Around::Whole(env) => match env.names.value(name) {
+            Some(value) => value.copy(),
+            None => Ok(Value::Null),
+        },
+        Around::Body(names, outer) => match names.value(name) {
+            Some(value) => value.copy(),
+            None => value_seen(name, outer),
+        },
+    }
+}
+
+/// Whether a value's text is matched by the pattern of a text, at the place of the mark.
+///
+/// # Errors
+///
+/// `WrongKind` there of a value that is no text, and where no such pattern is built. `Mem` for want of memory.
+pub(crate) fn match_seen(
+    alloc: Global,
+    place: Place,
+    text: &str,
+    around: &Around<'_>,
+    value: &Value,
+) -> Result<Value, EvalRefusal>
+    ensures { (titles : List (List ℕ)) (answer : ℕ → List Plain → Option Plain) → Evaluates (if is_among text.now (seen around.now titles answer).patterns then made place (matches (plain_of value.now) text.now) else fault WrongKind place) result }
+{
+    match around {
+        Around::Whole(env) => matched(alloc, place, value, text, &env.patterns),
+        Around::Body(_, outer) => match_seen(alloc, place, text, outer, value),
+    }
+}
+
+/// Whether it is a process's.
+pub(crate) fn in_process(around: &Around<'_>) -> bool
+    ensures { (titles : List (List ℕ)) (answer : ℕ → List Plain → Option Plain) → result ≡ (seen around.now titles answer).in_process }
+{
+    match around {
+        Around::Whole(env) => env.in_process,
+        Around::Body(_, outer) => in_process(outer),
+    }
+}
+
+/// No script's functions are known, and the program's are those that it hands in.
+pub(crate) fn bare(around: &Around<'_>)
+    ensures { (titles : List (List ℕ)) (answer : ℕ → List Plain → Option Plain) → IsBare (seen around.now titles answer) titles answer }
+{
+    match around {
+        Around::Whole(_) => {}
+        Around::Body(_, outer) => bare(outer),
+    }
+}

@@ -1,0 +1,26 @@
+//! Closures.
+
+ghost use Rattle.std.specs.Prelude.{◌≡◌, ℕ, List, Option};
+ghost use Rattle.nf_value.specs.Plain.{Plain};
+ghost use Rattle.nf_ast.specs.View.{view_closure};
+ghost use Rattle.nf_eval.specs.Memory.{env_of, closing};
+ghost use Rattle.nf_eval.specs.Closing.{closing_of};
+
+use crate::environment::Env;
+use nf_ast::Closure as Code;
+
+/// A closure with the environment that it saw when it was made (Nextflow reference documentation, "Syntax", "Closure"). Contracts see its `closing_of`.
+#[derive(Drop)]
+pub struct Closure {
+    pub(crate) code: Code,
+    pub(crate) env: Env,
+}
+
+impl Closure {
+    /// A closure in an environment. Takes no memory.
+    pub fn new(code: Code, env: Env) -> Closure
+        ensures { (titles : List (List ℕ)) (answer : ℕ → List Plain → Option Plain) → closing_of result titles answer ≡ closing (view_closure code) (env_of env titles answer) }
+    {
+        Closure { code, env }
+    }
+}

@@ -1,0 +1,95 @@
+//! What an expression is evaluated in.
+
+ghost use Rattle.std.specs.Prelude.{◌≡◌, ◌∷◌, ◌++◌, [], ℕ, List, Option, OnOk, Ok, true, if◌then◌else◌, false};
+ghost use Rattle.nf_value.specs.Plain.{Plain};
+ghost use Rattle.nf_value.specs.View.{plain_of};
+ghost use Rattle.nf_value.specs.declared.fault.EvalKind.TheVariants.{WrongKind};
+ghost use Rattle.nf_builtins.specs.Natives.{is_among};
+ghost use Rattle.nf_marks.specs.Compare.{matches};
+ghost use Rattle.nf_calls.specs.Placed.{Evaluates, made, fault};
+ghost use Rattle.nf_eval.specs.Memory.{texts_of};
+
+use crate::patterns::Pattern;
+use crate::scope::Scope;
+use nf_calls::{fault_at, matches_value};
+use nf_pattern::WholeRe;
+use nf_value::{EvalKind, EvalRefusal, Mem, Place, Txt, Value};
+use std::alloc::Global;
+
+/// What an expression is evaluated in: names with their values, patterns that are built, and whether it is a process's (own). Contracts see its
+/// `env_of`.
+#[derive(Drop)]
+pub struct Env {
+    pub(crate) names: Scope,
+    pub(crate) patterns: Vec<Pattern>,
+    pub(crate) in_process: bool,
+}
+
+impl Env {
+    ghost use Rattle.nf_eval.specs.Memory.{env_of};
+
+    /// No names and no patterns, and no process's. Takes no memory.
+    pub fn new(alloc: Global) -> Env
+        ensures { (titles : List (List ℕ)) (answer : ℕ → List Plain → Option Plain) → env_of result titles answer ≡ record { names = []; captured = []; functions = []; patterns = []; titles = titles; answer = answer; in_process = false } }
+    {
+        Env {
+            names: Scope::new(alloc),
+            patterns: Vec::new(alloc),
+            in_process: false,
+        }
+    }
+
+    /// Adds a name.
+    ///
+    /// # Errors
+    ///
+    /// `Mem` where there is no memory for it.
+    pub fn define(&mut self, name: Txt, value: Value) -> Result<(), Mem>
+        ensures { OnOk result ((titles : List (List ℕ)) (answer : ℕ → List Plain → Option Plain) → env_of self.new titles answer ≡ record (env_of self.old titles answer) { captured = (name, plain_of value) ∷ (env_of self.old titles answer).captured }) }
+    {
+        self.names.define(name, value)
+    }
+
+    /// Adds a pattern that was built of a text.
+    ///
+    /// # Errors
+    ///
+    /// `Mem` where there is no memory for it.
+    pub fn add_pattern(&mut self, text: Txt, re: WholeRe) -> Result<(), Mem>
+        requires { text ≡ re }
+        ensures { OnOk result ((titles : List (List ℕ)) (answer : ℕ → List Plain → Option Plain) → env_of self.new titles answer ≡ record (env_of self.old titles answer) { patterns = (env_of self.old titles answer).patterns ++ text ∷ [] }) }
+    {
+        self.patterns.push(Pattern { text, re })?;
+        Ok(())
+    }
+
+    /// From here on it is a process's: there a hole whose value is a list of at least one file, and of files alone, prints their names with blanks
+    /// between them (own). Takes no memory.
+    pub fn for_process(&mut self)
+        ensures { (titles : List (List ℕ)) (answer : ℕ → List Plain → Option Plain) → env_of self.new titles answer ≡ record (env_of self.old titles answer) { in_process = true } }
+    {
+        self.in_process = true;
+    }
+}
+
+/// Whether a value's text is matched by the pattern of a text, at the place of the mark.
+///
+/// # Errors
+///
+/// `WrongKind` there of a value that is no text, and where no such pattern is built. `Mem` for want of memory.
+pub(crate) fn matched(
+    alloc: Global,
+    place: Place,
+    value: &Value,
+    text: &str,
+    patterns: &[Pattern],
+) -> Result<Value, EvalRefusal>
+    ensures { Evaluates (if is_among text.now (texts_of patterns.now) then made place (matches (plain_of value.now) text.now) else fault WrongKind place) result }
+{
+    for pattern in patterns {
+        if pattern.text.as_str() == text {
+            return matches_value(alloc, place, value, &pattern.re);
+        }
+    }
+    Err(fault_at(place, EvalKind::WrongKind))
+}

@@ -1,0 +1,222 @@
+//! What is read of a subject, and what is called of it.
+
+ghost use Rattle.std.specs.Prelude.{◌≡◌, ℕ, List, Option, map, not, Some, Ok};
+ghost use Rattle.nf_value.specs.Plain.{Plain};
+ghost use Rattle.nf_value.specs.View.{plain_of};
+ghost use Rattle.nf_marks.specs.Template.{listed as listed_of};
+ghost use Rattle.nf_ast.specs.Tree as tree;
+ghost use Rattle.nf_ast.specs.Tree.{Tree};
+ghost use Rattle.nf_calls.specs.Placed.{Evaluates, Placed};
+ghost use Rattle.nf_calls.specs.Scope.{Env};
+ghost use Rattle.nf_calls.specs.Calls.{Argument, values_in, called};
+ghost use Rattle.nf_eval.specs.Evaluation.{read_safe, safe_method};
+ghost use Rattle.nf_eval.specs.Memory.{seen};
+ghost use Rattle.nf_eval.specs.Chains.{value_at, is_math_at, callee_of, takes, Stands, Comes, Calls, Waits, IsCall};
+
+use crate::around::{Around, bare, value_seen};
+use crate::subjects::{Called, Subject, Waiting};
+use nf_builtins::Natives;
+use nf_calls::{fault_at, math_value, method_value, native_value, property_value};
+use nf_value::{EvalKind, EvalRefusal, Place, Txt, Vals, Value};
+use std::alloc::Global;
+
+/// The value of a subject.
+pub(crate) fn read(
+    alloc: Global,
+    subject: Subject,
+    around: &Around<'_>,
+) -> Result<Value, EvalRefusal>
+    ensures { (titles : List (List ℕ)) (answer : ℕ → List Plain → Option Plain) → Evaluates (value_at subject (seen around.now titles answer)) result }
+{
+    match subject {
+        Subject::Value(value) => Ok(value),
+        Subject::Name(_, name) => Ok(value_seen(name.as_str(), around)?),
+        Subject::Property(value, place, name) => property_value(
+            alloc,
+            place,
+            &value,
+            name.as_str(),
+        ),
+        Subject::Safe(value, place, name) => safe_value(alloc, place, &value, &name),
+        Subject::Math(place, name) => {
+            let value = value_seen("Math", around)?;
+            property_value(alloc, place, &value, name.as_str())
+        }
+        Subject::Call(_, _, given) => match given {
+            Ok(value) => Ok(value),
+            Err(fault) => Err(EvalRefusal::Fault(fault)),
+        },
+    }
+}
+
+fn safe_value(alloc: Global, place: Place, value: &Value, name: &Txt) -> Result<Value, EvalRefusal>
+    ensures { Evaluates (read_safe place name.now (plain_of value.now)) result }
+{
+    match value {
+        Value::Null => Ok(Value::Null),
+        _ => property_value(alloc, place, value, name.as_str()),
+    }
+}
+
+/// A subject with `.name` after it.
+pub(crate) fn property(
+    alloc: Global,
+    place: Place,
+    name: Txt,
+    before: Subject,
+    around: &Around<'_>,
+) -> Result<Subject, EvalRefusal>
+    ensures { (titles : List (List ℕ)) (answer : ℕ → List Plain → Option Plain) (t : Tree) → Stands t (seen around.now titles answer) before → Comes (tree.property t (tree.name place name)) (seen around.now titles answer) result }
+{
+    if is_math(&before) {
+        return Ok(Subject::Math(place, name));
+    }
+    let of = read(alloc, before, around)?;
+    Ok(Subject::Property(of, place, name))
+}
+
+fn is_math(subject: &Subject) -> bool
+    ensures { result ≡ is_math_at subject.now }
+{
+    match subject {
+        Subject::Name(_, name) => name.as_str() == "Math",
+        Subject::Value(_) => false,
+        Subject::Property(_, _, _) => false,
+        Subject::Safe(_, _, _) => false,
+        Subject::Math(_, _) => false,
+        Subject::Call(_, _, _) => false,
+    }
+}
+
+/// A subject with `?.name` after it.
+pub(crate) fn safe_property(
+    alloc: Global,
+    place: Place,
+    name: Txt,
+    before: Subject,
+    around: &Around<'_>,
+) -> Result<Subject, EvalRefusal>
+    ensures { (titles : List (List ℕ)) (answer : ℕ → List Plain → Option Plain) (t : Tree) → Stands t (seen around.now titles answer) before → Comes (tree.safe_property t (tree.name place name)) (seen around.now titles answer) result }
+{
+    let of = read(alloc, before, around)?;
+    Ok(Subject::Safe(of, place, name))
+}
+
+/// What is called where arguments come next at a place.
+///
+/// # Errors
+///
+/// The fault of the subject, and `WrongKind` at the place where it is a value.
+pub(crate) fn callee(subject: Subject, place: Place) -> Result<Called, EvalRefusal>
+    ensures { (env : Env) → Calls subject place env result }
+{
+    match subject {
+        Subject::Value(_) => Err(fault_at(place, EvalKind::WrongKind)),
+        Subject::Name(at, name) => Ok(Called::Function(at, name)),
+        Subject::Property(value, at, name) => Ok(Called::Method(value, at, name)),
+        Subject::Safe(value, at, name) => Ok(safe_callee(value, at, name)),
+        Subject::Math(at, name) => Ok(Called::Math(at, name)),
+        Subject::Call(_, _, given) => match given {
+            Ok(_) => Err(fault_at(place, EvalKind::WrongKind)),
+            Err(fault) => Err(EvalRefusal::Fault(fault)),
+        },
+    }
+}
+
+fn safe_callee(value: Value, place: Place, name: Txt) -> Called
+    ensures { callee_of result ≡ safe_method place name (plain_of value) }
+{
+    match value {
+        Value::Null => Called::Nothing,
+        value => Called::Method(value, place, name),
+    }
+}
+
+/// Nothing is called, so that arguments aren't evaluated.
+pub(crate) fn calls_nothing(callee: &Called) -> bool
+    ensures { not result ≡ takes (callee_of callee.now) }
+{
+    match callee {
+        Called::Nothing => true,
+        Called::Method(_, _, _) => false,
+        Called::Function(_, _) => false,
+        Called::Math(_, _) => false,
+    }
+}
+
+/// What is called where a closure comes next, whose brace stands at a place.
+///
+/// # Errors
+///
+/// The fault of the subject, and `WrongKind` at the place where it is a value.
+pub(crate) fn waiting(subject: Subject, place: Place) -> Result<Waiting, EvalRefusal>
+    ensures { (t : Tree) (env : Env) → Stands t env subject → Waits t env place result }
+{
+    match subject {
+        Subject::Value(_) => Err(fault_at(place, EvalKind::WrongKind)),
+        Subject::Name(at, name) => Ok(alone(Called::Function(at, name))),
+        Subject::Property(value, at, name) => Ok(alone(Called::Method(value, at, name))),
+        Subject::Safe(value, at, name) => Ok(alone(safe_callee(value, at, name))),
+        Subject::Math(at, name) => Ok(alone(Called::Math(at, name))),
+        Subject::Call(callee, count, _) => Ok(Waiting { callee, count }),
+    }
+}
+
+fn alone(callee: Called) -> Waiting
+    ensures { result ≡ record { callee = callee; count = 1 } }
+{
+    Waiting { callee, count: 1 }
+}
+
+/// A call with what it gives.
+///
+/// # Errors
+///
+/// `Mem` where there was no memory to tell.
+pub(crate) fn finished(
+    callee: Called,
+    count: usize,
+    given: Result<Value, EvalRefusal>,
+) -> Result<Subject, EvalRefusal>
+    ensures { (o : Placed Plain) → Evaluates o given → IsCall callee count o result }
+{
+    match given {
+        Ok(value) => Ok(Subject::Call(callee, count, Ok(value))),
+        Err(EvalRefusal::Fault(fault)) => Ok(Subject::Call(callee, count, Err(fault))),
+        Err(EvalRefusal::Mem) => Err(EvalRefusal::Mem),
+    }
+}
+
+/// What a call gives of values.
+pub(crate) fn of_values<N: Natives>(
+    alloc: Global,
+    callee: &Called,
+    values: &Vals,
+    around: &Around<'_>,
+    natives: &N,
+) -> Result<Value, EvalRefusal>
+    requires { N.keeps natives.now }
+    ensures { (xs : List Argument) → values_in xs ≡ Some values.now → Evaluates (called (callee_of callee.now) (λ e. Ok xs) (seen around.now (N.titles natives.now) (N.answer natives.now))) result }
+{
+    match callee {
+        Called::Nothing => Ok(Value::Null),
+        Called::Method(value, place, name) => {
+            method_value(alloc, *place, name.as_str(), value, values)
+        }
+        Called::Function(place, name) => {
+            bare(around);
+            native_value(alloc, *place, name.as_str(), values, natives)
+        }
+        Called::Math(place, name) => math_value(alloc, *place, name.as_str(), values),
+    }
+}
+
+/// The items of a list, and none of any other value.
+pub(crate) fn listed(value: &Value) -> &[Value]
+    ensures { map plain_of result.now ≡ listed_of (plain_of value.now) }
+{
+    match value {
+        Value::List(list) => list.items(),
+        _ => &[],
+    }
+}

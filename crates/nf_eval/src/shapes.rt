@@ -1,0 +1,121 @@
+//! What stands where an expression stands.
+
+ghost use Rattle.std.specs.Prelude.{◌≡◌, map, not, MatchOption, Some, None};
+ghost use Rattle.nf_ast.specs.View.{view, view_operand, view_branch, view_postfix};
+ghost use Rattle.nf_calls.specs.Body.{pattern_in};
+ghost use Rattle.nf_eval.specs.Shapes.{is_nil, is_closure, is_plain};
+
+use nf_ast::{Branch, Expr, Operand, Postfix, Prefix};
+use nf_value::Txt;
+
+/// The text of a pattern or a plain string.
+pub(crate) fn pattern_text(expr: &Expr) -> Option<&Txt>
+    ensures { MatchOption result (pattern_in (view expr.now) ≡ None) (λ t. pattern_in (view expr.now) ≡ Some t.now) }
+{
+    match expr {
+        Expr::Pattern(_, text) => Some(text),
+        Expr::Text(_, _, text) => Some(text),
+        Expr::Prefix(marks, of) => {
+            if no_marks(marks) {
+                pattern_text(of)
+            } else {
+                None
+            }
+        }
+        Expr::Infix(first, rest) => {
+            if no_operands(rest) {
+                pattern_text(first)
+            } else {
+                None
+            }
+        }
+        Expr::Conditional(first, rest) => {
+            if no_branches(rest) {
+                pattern_text(first)
+            } else {
+                None
+            }
+        }
+        Expr::Postfix(first, rest) => {
+            if no_parts(rest) {
+                pattern_text(first)
+            } else {
+                None
+            }
+        }
+        _ => None,
+    }
+}
+
+/// Whether it is a closure, and else a plain expression.
+pub(crate) fn is_block(expr: &Expr) -> bool
+    ensures closure { result ≡ is_closure (view expr.now) }
+    ensures plain { not result ≡ is_plain (view expr.now) }
+{
+    match expr {
+        Expr::Closure(_) => true,
+        Expr::Prefix(marks, of) => { if no_marks(marks) { is_block(of) } else { false } }
+        Expr::Infix(first, rest) => {
+            if no_operands(rest) {
+                is_block(first)
+            } else {
+                false
+            }
+        }
+        Expr::Conditional(first, rest) => {
+            if no_branches(rest) {
+                is_block(first)
+            } else {
+                false
+            }
+        }
+        Expr::Postfix(first, rest) => {
+            if no_parts(rest) {
+                is_block(first)
+            } else {
+                false
+            }
+        }
+        _ => false,
+    }
+}
+
+/// No mark stands before an operand.
+pub(crate) fn no_marks(list: &[Prefix]) -> bool
+    ensures { result ≡ is_nil list.now }
+{
+    match list {
+        [] => true,
+        [_first, ..] => false,
+    }
+}
+
+/// No operand comes after the first.
+pub(crate) fn no_operands(list: &[Operand]) -> bool
+    ensures { result ≡ is_nil (map view_operand list.now) }
+{
+    match list {
+        [] => true,
+        [_first, ..] => false,
+    }
+}
+
+/// No operand of a condition comes after the first.
+pub(crate) fn no_branches(list: &[Branch]) -> bool
+    ensures { result ≡ is_nil (map view_branch list.now) }
+{
+    match list {
+        [] => true,
+        [_first, ..] => false,
+    }
+}
+
+/// Nothing is read of an expression or called on it.
+pub(crate) fn no_parts(list: &[Postfix]) -> bool
+    ensures { result ≡ is_nil (map view_postfix list.now) }
+{
+    match list {
+        [] => true,
+        [_first, ..] => false,
+    }
+}
