@@ -9,9 +9,9 @@ use Rattle.nf_value.specs.declared.fault.EvalRefusal.{EvalRefusal}
 use Rattle.nf_value.specs.declared.fault.EvalRefusal.TheVariants as refusal
 use Rattle.nf_marks.specs.Template.{listed}
 use Rattle.nf_calls.specs.declared.blocks.BlockMethod.{BlockMethod}
-use Rattle.nf_calls.specs.Placed.{Placed, ◌>>=◌, Evaluates}
+use Rattle.nf_calls.specs.Placed.{Placed, Evaluates}
 use Rattle.nf_calls.specs.Scope.{Env, function_in}
-use Rattle.nf_calls.specs.Calls.{Argument, plain, block, values_in, native_call, by_values, by_function, over_items, method_call, math_call, function_call, Callee, nothing, method, function, math, called}
+use Rattle.nf_calls.specs.Calls.{Argument, plain, block, values_in, native_call, by_values, by_function, over_items, method_call, math_call, Callee, method, function, math, called}
 use Rattle.nf_calls.specs.Blocks.{row_method, IsFaultOfBlocks}
 use Rattle.nf_eval.specs.Memory.{IsBare}
 

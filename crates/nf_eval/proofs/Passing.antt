@@ -1,6 +1,6 @@
 -- Arguments, and closures among them.
-use Rattle.std.proofs.Common.{◌≡◌, ◌∙◌, ℕ, suc, List, [], ◌∷◌, ◌++◌, length, map, Ok, Err, refl, sym, ap, subst, arith, length-append}
-use Rattle.std.specs.Prelude.{Option, Some, None, option_map}
+use Rattle.std.proofs.Common.{◌≡◌, ◌∙◌, ℕ, suc, List, [], ◌∷◌, ◌++◌, length, Ok, Err, refl, ap, arith, length-append}
+use Rattle.std.specs.Prelude.{None}
 use Rattle.nf_value.specs.Plain.{Plain}
 use Rattle.nf_ast.specs.Tree.{Tree}
 use Rattle.nf_ast.specs.View.{trees}

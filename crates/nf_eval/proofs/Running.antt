@@ -1,17 +1,15 @@
 -- What statements and bodies do.
-use Rattle.std.proofs.Common.{◌≡◌, ◌∙◌, ℕ, List, [], ◌∷◌, ◌++◌, ◌-◌, length, map, drop, Ok, Err, refl, sym, ap, subst, append_assoc}
-use Rattle.std.specs.Prelude.{Result, if◌then◌else◌}
+use Rattle.std.proofs.Common.{◌≡◌, ◌∙◌, ℕ, List, [], ◌∷◌, ◌++◌, ◌-◌, length, drop, Ok, refl, sym, ap, append_assoc}
 use mathlib.Core.List.{reverse}
 use Rattle.std.proofs.lemmas.List.{append-nil, reverse-append}
 use Rattle.nf_value.specs.Plain.{Plain, null}
 use Rattle.nf_value.specs.View.{plain_of}
-use Rattle.nf_value.specs.declared.value.Value.{Value}
 use Rattle.nf_value.specs.declared.place.Place.{Place}
 use Rattle.nf_ast.specs.Tree as tree
 use Rattle.nf_ast.specs.Tree.{Tree}
 use Rattle.nf_calls.specs.Placed.{Placed, ◌>>=◌}
 use Rattle.nf_calls.specs.Scope.{Env, with_names, inside, defined}
-use Rattle.nf_calls.specs.Body.{Flow, going, returned, value_of_body, bound, with_all}
+use Rattle.nf_calls.specs.Body.{Flow, going, value_of_body, bound, with_all}
 use Rattle.nf_eval.specs.declared.flow.Step.{Step}
 use Rattle.nf_eval.specs.declared.flow.Step.TheVariants as step
 use Rattle.nf_eval.specs.Evaluation.{meaning_of, body_of, left}
