@@ -124,8 +124,16 @@ fn split_items(
     }
 }
 
-/// Each name with the value at its place.
-fn paired(alloc: Global, names: &[(Place, Txt)], args: &[Value]) -> Result<Vec<(Txt, Value)>, Mem>
+/// Each name with the value at its place, a copy. There are as many values as names.
+///
+/// # Errors
+///
+/// `Mem` where there is no memory for them.
+pub fn paired(
+    alloc: Global,
+    names: &[(Place, Txt)],
+    args: &[Value],
+) -> Result<Vec<(Txt, Value)>, Mem>
     requires { length names.now ≡ length args.now }
     ensures { IfOk result (λ v. map pair_of v.items ≡ paired_of (names_in (names_tree names.now)) (map plain_of args.now)) }
 {
