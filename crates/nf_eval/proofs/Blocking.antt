@@ -9,9 +9,9 @@ use Rattle.nf_value.specs.declared.fault.EvalRefusal.{EvalRefusal}
 use Rattle.nf_value.specs.declared.fault.EvalRefusal.TheVariants as refusal
 use Rattle.nf_marks.specs.Template.{listed}
 use Rattle.nf_calls.specs.declared.blocks.BlockMethod.{BlockMethod}
-use Rattle.nf_calls.specs.Placed.{Placed, Evaluates}
+use Rattle.nf_calls.specs.Placed.{Placed, ◌>>=◌, Evaluates}
 use Rattle.nf_calls.specs.Scope.{Env, function_in}
-use Rattle.nf_calls.specs.Calls.{Argument, plain, block, values_in, native_call, by_values, by_function, over_items, method_call, math_call, Callee, method, function, math, called}
+use Rattle.nf_calls.specs.Calls.{Argument, plain, block, values_in, native_call, by_values, by_function, over_items, method_call, math_call, function_call, Callee, nothing, method, function, math, called}
 use Rattle.nf_calls.specs.Blocks.{row_method, IsFaultOfBlocks}
 use Rattle.nf_eval.specs.Memory.{IsBare}
 
@@ -40,7 +40,7 @@ values_after : (v : Plain) (xs : List Argument) (vs : List Plain) (o : Option (L
 values_after v xs vs (Some ws) are h = let e : vs ≡ v ∷ ws = cc in ap (λ l. plain v ∷ l) (are ws refl) ∙ sym (ap (map plain) e)
 values_after v xs vs None are h = absurd (cc)
 
-values_are : (xs : List Argument) (vs : List Plain) → values_in xs ≡ Some vs → xs ≡ map plain vs
+pub values_are : (xs : List Argument) (vs : List Plain) → values_in xs ≡ Some vs → xs ≡ map plain vs
 values_are [] vs h = let e : vs ≡ [] = cc in sym (ap (map plain) e)
 values_are (plain v ∷ xs) vs h = values_after v xs vs (values_in xs) (λ ws e. values_are xs ws e) h
 values_are (block f ∷ xs) vs h = absurd (cc)

@@ -1,6 +1,7 @@
 -- What comes of the parts that stand in one list.
 use Rattle.std.proofs.Common.{◌≡◌, ◌∙◌, ℕ, suc, Bool, true, false, List, [], ◌∷◌, ◌++◌, length, map, Ok, Err, refl, sym, ap, subst, codes}
-use Rattle.std.specs.Prelude.{Option, Some, None, Result}
+use Rattle.std.specs.Prelude.{Option, Some, None, Result, if◌then◌else◌}
+use Rattle.std.specs.Str.{bytes_eq}
 use Rattle.std.proofs.lemmas.Slice.Eq.{bytes_eq-Decides}
 use Rattle.std.proofs.lemmas.Bool.{false≢true}
 use Rattle.nf_value.specs.Plain.{Plain, null}
@@ -37,7 +38,7 @@ use Rattle.nf_eval.proofs.Evaluating.{refused_on, refused_at}
 use Rattle.nf_eval.specs.declared.subjects.Subject.{Subject}
 use Rattle.nf_eval.specs.declared.subjects.Subject.TheVariants as s
 use Rattle.nf_eval.specs.declared.subjects.Called.{Called}
-use Rattle.nf_eval.specs.Chains.{prefixed, marked, going_on, callee_of, takes, placed_value, value_at, applied_at, is_math_at, and_more, Stands, Fails, Comes, IsCall, Waits}
+use Rattle.nf_eval.specs.Chains.{prefixed, marked, going_on, callee_of, takes, placed_value, value_at, applied_at, is_math_at, and_more, IsClosed, Stands, Fails, Comes, IsCall, Waits}
 use Rattle.nf_eval.specs.declared.subjects.Waiting.{Waiting}
 
 kept : (r : Placed Plain) → r ≡ (r >>= λ v. Ok v)
@@ -352,10 +353,10 @@ call_comes t args p env b c xs k (Err (refusal.Fault e)) h calls given len is = 
 call_comes t args p env b c xs k (Err refusal.Mem) h calls given len is = tt
 
 module _ (t c : Tree) (env : Env) (q : Place) where
-  abbrev one_block : Arguments
+  abbrev pub one_block : Arguments
   one_block inner = (meaning_of c).argument inner >>= λ a. Ok (a ∷ [])
 
-  abbrev that_block : Arguments
+  abbrev pub that_block : Arguments
   that_block e = Ok (block (block_of c e) ∷ [])
 
   pub with_value : (xs : List Argument) (k : Callee) → opening c ≡ q → is_closure c ≡ true → ((more : Arguments) → (meaning_of t).closed q more env ≡ called k (and_more xs more) env) → (meaning_of (tree.call_with t c)).value env ≡ called k (and_more xs that_block) env

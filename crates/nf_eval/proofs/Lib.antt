@@ -9,3 +9,9 @@ pub mod Running
 pub mod Lefts
 pub mod Passing
 pub mod Blocking
+pub mod Collecting
+pub mod Stating
+pub mod Arms
+pub mod Writing
+pub mod Innermost
+pub mod Reached

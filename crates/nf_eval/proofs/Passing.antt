@@ -1,6 +1,10 @@
 -- Arguments, and closures among them.
-use Rattle.std.proofs.Common.{◌≡◌, ◌∙◌, ℕ, suc, List, [], ◌∷◌, ◌++◌, length, Ok, Err, refl, ap, arith, length-append}
-use Rattle.std.specs.Prelude.{None}
+use Rattle.std.proofs.Common.{◌≡◌, ◌∙◌, ℕ, suc, List, [], ◌∷◌, ◌++◌, length, map, Ok, Err, refl, sym, ap, subst, arith, length-append}
+use Rattle.std.specs.Prelude.{Option, Some, None, option_map, Result}
+use Rattle.nf_value.specs.declared.value.Value.{Value}
+use Rattle.nf_value.specs.declared.fault.EvalRefusal.{EvalRefusal}
+use Rattle.nf_value.specs.declared.fault.EvalRefusal.TheVariants as refusal
+use Rattle.nf_eval.specs.Gives.{IsRefused, IsPassed}
 use Rattle.nf_value.specs.Plain.{Plain}
 use Rattle.nf_ast.specs.Tree.{Tree}
 use Rattle.nf_ast.specs.View.{trees}
@@ -53,3 +57,9 @@ one_more xs f k h = omega (arith, length-append xs (block f ∷ []), h)
 pub none_before : (xs : List Argument) (k : ℕ) → suc (length xs) ≡ k → k ≡ 1 → xs ≡ []
 none_before [] k h e = refl
 none_before (x ∷ xs) k h e = absurd (omega (arith, h, e))
+
+-- ---- an argument has no value
+
+pub passed_refused : (o : Placed Argument) (p : Placed Plain) (r : EvalRefusal) (x : Result (Option Value) EvalRefusal) → x ≡ Err r → o ≡ (p >>= λ v. Ok (plain v)) → IsRefused p r → IsPassed o x
+passed_refused o p (refusal.Fault e) x is same h = subst (IsPassed o) (sym is) (same ∙ ap (λ (q : Placed Plain). q >>= λ v. Ok (plain v)) h)
+passed_refused o p refusal.Mem x is same h = subst (IsPassed o) (sym is) tt

@@ -1,7 +1,8 @@
 -- What stands where an expression stands: chains of some parts, closures, and all else.
-use Rattle.std.proofs.Common.{◌≡◌, Bool, true, false, List, [], ◌∷◌, map, Ok, refl, sym, subst}
-use Rattle.std.specs.Prelude.{None, not}
+use Rattle.std.proofs.Common.{◌≡◌, ◌∙◌, ℕ, Bool, true, false, List, [], ◌∷◌, map, Ok, refl, sym, ap, subst}
+use Rattle.std.specs.Prelude.{Option, None, not}
 use Rattle.std.proofs.lemmas.Bool.{false≢true}
+use Rattle.nf_value.specs.Plain.{Plain}
 use Rattle.nf_value.specs.declared.place.Place.{Place}
 use Rattle.nf_ast.specs.declared.marks.InfixMark.{InfixMark}
 use Rattle.nf_ast.specs.declared.marks.BranchMark.{BranchMark}
@@ -16,10 +17,10 @@ use Rattle.nf_ast.specs.declared.expr.ClosureBody.TheFolds.{fold_out-Postfix, fo
 use Rattle.nf_ast.specs.Tree as tree
 use Rattle.nf_ast.specs.Tree.{Tree}
 use Rattle.nf_ast.specs.View.{BranchTree, ArmTree, Frame, asked, answered, preferred, ended, turned, framed, conditional, applied, postfix, operands, prefixes, view_postfix, view_operand, view_branch, body_step, expr_step, piece_step, postfix_step, stmt_step, arg_step, arm_step, branch_step, closure_step, label_step, operand_step, pair_step}
-use Rattle.nf_calls.specs.Placed.{◌>>=◌}
+use Rattle.nf_calls.specs.Placed.{Placed, ◌>>=◌}
 use Rattle.nf_calls.specs.Scope.{Env}
-use Rattle.nf_calls.specs.Calls.{plain, block}
-use Rattle.nf_calls.specs.Body.{going, pattern_in}
+use Rattle.nf_calls.specs.Calls.{Argument, plain, block}
+use Rattle.nf_calls.specs.Body.{Flow, going, pattern_in}
 use Rattle.nf_eval.specs.Evaluation.{meaning_of}
 use Rattle.nf_eval.specs.Shapes.{is_nil, is_closure, is_plain, is_flat, block_of}
 
@@ -190,3 +191,21 @@ closure_done _ env h = absurd (false≢true h)
 pub expression_done : (b : Bool) (t : Tree) (env : Env) → b ≡ is_closure t → not b ≡ is_plain t → (meaning_of t).done env ≡ ((meaning_of t).value env >>= λ v. Ok (going env v))
 expression_done true t env c p = closure_done t env (sym c)
 expression_done false t env c p = plain_done t env (sym p)
+
+-- ---- a closure in brackets is a closure
+
+pub prefixes_closure : (ms : List Prefix) (e : Tree) → is_closure (prefixes ms e) ≡ true → prefixes ms e ≡ e
+prefixes_closure [] e h = refl
+prefixes_closure (x ∷ ms) e h = absurd (false≢true h)
+
+pub operands_closure : (ys : List Operand) (a : Tree) → is_closure (operands a (map view_operand ys)) ≡ true → operands a (map view_operand ys) ≡ a
+operands_closure [] a h = refl
+operands_closure (y ∷ ys) a h = absurd (false≢true (sym (operands_chain y ys a).chain.no_closure ∙ h))
+
+pub conditional_closure : (ys : List Branch) (a : Tree) → is_closure (conditional [] a (map view_branch ys)) ≡ true → conditional [] a (map view_branch ys) ≡ a
+conditional_closure [] a h = refl
+conditional_closure (y ∷ ys) a h = absurd (false≢true (sym (conditional_chain (view_branch y) (map view_branch ys) a).chain.no_closure ∙ h))
+
+pub postfix_closure : (ys : List Postfix) (a : Tree) → is_closure (postfix a (map view_postfix ys)) ≡ true → postfix a (map view_postfix ys) ≡ a
+postfix_closure [] a h = refl
+postfix_closure (y ∷ ys) a h = absurd (false≢true (sym (postfix_chain y ys a).no_closure ∙ h))

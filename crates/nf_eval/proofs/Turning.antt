@@ -1,9 +1,10 @@
 -- How a conditional expression is read from the left.
-use Rattle.std.proofs.Common.{◌≡◌, ◌∙◌, ℕ, suc, Bool, true, false, List, [], ◌∷◌, Ok, Err, refl, sym, ap, subst}
+use Rattle.std.proofs.Common.{◌≡◌, ◌∙◌, ℕ, zero, suc, Bool, true, false, List, [], ◌∷◌, Ok, Err, refl, sym, ap, subst}
 use Rattle.std.specs.Prelude.{Option, Some, None, if◌then◌else◌}
 use Rattle.nf_value.specs.Plain.{Plain}
 use Rattle.nf_value.specs.Truth.{truth_of}
 use Rattle.nf_value.specs.declared.place.Place.{Place}
+use Rattle.nf_value.specs.declared.value.Value.{Value}
 use Rattle.nf_value.specs.declared.fault.EvalFault.{EvalFault}
 use Rattle.nf_value.specs.declared.fault.EvalKind.TheVariants.{WrongKind}
 use Rattle.nf_ast.specs.declared.marks.BranchMark.{BranchMark}
@@ -11,10 +12,15 @@ use Rattle.nf_ast.specs.declared.marks.BranchMark.TheVariants as branch
 use Rattle.nf_ast.specs.Tree as tree
 use Rattle.nf_ast.specs.Tree.{Tree}
 use Rattle.nf_ast.specs.View.{BranchTree, Frame, asked, answered, preferred, ended, turned, framed, conditional}
-use Rattle.nf_calls.specs.Placed.{Placed, ◌>>=◌, fault}
+use Rattle.nf_calls.specs.Placed.{Placed, ◌>>=◌, fault, Evaluates}
 use Rattle.nf_calls.specs.Scope.{Env}
 use Rattle.nf_eval.specs.Evaluation.{meaning_of, nowhere}
-use Rattle.nf_eval.specs.Turns.{IsTrueThere, IsFalseThere, Open, nothing_waits, true_asked, false_answered, false_preferred, Shut, chose_answer, chose_preferred, false_asked, more_asked, more_answered, more_preferred}
+use Rattle.std.specs.Prelude.{Result}
+use Rattle.nf_value.specs.declared.fault.EvalRefusal.{EvalRefusal}
+use Rattle.nf_value.specs.declared.fault.EvalRefusal.TheVariants as refusal
+use Rattle.nf_eval.specs.declared.turns.Turn.{Turn}
+use Rattle.nf_eval.specs.Gives.{IsRefused}
+use Rattle.nf_eval.specs.Turns.{Steps, IsTrueThere, IsFalseThere, Open, nothing_waits, true_asked, false_answered, false_preferred, Shut, chose_answer, chose_preferred, false_asked, more_asked, more_answered, more_preferred}
 
 module _ (env : Env) where
   abbrev gives : Tree → Placed Plain
@@ -193,3 +199,11 @@ module _ (env : Env) where
 
   pub chosen_back : (k : ℕ) (v : Plain) (n : ℕ) (fs : List Frame) (p : Place) (e : Tree) → k ≡ 0 → Shut env k (Some v) n fs → Back v n p (turned p fs e)
   chosen_back k v n fs p e is h = turn_chosen v n fs p e (subst (λ (i : ℕ). Shut env i (Some v) n fs) is h)
+
+  pub steps_refused : (n : ℕ) (fs : List Frame) (e : Tree) (r : EvalRefusal) (x : Result Turn EvalRefusal) → x ≡ Err r → Open env n fs → IsRefused (gives e) r → Steps env fs e x
+  steps_refused n fs e (refusal.Fault y) x is o h = subst (Steps env fs e) (sym is) (λ bs. fault_all y n fs e bs h o)
+  steps_refused n fs e refusal.Mem x is o h = subst (Steps env fs e) (sym is) tt
+
+  pub steps_fault : (fs : List Frame) (e : Tree) (bs : List BranchTree) (t : Tree) (r : EvalRefusal) (x : Result Value EvalRefusal) → x ≡ Err r → t ≡ conditional fs e bs → Steps env fs e (Err r) → Evaluates (gives t) x
+  steps_fault fs e bs t (refusal.Fault y) x is same h = subst (Evaluates (gives t)) (sym is) (ap gives same ∙ h bs)
+  steps_fault fs e bs t refusal.Mem x is same h = subst (Evaluates (gives t)) (sym is) tt

@@ -1,8 +1,9 @@
 -- Environments and closures as they lie in memory.
-use Rattle.std.specs.Prelude.{◌≡◌, ℕ, List, [], map, Option}
+use Rattle.std.specs.Prelude.{◌≡◌, ℕ, List, [], map, Option, false}
 use Rattle.nf_value.specs.Plain.{Plain}
 use Rattle.nf_ast.specs.Tree as tree
 use Rattle.nf_ast.specs.Tree.{Tree}
+use Rattle.nf_ast.specs.View.{view_closure}
 use Rattle.nf_calls.specs.Scope.{Env, inside, with_names}
 use Rattle.nf_eval.specs.declared.patterns.Pattern.{Pattern}
 use Rattle.nf_eval.specs.declared.environment.Env.{Env as Stored}

@@ -2,11 +2,18 @@
 #![tactic(auto)]
 
 mod around;
+mod blocks;
+mod bodies;
+mod calls;
+mod chains;
 mod closures;
+mod conditionals;
 mod environment;
+mod evaluator;
 mod flow;
 #[cfg(test)]
 mod leaf_tests;
+mod levels;
 mod patterns;
 mod reading;
 mod scope;
@@ -17,9 +24,11 @@ mod sums;
 mod tests;
 mod tree;
 mod turns;
+mod values;
 
 pub use closures::Closure;
 pub use environment::Env;
+pub use evaluator::{apply, eval};
 pub use scope::Scope;
 pub use sums::sum;
 pub use tree::{Operand, Sum, SumMark};

@@ -1,0 +1,32 @@
+use Rattle.std.proofs.Common.{◌≡◌, ◌∙◌, ◌-◌, ◌+◌, ◌<◌, take, length, get_or, Err, sym, ap, arith, rules}
+use Rattle.nf_value.specs.Plain.{Plain}
+use Rattle.nf_value.specs.View.{plain_of}
+use Rattle.nf_ast.specs.declared.expr.Prefix.{Prefix}
+use Rattle.nf_ast.specs.declared.marks.PrefixMark.TheVariants as before
+use Rattle.nf_calls.specs.Placed.{Placed, ◌>>=◌, made}
+use Rattle.nf_calls.specs.Marked.{prefix_of}
+use Rattle.nf_eval.specs.Chains.{prefixed}
+use Rattle.nf_eval.proofs.Evaluating.{fault_first}
+use Rattle.nf_eval.proofs.Innermost.{from_innermost}
+use Rattle.nf_eval.proofs.values.prefixed.Goals as goal
+
+abbrev no_mark : Prefix
+no_mark = record { place = record { line = 0; col = 0 }; mark = before.Not }
+
+pub returns-in_err-value : goal.returns-in_err-value
+returns-in_err-value c =
+    let marks = c.args.marks.now in
+    let i = c.loop-end.end - 1 in
+    let x = get_or marks i no_mark in
+    let next : c.loop-end.end ≡ i + 1 = omega arith in
+    let inside : i < length marks = omega (arith, c.loop-end.invariant.0) in
+    let err : c.from_residual.result ≡ Err c.in_err-value.field-0.0 = search rules in
+    fault_first (prefixed marks (plain_of c.args.of)) (made x.place (prefix_of x.mark (plain_of c.loop-end.value))) (prefixed (take i marks)) c.in_err-value.field-0.0 c.from_residual.result (sym c.loop-end.invariant.1 ∙ from_innermost marks c.loop-end.end i no_mark (plain_of c.loop-end.value) next inside) err c.in_err-value.ensures
+
+pub loop-end-preserved : goal.loop-end-preserved
+loop-end-preserved c =
+    let marks = c.args.marks.now in
+    let i = c.loop-end.end - 1 in
+    let next : c.loop-end.end ≡ i + 1 = omega arith in
+    let inside : i < length marks = omega (arith, c.loop-end.invariant.0) in
+    (omega (arith, c.loop-end.invariant.0), sym (ap (λ (r : Placed Plain). r >>= prefixed (take i marks)) c.in_ok-value.ensures) ∙ sym (from_innermost marks c.loop-end.end i no_mark (plain_of c.loop-end.value) next inside) ∙ c.loop-end.invariant.1)

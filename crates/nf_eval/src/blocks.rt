@@ -1,0 +1,171 @@
+//! Methods that go over the items of a list by a closure.
+
+ghost use Rattle.std.specs.Prelude.{map};
+ghost use Rattle.nf_value.specs.View.{plain_of};
+ghost use Rattle.nf_ast.specs.View.{view_closure};
+ghost use Rattle.nf_calls.specs.Placed.{Evaluates};
+ghost use Rattle.nf_calls.specs.Calls.{over_items, limited_at, any_of, every_of, found_of, all_found, images_of};
+ghost use Rattle.nf_calls.specs.Blocks.{row_method};
+ghost use Rattle.nf_eval.specs.Memory.{seen};
+ghost use Rattle.nf_eval.specs.Shapes.{block_of};
+ghost use Rattle.nf_eval.specs.Gives.{Lists};
+
+use crate::around::Around;
+use crate::scope::Scope;
+use nf_ast::Closure;
+use nf_builtins::Natives;
+use nf_calls::{BlockMethod, bound, copy_value, list_value};
+use nf_value::{EvalRefusal, Place, Value, truth};
+use std::alloc::Global;
+use std::slice;
+
+/// A method over items by a closure.
+#[cycle(value)]
+pub(crate) fn over<N: Natives>(
+    alloc: Global,
+    closure: &Closure,
+    kind: BlockMethod,
+    place: Place,
+    items: &[Value],
+    around: &Around<'_>,
+    natives: &N,
+) -> Result<Value, EvalRefusal>
+    requires { N.keeps natives.now }
+    ensures { Evaluates (over_items place (row_method kind) (block_of (view_closure closure.now) (seen around.now (N.titles natives.now) (N.answer natives.now))) (map plain_of items.now)) result }
+{
+    match kind {
+        BlockMethod::Any => any(alloc, closure, items, around, natives),
+        BlockMethod::Every => every(alloc, closure, items, around, natives),
+        BlockMethod::Find => find(alloc, closure, place, items, around, natives),
+        BlockMethod::FindAll => {
+            let values = find_all(alloc, closure, items, around, natives)?;
+            list_value(place, values)
+        }
+        BlockMethod::Collect => {
+            let values = images(alloc, closure, items, around, natives)?;
+            list_value(place, values)
+        }
+    }
+}
+
+/// Whether a closure is true for one of the items.
+#[cycle(value)]
+pub(crate) fn any<N: Natives>(
+    alloc: Global,
+    closure: &Closure,
+    items: &[Value],
+    around: &Around<'_>,
+    natives: &N,
+) -> Result<Value, EvalRefusal>
+    requires { N.keeps natives.now }
+    ensures { Evaluates (any_of (block_of (view_closure closure.now) (seen around.now (N.titles natives.now) (N.answer natives.now))) (map plain_of items.now)) result }
+{
+    for item in items {
+        let answer = applied(alloc, closure, slice::from_ref(item), around, natives)?;
+        if truth(&answer) {
+            return Ok(Value::Truth(true));
+        }
+    }
+    Ok(Value::Truth(false))
+}
+
+/// Whether a closure is true for all items.
+#[cycle(value)]
+pub(crate) fn every<N: Natives>(
+    alloc: Global,
+    closure: &Closure,
+    items: &[Value],
+    around: &Around<'_>,
+    natives: &N,
+) -> Result<Value, EvalRefusal>
+    requires { N.keeps natives.now }
+    ensures { Evaluates (every_of (block_of (view_closure closure.now) (seen around.now (N.titles natives.now) (N.answer natives.now))) (map plain_of items.now)) result }
+{
+    for item in items {
+        let answer = applied(alloc, closure, slice::from_ref(item), around, natives)?;
+        if !truth(&answer) {
+            return Ok(Value::Truth(false));
+        }
+    }
+    Ok(Value::Truth(true))
+}
+
+/// The first item for which a closure is true, or null.
+#[cycle(value)]
+pub(crate) fn find<N: Natives>(
+    alloc: Global,
+    closure: &Closure,
+    place: Place,
+    items: &[Value],
+    around: &Around<'_>,
+    natives: &N,
+) -> Result<Value, EvalRefusal>
+    requires { N.keeps natives.now }
+    ensures { Evaluates (limited_at place (found_of (block_of (view_closure closure.now) (seen around.now (N.titles natives.now) (N.answer natives.now))) (map plain_of items.now))) result }
+{
+    for item in items {
+        let answer = applied(alloc, closure, slice::from_ref(item), around, natives)?;
+        if truth(&answer) {
+            return copy_value(place, item);
+        }
+    }
+    Ok(Value::Null)
+}
+
+/// All items for which a closure is true.
+#[cycle(value)]
+pub(crate) fn find_all<N: Natives>(
+    alloc: Global,
+    closure: &Closure,
+    items: &[Value],
+    around: &Around<'_>,
+    natives: &N,
+) -> Result<Vec<Value>, EvalRefusal>
+    requires { N.keeps natives.now }
+    ensures { Lists (all_found (block_of (view_closure closure.now) (seen around.now (N.titles natives.now) (N.answer natives.now))) (map plain_of items.now)) result }
+{
+    let mut found = Vec::new(alloc);
+    for item in items {
+        let answer = applied(alloc, closure, slice::from_ref(item), around, natives)?;
+        if truth(&answer) {
+            found.push(item.copy()?)?;
+        }
+    }
+    Ok(found)
+}
+
+/// What a closure gives for each of the items.
+#[cycle(value)]
+pub(crate) fn images<N: Natives>(
+    alloc: Global,
+    closure: &Closure,
+    items: &[Value],
+    around: &Around<'_>,
+    natives: &N,
+) -> Result<Vec<Value>, EvalRefusal>
+    requires { N.keeps natives.now }
+    ensures { Lists (images_of (block_of (view_closure closure.now) (seen around.now (N.titles natives.now) (N.answer natives.now))) (map plain_of items.now)) result }
+{
+    let mut images = Vec::new(alloc);
+    for item in items {
+        let image = applied(alloc, closure, slice::from_ref(item), around, natives)?;
+        images.push(image)?;
+    }
+    Ok(images)
+}
+
+/// What a closure gives for its arguments.
+#[cycle(value)]
+pub(crate) fn applied<N: Natives>(
+    alloc: Global,
+    closure: &Closure,
+    args: &[Value],
+    around: &Around<'_>,
+    natives: &N,
+) -> Result<Value, EvalRefusal>
+    requires { N.keeps natives.now }
+    ensures { Evaluates (block_of (view_closure closure.now) (seen around.now (N.titles natives.now) (N.answer natives.now)) (map plain_of args.now)) result }
+{
+    let names = bound(alloc, closure.place, &closure.params, args)?;
+    crate::bodies::body(alloc, &closure.body, Scope::of(names), around, natives)
+}

@@ -1,0 +1,198 @@
+//! Calls with their arguments.
+
+ghost use Rattle.std.specs.Prelude.{◌≡◌, List, [], ◌∷◌, map, length, suc, true, Ok, None};
+ghost use Rattle.nf_value.specs.Plain.{Plain};
+ghost use Rattle.nf_value.specs.View.{plain_of};
+ghost use Rattle.nf_ast.specs.View.{view, view_closure, view_arg, trees};
+ghost use Rattle.nf_calls.specs.Placed.{Evaluates, Placed};
+ghost use Rattle.nf_calls.specs.Calls.{Argument, block, values_in, over_items, called as called_of};
+ghost use Rattle.nf_calls.specs.Blocks.{row_method};
+ghost use Rattle.nf_eval.specs.Evaluation.{meaning_of};
+ghost use Rattle.nf_eval.specs.Memory.{seen};
+ghost use Rattle.nf_eval.specs.Shapes.{is_closure, block_of};
+ghost use Rattle.nf_eval.specs.Gives.{Passes, IsPassed};
+ghost use Rattle.nf_eval.specs.Chains.{callee_of, and_more};
+
+use crate::around::Around;
+use crate::reading::{listed, of_values};
+use crate::shapes::is_block;
+use crate::subjects::Called;
+use nf_ast::{Arg, Closure, Expr};
+use nf_builtins::Natives;
+use nf_calls::{BlockMethod, block_method, fault_at, math_block};
+use nf_value::{EvalKind, EvalRefusal, Place, Vals, Value};
+use std::alloc::Global;
+
+/// The values of arguments, or none where a closure is among them.
+#[cycle(value)]
+pub(crate) fn arguments<N: Natives>(
+    alloc: Global,
+    args: &[Arg],
+    around: &Around<'_>,
+    natives: &N,
+) -> Result<Option<Vals>, EvalRefusal>
+    requires { N.keeps natives.now }
+    ensures { Passes ((meaning_of (trees (map view_arg args.now))).arguments (seen around.now (N.titles natives.now) (N.answer natives.now))) result }
+{
+    let mut values = Vec::new(alloc);
+    let mut blocks = false;
+    for arg in args {
+        match argument(alloc, arg, around, natives)? {
+            Some(value) => values.push(value)?,
+            None => blocks = true,
+        }
+    }
+    if blocks {
+        return Ok(None);
+    }
+    Ok(Some(Vals::of(values)))
+}
+
+/// The value of an argument, or none where it is a closure.
+#[cycle(value)]
+pub(crate) fn argument<N: Natives>(
+    alloc: Global,
+    arg: &Arg,
+    around: &Around<'_>,
+    natives: &N,
+) -> Result<Option<Value>, EvalRefusal>
+    requires { N.keeps natives.now }
+    ensures { IsPassed ((meaning_of (view_arg arg.now)).argument (seen around.now (N.titles natives.now) (N.answer natives.now))) result }
+{
+    match &arg.name {
+        Some((place, _)) => Err(fault_at(*place, EvalKind::WrongKind)),
+        None => unnamed(alloc, &arg.value, around, natives),
+    }
+}
+
+/// The value of an argument without a name, or none where it is a closure.
+#[cycle(value)]
+pub(crate) fn unnamed<N: Natives>(
+    alloc: Global,
+    expr: &Expr,
+    around: &Around<'_>,
+    natives: &N,
+) -> Result<Option<Value>, EvalRefusal>
+    requires { N.keeps natives.now }
+    ensures { IsPassed ((meaning_of (view expr.now)).argument (seen around.now (N.titles natives.now) (N.answer natives.now))) result }
+{
+    if is_block(expr) {
+        return Ok(None);
+    }
+    let value = crate::values::value(alloc, expr, around, natives)?;
+    Ok(Some(value))
+}
+
+/// What a call gives, where its arguments have values or a closure is among them.
+#[cycle(value)]
+pub(crate) fn performed<N: Natives>(
+    alloc: Global,
+    args: &[Arg],
+    callee: &Called,
+    given: Option<Vals>,
+    around: &Around<'_>,
+    natives: &N,
+) -> Result<Value, EvalRefusal>
+    requires { N.keeps natives.now }
+    ensures { (xs : List Argument) → (meaning_of (trees (map view_arg args.now))).arguments (seen around.now (N.titles natives.now) (N.answer natives.now)) ≡ Ok xs → values_in xs ≡ given → Evaluates (called_of (callee_of callee.now) (λ e. Ok xs) (seen around.now (N.titles natives.now) (N.answer natives.now))) result }
+{
+    match given {
+        Some(values) => of_values(alloc, callee, &values, around, natives),
+        None => of_blocks(alloc, args, callee, around, natives),
+    }
+}
+
+/// What a call gives where a closure is among its arguments.
+#[cycle(value)]
+pub(crate) fn of_blocks<N: Natives>(
+    alloc: Global,
+    args: &[Arg],
+    callee: &Called,
+    around: &Around<'_>,
+    natives: &N,
+) -> Result<Value, EvalRefusal>
+    requires { N.keeps natives.now }
+    ensures { (xs : List Argument) → (meaning_of (trees (map view_arg args.now))).arguments (seen around.now (N.titles natives.now) (N.answer natives.now)) ≡ Ok xs → values_in xs ≡ None → Evaluates (called_of (callee_of callee.now) (λ e. Ok xs) (seen around.now (N.titles natives.now) (N.answer natives.now))) result }
+{
+    match callee {
+        Called::Nothing => Ok(Value::Null),
+        Called::Function(place, _) => Err(fault_at(*place, EvalKind::WrongKind)),
+        Called::Math(place, name) => Err(math_block(alloc, *place, name.as_str())),
+        Called::Method(value, place, name) => {
+            let kind = block_method(alloc, *place, name.as_str(), value, args.len())?;
+            over_sole(alloc, args, kind, *place, listed(value), around, natives)
+        }
+    }
+}
+
+/// A method over items by the closure that is the only argument.
+#[cycle(value)]
+pub(crate) fn over_sole<N: Natives>(
+    alloc: Global,
+    args: &[Arg],
+    kind: BlockMethod,
+    place: Place,
+    items: &[Value],
+    around: &Around<'_>,
+    natives: &N,
+) -> Result<Value, EvalRefusal>
+    requires { N.keeps natives.now }
+    ensures { (f : List Plain → Placed Plain) → (meaning_of (trees (map view_arg args.now))).arguments (seen around.now (N.titles natives.now) (N.answer natives.now)) ≡ Ok (block f ∷ []) → Evaluates (over_items place (row_method kind) f (map plain_of items.now)) result }
+{
+    match args {
+        [] => Err(fault_at(place, EvalKind::Arity)),
+        [arg, ..] => over_expr(alloc, &arg.value, kind, place, items, around, natives),
+    }
+}
+
+/// A method over items by an expression that is a closure.
+#[cycle(value)]
+pub(crate) fn over_expr<N: Natives>(
+    alloc: Global,
+    expr: &Expr,
+    kind: BlockMethod,
+    place: Place,
+    items: &[Value],
+    around: &Around<'_>,
+    natives: &N,
+) -> Result<Value, EvalRefusal>
+    requires { N.keeps natives.now }
+    ensures { is_closure (view expr.now) ≡ true → Evaluates (over_items place (row_method kind) (block_of (view expr.now) (seen around.now (N.titles natives.now) (N.answer natives.now))) (map plain_of items.now)) result }
+{
+    match expr {
+        Expr::Closure(closure) => crate::blocks::over(
+            alloc, closure, kind, place, items, around, natives,
+        ),
+        Expr::Prefix(_, of) => { over_expr(alloc, of, kind, place, items, around, natives) }
+        Expr::Infix(first, _) => { over_expr(alloc, first, kind, place, items, around, natives) }
+        Expr::Conditional(first, _) => {
+            over_expr(alloc, first, kind, place, items, around, natives)
+        }
+        Expr::Postfix(first, _) => { over_expr(alloc, first, kind, place, items, around, natives) }
+        _ => Err(fault_at(place, EvalKind::WrongKind)),
+    }
+}
+
+/// What a call gives with a closure after it, which makes so many arguments.
+#[cycle(value)]
+pub(crate) fn over_call<N: Natives>(
+    alloc: Global,
+    closure: &Closure,
+    callee: &Called,
+    count: usize,
+    around: &Around<'_>,
+    natives: &N,
+) -> Result<Value, EvalRefusal>
+    requires { N.keeps natives.now }
+    ensures { (xs : List Argument) → suc (length xs) ≡ count → Evaluates (called_of (callee_of callee.now) (and_more xs (λ e. Ok (block (block_of (view_closure closure.now) e) ∷ []))) (seen around.now (N.titles natives.now) (N.answer natives.now))) result }
+{
+    match callee {
+        Called::Nothing => Ok(Value::Null),
+        Called::Function(place, _) => Err(fault_at(*place, EvalKind::WrongKind)),
+        Called::Math(place, name) => Err(math_block(alloc, *place, name.as_str())),
+        Called::Method(value, place, name) => {
+            let kind = block_method(alloc, *place, name.as_str(), value, count)?;
+            crate::blocks::over(alloc, closure, kind, *place, listed(value), around, natives)
+        }
+    }
+}

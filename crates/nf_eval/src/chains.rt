@@ -1,0 +1,183 @@
+//! What is read of an expression or called on it, one after another.
+
+ghost use Rattle.std.specs.Prelude.{◌≡◌, map, true};
+ghost use Rattle.nf_ast.specs.Tree as tree;
+ghost use Rattle.nf_ast.specs.Tree.{Tree};
+ghost use Rattle.nf_ast.specs.View.{view, view_postfix, view_closure, view_arg, trees, postfix, applied as applied_tree};
+ghost use Rattle.nf_eval.specs.Memory.{seen};
+ghost use Rattle.nf_eval.specs.Shapes.{is_flat};
+ghost use Rattle.nf_eval.specs.Chains.{Stands, Comes};
+
+use crate::around::Around;
+use crate::reading::{callee, calls_nothing, finished, property, read, safe_property, waiting};
+use crate::shapes::{no_branches, no_marks, no_operands};
+use crate::subjects::Subject;
+use nf_ast::{Arg, Closure, Expr, Postfix};
+use nf_builtins::Natives;
+use nf_calls::index_value;
+use nf_value::{EvalRefusal, Place, Value};
+use std::alloc::Global;
+
+/// What an expression comes to that parts may follow.
+#[cycle(value)]
+pub(crate) fn subject<N: Natives>(
+    alloc: Global,
+    expr: &Expr,
+    around: &Around<'_>,
+    natives: &N,
+) -> Result<Subject, EvalRefusal>
+    requires { N.keeps natives.now }
+    ensures { Comes (view expr.now) (seen around.now (N.titles natives.now) (N.answer natives.now)) result }
+{
+    match expr {
+        Expr::Name(place, name) => Ok(Subject::Name(*place, name.copy()?)),
+        Expr::Postfix(first, rest) => {
+            let first = subject(alloc, first, around, natives)?;
+            parts(alloc, rest, first, around, natives)
+        }
+        Expr::Prefix(marks, of) => {
+            if no_marks(marks) {
+                subject(alloc, of, around, natives)
+            } else {
+                flat(alloc, expr, around, natives)
+            }
+        }
+        Expr::Infix(first, rest) => {
+            if no_operands(rest) {
+                subject(alloc, first, around, natives)
+            } else {
+                flat(alloc, expr, around, natives)
+            }
+        }
+        Expr::Conditional(first, rest) => {
+            if no_branches(rest) {
+                subject(alloc, first, around, natives)
+            } else {
+                flat(alloc, expr, around, natives)
+            }
+        }
+        _ => flat(alloc, expr, around, natives),
+    }
+}
+
+/// The value of an expression that can't be called.
+#[cycle(value)]
+pub(crate) fn flat<N: Natives>(
+    alloc: Global,
+    expr: &Expr,
+    around: &Around<'_>,
+    natives: &N,
+) -> Result<Subject, EvalRefusal>
+    requires { N.keeps natives.now }
+    ensures { is_flat (view expr.now) ≡ true → Comes (view expr.now) (seen around.now (N.titles natives.now) (N.answer natives.now)) result }
+{
+    let value = crate::values::value(alloc, expr, around, natives)?;
+    Ok(Subject::Value(value))
+}
+
+/// What parts after an expression come to.
+#[cycle(value)]
+pub(crate) fn parts<N: Natives>(
+    alloc: Global,
+    rest: &[Postfix],
+    first: Subject,
+    around: &Around<'_>,
+    natives: &N,
+) -> Result<Subject, EvalRefusal>
+    requires { N.keeps natives.now }
+    ensures { (t : Tree) → Stands t (seen around.now (N.titles natives.now) (N.answer natives.now)) first → Comes (postfix t (map view_postfix rest.now)) (seen around.now (N.titles natives.now) (N.answer natives.now)) result }
+{
+    let mut subject = first;
+    for next in rest {
+        subject = part(alloc, next, subject, around, natives)?;
+    }
+    Ok(subject)
+}
+
+/// What a part after an expression comes to.
+#[cycle(value)]
+pub(crate) fn part<N: Natives>(
+    alloc: Global,
+    next: &Postfix,
+    before: Subject,
+    around: &Around<'_>,
+    natives: &N,
+) -> Result<Subject, EvalRefusal>
+    requires { N.keeps natives.now }
+    ensures { (t : Tree) → Stands t (seen around.now (N.titles natives.now) (N.answer natives.now)) before → Comes (applied_tree t (view_postfix next.now)) (seen around.now (N.titles natives.now) (N.answer natives.now)) result }
+{
+    match next {
+        Postfix::Property(place, name) => property(alloc, *place, name.copy()?, before, around),
+        Postfix::SafeProperty(place, name) => {
+            safe_property(alloc, *place, name.copy()?, before, around)
+        }
+        Postfix::Index(place, at) => indexed(alloc, at, *place, before, around, natives),
+        Postfix::Call(place, args) => call(alloc, args, *place, before, around, natives),
+        Postfix::With(closure) => with(alloc, closure, before, around, natives),
+    }
+}
+
+/// A subject with an index after it.
+#[cycle(value)]
+pub(crate) fn indexed<N: Natives>(
+    alloc: Global,
+    at: &Expr,
+    place: Place,
+    before: Subject,
+    around: &Around<'_>,
+    natives: &N,
+) -> Result<Subject, EvalRefusal>
+    requires { N.keeps natives.now }
+    ensures { (t : Tree) → Stands t (seen around.now (N.titles natives.now) (N.answer natives.now)) before → Comes (tree.index place t (view at.now)) (seen around.now (N.titles natives.now) (N.answer natives.now)) result }
+{
+    let of = read(alloc, before, around)?;
+    let at = crate::values::value(alloc, at, around, natives)?;
+    let item = index_value(place, &of, &at)?;
+    Ok(Subject::Value(item))
+}
+
+/// A subject with arguments after it.
+#[cycle(value)]
+pub(crate) fn call<N: Natives>(
+    alloc: Global,
+    args: &[Arg],
+    place: Place,
+    before: Subject,
+    around: &Around<'_>,
+    natives: &N,
+) -> Result<Subject, EvalRefusal>
+    requires { N.keeps natives.now }
+    ensures { (t : Tree) → Stands t (seen around.now (N.titles natives.now) (N.answer natives.now)) before → Comes (tree.call place t (trees (map view_arg args.now))) (seen around.now (N.titles natives.now) (N.answer natives.now)) result }
+{
+    let callee = callee(before, place)?;
+    if calls_nothing(&callee) {
+        return Ok(Subject::Call(callee, 1, Ok(Value::Null)));
+    }
+    let given = crate::calls::arguments(alloc, args, around, natives)?;
+    let result = crate::calls::performed(alloc, args, &callee, given, around, natives);
+    finished(callee, args.len() + 1, result)
+}
+
+/// A subject with a closure after it.
+#[cycle(value)]
+pub(crate) fn with<N: Natives>(
+    alloc: Global,
+    closure: &Closure,
+    before: Subject,
+    around: &Around<'_>,
+    natives: &N,
+) -> Result<Subject, EvalRefusal>
+    requires { N.keeps natives.now }
+    ensures { (t : Tree) → Stands t (seen around.now (N.titles natives.now) (N.answer natives.now)) before → Comes (tree.call_with t (view_closure closure.now)) (seen around.now (N.titles natives.now) (N.answer natives.now)) result }
+{
+    let waiting = waiting(before, closure.place)?;
+    let value = crate::calls::over_call(
+        alloc,
+        closure,
+        &waiting.callee,
+        waiting.count,
+        around,
+        natives,
+    )?;
+    Ok(Subject::Value(value))
+}

@@ -1,0 +1,166 @@
+//! The values of expressions.
+
+ghost use Rattle.std.specs.Prelude.{map, IfOk, OnOk, ◌≡◌, ◌++◌, ℕ, List};
+ghost use Rattle.nf_value.specs.View.{plain_of};
+ghost use Rattle.nf_ast.specs.View.{view, views, view_pair, view_piece, trees, key_tree};
+ghost use Rattle.nf_marks.specs.Template.{IsWritten, hole_text};
+ghost use Rattle.nf_calls.specs.Placed.{Evaluates};
+ghost use Rattle.nf_calls.specs.Body.{Binds, key_text};
+ghost use Rattle.nf_eval.specs.Evaluation.{meaning_of, eval_of};
+ghost use Rattle.nf_eval.specs.Memory.{seen};
+ghost use Rattle.nf_eval.specs.Gives.{Lists, Writes};
+ghost use Rattle.nf_eval.specs.Chains.{prefixed as prefixed_of};
+
+use crate::around::{Around, in_process, value_seen};
+use crate::reading::read;
+use nf_ast::{Expr, Key, Pair, Piece, Prefix};
+use nf_builtins::Natives;
+use nf_calls::{fault_at, list_value, map_value, prefix_value, text_value};
+use nf_marks::Written;
+use nf_value::{EvalKind, EvalRefusal, Mem, Txt, Value};
+use std::alloc::Global;
+
+/// The value of an expression.
+#[cycle(value)]
+pub(crate) fn value<N: Natives>(
+    alloc: Global,
+    expr: &Expr,
+    around: &Around<'_>,
+    natives: &N,
+) -> Result<Value, EvalRefusal>
+    requires { N.keeps natives.now }
+    ensures { Evaluates (eval_of (view expr.now) (seen around.now (N.titles natives.now) (N.answer natives.now))) result }
+{
+    match expr {
+        Expr::Number(_, number) => Ok(Value::Int(*number)),
+        Expr::Text(_, _, text) => Ok(Value::Text(text.copy()?)),
+        Expr::Pattern(place, _) => Err(fault_at(*place, EvalKind::WrongKind)),
+        Expr::Template(place, _, pieces) => {
+            let written = text(alloc, pieces, around, natives)?;
+            text_value(*place, written)
+        }
+        Expr::Truth(_, truth) => Ok(Value::Truth(*truth)),
+        Expr::Null(_) => Ok(Value::Null),
+        Expr::Name(_, name) => Ok(value_seen(name.as_str(), around)?),
+        Expr::List(place, list) => {
+            let values = items(alloc, list, around, natives)?;
+            list_value(*place, values)
+        }
+        Expr::Map(place, pairs) => {
+            let values = entries(alloc, pairs, around, natives)?;
+            map_value(alloc, *place, values)
+        }
+        Expr::Closure(closure) => Err(fault_at(closure.place, EvalKind::WrongKind)),
+        Expr::Prefix(marks, of) => {
+            let of = value(alloc, of, around, natives)?;
+            prefixed(marks, of)
+        }
+        Expr::Infix(first, rest) => {
+            let first = value(alloc, first, around, natives)?;
+            crate::levels::operands(alloc, rest, first, around, natives)
+        }
+        Expr::Conditional(first, rest) => {
+            let first = value(alloc, first, around, natives)?;
+            crate::conditionals::conditional(alloc, rest, first, around, natives)
+        }
+        Expr::Postfix(first, rest) => {
+            let first = crate::chains::subject(alloc, first, around, natives)?;
+            let last = crate::chains::parts(alloc, rest, first, around, natives)?;
+            read(alloc, last, around)
+        }
+    }
+}
+
+/// What marks before a value make of it, the innermost first.
+fn prefixed(marks: &[Prefix], of: Value) -> Result<Value, EvalRefusal>
+    ensures { Evaluates (prefixed_of marks.now (plain_of of)) result }
+{
+    let mut value = of;
+    let mut end = marks.len();
+    while end > 0 {
+        end -= 1;
+        value = prefix_value(marks[end].place, marks[end].mark, &value)?;
+    }
+    Ok(value)
+}
+
+/// The values of expressions in a row.
+#[cycle(value)]
+pub(crate) fn items<N: Natives>(
+    alloc: Global,
+    list: &[Expr],
+    around: &Around<'_>,
+    natives: &N,
+) -> Result<Vec<Value>, EvalRefusal>
+    requires { N.keeps natives.now }
+    ensures { Lists ((meaning_of (views list.now)).items (seen around.now (N.titles natives.now) (N.answer natives.now))) result }
+{
+    let mut values = Vec::new(alloc);
+    for item in list {
+        values.push(value(alloc, item, around, natives)?)?;
+    }
+    Ok(values)
+}
+
+/// The keys and values of pairs in a row.
+#[cycle(value)]
+pub(crate) fn entries<N: Natives>(
+    alloc: Global,
+    pairs: &[Pair],
+    around: &Around<'_>,
+    natives: &N,
+) -> Result<Vec<(Txt, Value)>, EvalRefusal>
+    requires { N.keeps natives.now }
+    ensures { Binds ((meaning_of (trees (map view_pair pairs.now))).entries (seen around.now (N.titles natives.now) (N.answer natives.now))) result }
+{
+    let mut entries = Vec::new(alloc);
+    for pair in pairs {
+        let value = value(alloc, &pair.value, around, natives)?;
+        let key = key_of(alloc, &pair.key)?;
+        entries.push((key, value))?;
+    }
+    Ok(entries)
+}
+
+/// The text of a key.
+fn key_of(alloc: Global, key: &Key) -> Result<Txt, Mem>
+    ensures { IfOk result (λ t. t ≡ key_text (key_tree key.now)) }
+{
+    match key {
+        Key::Name(_, name) => name.copy(),
+        Key::Text(_, _, text) => text.copy(),
+        Key::Template(_, _, None) => Ok(Txt::of(String::new(alloc))),
+        Key::Template(_, _, Some((_, text))) => text.copy(),
+    }
+}
+
+/// The text of a template's parts, as far as a text within the limits goes.
+#[cycle(value)]
+pub(crate) fn text<N: Natives>(
+    alloc: Global,
+    pieces: &[Piece],
+    around: &Around<'_>,
+    natives: &N,
+) -> Result<Written, EvalRefusal>
+    requires { N.keeps natives.now }
+    ensures { Writes ((meaning_of (trees (map view_piece pieces.now))).text (seen around.now (N.titles natives.now) (N.answer natives.now))) result }
+{
+    let mut written = Written::new(alloc);
+    for piece in pieces {
+        match piece {
+            Piece::Plain(_, text) => written.push(text.as_str())?,
+            Piece::Hole(_, expr) => {
+                let value = value(alloc, expr, around, natives)?;
+                put_hole(alloc, value, in_process(around), &mut written)?;
+            }
+        }
+    }
+    Ok(written)
+}
+
+/// Writes what a hole prints for a value.
+fn put_hole(alloc: Global, value: Value, in_process: bool, out: &mut Written) -> Result<(), Mem>
+    ensures { (t : List ℕ) → IsWritten t out.old → OnOk result (IsWritten (t ++ hole_text in_process (plain_of value)) out.new) }
+{
+    out.push_hole(alloc, &value, in_process)
+}
