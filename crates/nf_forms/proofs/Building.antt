@@ -3,7 +3,7 @@ use Rattle.std.proofs.Common.{◌≡◌, Option, Some, None, Result, Ok, Err, re
 use Rattle.nf_value.specs.declared.place.Place.{Place}
 use Rattle.nf_forms.specs.declared.fault.FormFault.{FormFault}
 use Rattle.nf_forms.specs.declared.fault.FormFault.TheVariants as fault
-use Rattle.nf_forms.specs.Built.{Built, ◌>>=◌, then_at, unless, Builds}
+use Rattle.nf_forms.specs.Built.{Built, ◌>>=◌, then_at, unless, after_place, or_before, around_place, Builds}
 
 pub then_twice : {A : Type 0} (x : Built A) (p q : Place) → then_at {B = A} (then_at {B = A} x p) q ≡ then_at x p
 then_twice (Ok x) p q = refl
@@ -44,3 +44,8 @@ unless_after see first whole x None (Err fault.Mem) h is k = tt
 unless_after see first whole x (Some q) (Ok y) h is k = absurd (never (sym k))
 unless_after see first whole x (Some q) (Err (fault.Unbuilt p)) h is k = is ∙ ap (λ d. d >>= unless (Some q)) h ∙ ap Err (err_is k)
 unless_after see first whole x (Some q) (Err fault.Mem) h is k = tt
+
+-- an item that is misplaced at this place
+pub misplaced_as : {A X : Type 0} (see : X → A) (label mark : Option Place) (p : Place) (v : Built A) (r : Result X FormFault) → label ≡ None → mark ≡ Some p → Builds see (or_before p v) r → Builds see (after_place label (around_place mark v)) r
+misplaced_as see label mark p v r no_label is h =
+    subst (λ l. Builds see (after_place l (around_place mark v)) r) (sym no_label) (subst (λ m. Builds see (around_place m v) r) (sym is) h)

@@ -1,5 +1,5 @@
 -- What is built of a chain, by its first operand and what follows it.
-use Rattle.std.proofs.Common.{◌≡◌, List, [], ◌∷◌, ◌++◌, Option, Some, None, Ok, Err, map, refl, sym, ap, ◌∙◌}
+use Rattle.std.proofs.Common.{◌≡◌, List, [], ◌∷◌, Option, Some, None, Ok, Err, map, refl, sym, ap, ◌∙◌}
 use Rattle.nf_value.specs.declared.place.Place.{Place}
 use Rattle.nf_ast.specs.declared.expr.Prefix.{Prefix}
 use Rattle.nf_ast.specs.declared.expr.Postfix.{Postfix}
@@ -7,14 +7,10 @@ use Rattle.nf_ast.specs.declared.expr.ClosureBody.TheOpen as o
 use Rattle.nf_ast.specs.Tree as tree
 use Rattle.nf_ast.specs.Tree.{Tree}
 use Rattle.nf_ast.specs.View.{BranchTree, conditional, operands, postfix, prefixes, applied, view_postfix, postfix_step}
-use Rattle.nf_eval.specs.declared.tree.SumMark.{SumMark}
-use Rattle.nf_eval.specs.declared.tree.Operand.{Operand}
-use Rattle.nf_eval.specs.Tree.{SumTree, marked}
-use Rattle.nf_eval.specs.View.{OperandTree}
-use Rattle.nf_eval.specs.View as sums
+use Rattle.nf_calls.specs.Scope.{Env}
 use Rattle.nf_forms.specs.Built.{Built, ◌>>=◌, then_at, unless}
 use Rattle.nf_forms.specs.Leaf.{LeafTree, leaf_of, followed, follows, or_at, alone, other, prefix_at, operand_at, branch_at, part_at, postfix_place}
-use Rattle.nf_forms.specs.Sums.{sum_from, sums_on, joined, mark_from}
+use Rattle.nf_forms.specs.Values.{misplaced, last_range, unless_followed}
 use Rattle.nf_forms.specs.Links.{Role, Link, link_from}
 use Rattle.nf_forms.specs.Chains.{step, steps_on}
 use Rattle.nf_forms.proofs.Parts.{Layer, of_part}
@@ -65,61 +61,7 @@ leaf_parts a ys = first.parts_first LeafTree leaf_of followed followed_twice lea
 pub leaf_chain : (e chain : Tree) {x y : LeafTree} → e ≡ chain → x ≡ y → leaf_of chain ≡ y → x ≡ leaf_of e
 leaf_chain e chain is led h = led ∙ sym h ∙ sym (ap leaf_of is)
 
--- ---- sums
-
-sum_more : (x : Built SumTree) (m : Option Place) → first.more (Built SumTree) sum_from (then_at {B = SumTree}) then_twice x m ≡ (x >>= unless m)
-sum_more x None = kept x
-sum_more x (Some p) = then_bind x p
-
-sum_layer : (e : Tree) (z : Layer) → sum_from (applied e (postfix_step z)) ≡ then_at (sum_from e) (postfix_place (postfix_step z))
-sum_layer e (o.Property p n) = refl
-sum_layer e (o.SafeProperty p n) = refl
-sum_layer e (o.Index p i) = refl
-sum_layer e (o.Call p xs) = refl
-sum_layer e (o.With c) = refl
-
-pub sum_branches : (a : Tree) (xs : List BranchTree) → sum_from (conditional [] a xs) ≡ (sum_from a >>= unless (branch_at xs))
-sum_branches a xs = first.branches_first (Built SumTree) sum_from (then_at {B = SumTree}) then_twice (λ p c a b. refl) (λ p a b. refl) a xs ∙ sum_more (sum_from a) (branch_at xs)
-
-pub sum_parts : (a : Tree) (ys : List Postfix) → sum_from (postfix a (map view_postfix ys)) ≡ (sum_from a >>= unless (part_at (map view_postfix ys)))
-sum_parts a ys = first.parts_first (Built SumTree) sum_from (then_at {B = SumTree}) then_twice sum_layer a ys ∙ sum_more (sum_from a) (part_at (map view_postfix ys))
-
-regrouped : (p : Place) (m : Option SumMark) (a b : Built SumTree) (k : SumTree → Built SumTree) → (joined p m a b >>= k) ≡ (a >>= λ x. joined p m (Ok x) b >>= k)
-regrouped p None (Ok x) b k = refl
-regrouped p None (Err q) b k = refl
-regrouped p (Some m) (Ok x) b k = refl
-regrouped p (Some m) (Err q) b k = refl
-
-pub sum_operands : (a : Tree) (xs : List Tree) → sum_from (operands a xs) ≡ (sum_from a >>= λ x. sums_on x xs)
-sum_operands a [] = kept (sum_from a)
-sum_operands a (tree.binary p k x b ∷ xs) = sum_operands (tree.binary p k a b) xs ∙ regrouped p (mark_from k) (sum_from a) (sum_from b) (λ y. sums_on y xs)
-sum_operands a (_ ∷ xs) = sum_operands a xs
-
--- one operand more in the list
-pub sum_pushed : (a : SumTree) (xs : List OperandTree) (x : OperandTree) → sums.joined a (xs ++ x ∷ []) ≡ marked x.place x.mark (sums.joined a xs) x.sum
-sum_pushed a [] x = refl
-sum_pushed a (y ∷ ys) x = sum_pushed (marked y.place y.mark a y.sum) ys x
-
-map_pushed : (xs : List Operand) (x : Operand) → map sums.view_operand (xs ++ x ∷ []) ≡ map sums.view_operand xs ++ sums.view_operand x ∷ []
-map_pushed [] x = refl
-map_pushed (y ∷ ys) x = ap (λ l. sums.view_operand y ∷ l) (map_pushed ys x)
-
--- a list with one operand more at its end
-pub with_pushed : (before after a : SumTree) (xs ys : List Operand) (x : Operand) (o : OperandTree) → before ≡ sums.joined a (map sums.view_operand xs) → after ≡ sums.joined a (map sums.view_operand ys) → ys ≡ xs ++ x ∷ [] → sums.view_operand x ≡ o
-    → after ≡ marked o.place o.mark before o.sum
-with_pushed before after a xs ys x o was is pushed seen =
-    is ∙ ap (λ l. sums.joined a (map sums.view_operand l)) pushed ∙ ap (sums.joined a) (map_pushed xs x) ∙ sum_pushed a (map sums.view_operand xs) (sums.view_operand x)
-    ∙ ap (λ v. marked v.place v.mark (sums.joined a (map sums.view_operand xs)) v.sum) seen ∙ ap (λ t. marked o.place o.mark t o.sum) (sym was)
-
 -- marks before an operand
-pub sum_bare : (ms : List Prefix) (a : Tree) → prefix_at ms ≡ None → sum_from (prefixes ms a) ≡ sum_from a
-sum_bare [] a h = refl
-sum_bare (m ∷ ms) a h = absurd (let e : Some m.place ≡ None = h in cc)
-
-pub sum_marked : (ms : List Prefix) (a : Tree) (p : Place) → prefix_at ms ≡ Some p → sum_from (prefixes ms a) ≡ Err p
-sum_marked [] a p h = absurd (let e : None ≡ Some p = h in cc)
-sum_marked (m ∷ ms) a p h = ap Err (let e : Some m.place ≡ Some p = h in cc)
-
 pub leaf_bare : (ms : List Prefix) (a : Tree) → prefix_at ms ≡ None → leaf_of (prefixes ms a) ≡ leaf_of a
 leaf_bare [] a h = refl
 leaf_bare (m ∷ ms) a h = absurd (let e : Some m.place ≡ None = h in cc)
@@ -128,38 +70,70 @@ pub leaf_marked : (ms : List Prefix) (a : Tree) (p : Place) → prefix_at ms ≡
 leaf_marked [] a p h = absurd (let e : None ≡ Some p = h in cc)
 leaf_marked (m ∷ ms) a p h = ap (λ q. alone q other) (let e : Some m.place ≡ Some p = h in cc)
 
+-- ---- ranges and closures
+
+-- what has something after it is neither
+abbrev no_more : Option Place → Place → Option Place
+no_more x p = None
+
+more_followed : (x : Option Place) (m : Option Place) → first.more (Option Place) misplaced no_more (λ x p q. refl) x m ≡ unless_followed m x
+more_followed x None = refl
+more_followed x (Some p) = refl
+
+pub range_operands : (a : Tree) (xs : List Tree) → misplaced (operands a xs) ≡ last_range (misplaced a) xs
+range_operands a [] = refl
+range_operands a (tree.binary p k x b ∷ xs) = range_operands (tree.binary p k a b) xs
+range_operands a (_ ∷ xs) = range_operands a xs
+
+pub range_branches : (a : Tree) (xs : List BranchTree) → misplaced (conditional [] a xs) ≡ unless_followed (branch_at xs) (misplaced a)
+range_branches a xs = first.branches_first (Option Place) misplaced no_more (λ x p q. refl) (λ p c a b. refl) (λ p a b. refl) a xs ∙ more_followed (misplaced a) (branch_at xs)
+
+range_layer : (e : Tree) (z : Layer) → misplaced (applied e (postfix_step z)) ≡ None
+range_layer e (o.Property p n) = refl
+range_layer e (o.SafeProperty p n) = refl
+range_layer e (o.Index p i) = refl
+range_layer e (o.Call p xs) = refl
+range_layer e (o.With c) = refl
+
+pub range_parts : (a : Tree) (ys : List Postfix) → misplaced (postfix a (map view_postfix ys)) ≡ unless_followed (part_at (map view_postfix ys)) (misplaced a)
+range_parts a ys = first.parts_first (Option Place) misplaced no_more (λ x p q. refl) range_layer a ys ∙ more_followed (misplaced a) (part_at (map view_postfix ys))
+
+pub range_prefixes : (ms : List Prefix) (a : Tree) → misplaced (prefixes ms a) ≡ unless_followed (prefix_at ms) (misplaced a)
+range_prefixes [] a = refl
+range_prefixes (m ∷ ms) a = refl
+
 -- ---- links
 
-module _ (r : Role) where
-  link_more : (x : Built Link) (m : Option Place) → first.more (Built Link) (link_from r) (then_at {B = Link}) then_twice x m ≡ (x >>= unless m)
+module _ (w : Env) (r : Role) where
+  link_more : (x : Built Link) (m : Option Place) → first.more (Built Link) (link_from w r) (then_at {B = Link}) then_twice x m ≡ (x >>= unless m)
   link_more x None = kept x
   link_more x (Some p) = then_bind x p
 
-  pub link_operands : (a : Tree) (xs : List Tree) → link_from r (operands a xs) ≡ (link_from r a >>= unless (operand_at xs))
-  link_operands a xs = first.operands_first (Built Link) (link_from r) (then_at {B = Link}) then_twice (λ p k a b. refl) a xs ∙ link_more (link_from r a) (operand_at xs)
+  pub link_operands : (a : Tree) (xs : List Tree) → link_from w r (operands a xs) ≡ (link_from w r a >>= unless (operand_at xs))
+  link_operands a xs = first.operands_first (Built Link) (link_from w r) (then_at {B = Link}) then_twice (λ p k a b. refl) a xs ∙ link_more (link_from w r a) (operand_at xs)
 
-  pub link_branches : (a : Tree) (xs : List BranchTree) → link_from r (conditional [] a xs) ≡ (link_from r a >>= unless (branch_at xs))
-  link_branches a xs = first.branches_first (Built Link) (link_from r) (then_at {B = Link}) then_twice (λ p c a b. refl) (λ p a b. refl) a xs ∙ link_more (link_from r a) (branch_at xs)
+  pub link_branches : (a : Tree) (xs : List BranchTree) → link_from w r (conditional [] a xs) ≡ (link_from w r a >>= unless (branch_at xs))
+  link_branches a xs = first.branches_first (Built Link) (link_from w r) (then_at {B = Link}) then_twice (λ p c a b. refl) (λ p a b. refl) a xs ∙ link_more (link_from w r a) (branch_at xs)
 
-  pub link_bare : (ms : List Prefix) (a : Tree) → prefix_at ms ≡ None → link_from r (prefixes ms a) ≡ link_from r a
+  pub link_bare : (ms : List Prefix) (a : Tree) → prefix_at ms ≡ None → link_from w r (prefixes ms a) ≡ link_from w r a
   link_bare [] a h = refl
   link_bare (m ∷ ms) a h = absurd (let e : Some m.place ≡ None = h in cc)
 
-  pub link_marked : (ms : List Prefix) (a : Tree) (p : Place) → prefix_at ms ≡ Some p → link_from r (prefixes ms a) ≡ Err p
+  pub link_marked : (ms : List Prefix) (a : Tree) (p : Place) → prefix_at ms ≡ Some p → link_from w r (prefixes ms a) ≡ Err p
   link_marked [] a p h = absurd (let e : None ≡ Some p = h in cc)
   link_marked (m ∷ ms) a p h = ap Err (let e : Some m.place ≡ Some p = h in cc)
 
-  link_layer : (e : Tree) (z : Layer) → link_from r (applied e (postfix_step z)) ≡ (link_from r e >>= step r (postfix_step z))
+  link_layer : (e : Tree) (z : Layer) → link_from w r (applied e (postfix_step z)) ≡ (link_from w r e >>= step w r (postfix_step z))
   link_layer e (o.Property p n) = refl
-  link_layer e (o.SafeProperty p n) = then_bind (link_from r e) p
-  link_layer e (o.Index p i) = then_bind (link_from r e) p
+  link_layer e (o.SafeProperty p n) = then_bind (link_from w r e) p
+  link_layer e (o.Index p i) = then_bind (link_from w r e) p
   link_layer e (o.Call p xs) = refl
   link_layer e (o.With c) = refl
 
-  pub link_parts : (a : Tree) (ys : List Postfix) → link_from r (postfix a (map view_postfix ys)) ≡ (link_from r a >>= steps_on r (map view_postfix ys))
-  link_parts a [] = kept (link_from r a)
+  pub link_parts : (a : Tree) (ys : List Postfix) → link_from w r (postfix a (map view_postfix ys)) ≡ (link_from w r a >>= steps_on w r (map view_postfix ys))
+  link_parts a [] = kept (link_from w r a)
   link_parts a (y ∷ ys) =
       let v = view_postfix y in
       let vs = map view_postfix ys in
-      let here : link_from r (applied a v) ≡ (link_from r a >>= step r v) = of_part (λ v. link_from r (applied a v) ≡ (link_from r a >>= step r v)) (link_layer a) y in
-      link_parts (applied a v) ys ∙ ap (λ b. b >>= steps_on r vs) here ∙ assoc (link_from r a) (step r v) (steps_on r vs)
+      let here : link_from w r (applied a v) ≡ (link_from w r a >>= step w r v) = of_part (λ v. link_from w r (applied a v) ≡ (link_from w r a >>= step w r v)) (link_layer a) y in
+      link_parts (applied a v) ys ∙ ap (λ b. b >>= steps_on w r vs) here ∙ assoc (link_from w r a) (step w r v) (steps_on w r vs)

@@ -4,3 +4,6 @@ pub mod Building
 pub mod Each
 pub mod Chaining
 pub mod Lists
+pub mod Labels
+pub mod Patterned
+pub mod Bare

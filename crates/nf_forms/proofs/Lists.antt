@@ -4,6 +4,7 @@ use Rattle.nf_value.specs.declared.place.Place.{Place}
 use Rattle.nf_ast.specs.declared.expr.Arg.{Arg}
 use Rattle.nf_ast.specs.declared.expr.Stmt.{Stmt}
 use Rattle.nf_ast.specs.View.{view_arg, view_stmt, trees}
+use Rattle.nf_calls.specs.Scope.{Env}
 use Rattle.nf_forms.specs.Items.{is_empty, single}
 use Rattle.nf_forms.specs.Links.{Role}
 use Rattle.nf_forms.specs.Form.{body_from, statement_from}
@@ -17,6 +18,6 @@ many_arguments [] h = absurd (omega (arith, h))
 many_arguments (x ∷ []) h = absurd (omega (arith, h))
 many_arguments (x ∷ y ∷ xs) h = refl
 
-pub body_statements : (r : Role) (p : Place) (xs : List Stmt) → body_from r p (trees (map view_stmt xs)) ≡ statement_from r p (trees (map view_stmt xs))
-body_statements r p [] = refl
-body_statements r p (x ∷ xs) = refl
+pub body_statements : (w : Env) (r : Role) (p : Place) (xs : List Stmt) → body_from w r p (trees (map view_stmt xs)) ≡ statement_from w r p (trees (map view_stmt xs))
+body_statements w r p [] = refl
+body_statements w r p (x ∷ xs) = refl

@@ -1,5 +1,5 @@
 -- What of a script is built: what a part stands for, or the first place, in the order of the text, of what isn't built.
-use Rattle.std.specs.Prelude.{◌≡◌, ℕ, Option, Some, None, Result, Ok, Err}
+use Rattle.std.specs.Prelude.{◌≡◌, ℕ, Bool, ◌&&◌, ◌||◌, nat_lt, ◌==◌, if◌then◌else◌, Option, Some, None, Result, Ok, Err}
 use Rattle.nf_value.specs.declared.place.Place.{Place}
 use Rattle.nf_forms.specs.declared.fault.FormFault.{FormFault}
 use Rattle.nf_forms.specs.declared.fault.FormFault.TheVariants as fault
@@ -21,6 +21,25 @@ then_at (Err q) p = Err q
 abbrev pub unless : {A : Type 0} → Option Place → A → Built A
 unless None x = Ok x
 unless (Some p) x = Err p
+
+-- something at this place that isn't built; or else a part
+abbrev pub after_place : {A : Type 0} → Option Place → Built A → Built A
+after_place None x = x
+after_place (Some p) x = Err p
+
+-- the one place stands before the other
+abbrev pub is_before : Place → Place → Bool
+is_before p q = nat_lt p.line q.line || ((p.line == q.line) && nat_lt p.col q.col)
+
+-- something at this place that isn't built, or what isn't built of a part before it
+abbrev pub or_before : {A : Type 0} → Place → Built A → Built A
+or_before p (Ok x) = Err p
+or_before p (Err q) = if is_before q p then Err q else Err p
+
+-- the same, where there is something
+abbrev pub around_place : {A : Type 0} → Option Place → Built A → Built A
+around_place None x = x
+around_place (Some p) x = or_before p x
 
 -- each part of a list; at most so many
 abbrev pub most_items : ℕ

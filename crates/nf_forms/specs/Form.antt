@@ -1,11 +1,13 @@
 -- The forms of script that are built.
-use Rattle.std.specs.Prelude.{ℤ, List, Option, Some, None, Ok, Err}
+use Rattle.std.specs.Prelude.{List, Option, Some, None, Ok, Err}
 use Rattle.nf_value.specs.declared.place.Place.{Place}
 use Rattle.nf_value.specs.Plain.{Plain}
 use Rattle.nf_ast.specs.Tree as tree
 use Rattle.nf_ast.specs.Tree.{Tree}
-use Rattle.nf_eval.specs.Tree.{SumTree}
+use Rattle.nf_eval.specs.Evaluation.{Closing}
+use Rattle.nf_eval.specs.Memory.{closing}
 use Rattle.nf_process.specs.declared.process.ProcessSpec.{ProcessSpec}
+use Rattle.nf_calls.specs.Scope.{Env}
 use Rattle.nf_forms.specs.Built.{Built, ◌>>=◌, then_at, first_place}
 use Rattle.nf_forms.specs.Leaf.{begins_at}
 use Rattle.nf_forms.specs.Links as link
@@ -13,36 +15,36 @@ use Rattle.nf_forms.specs.Links.{Made, Role, alone, calling, made_from}
 use Rattle.nf_forms.specs.Processes.{nothing, process_from}
 
 pub data Form : Type 0 where
-  -- a chain over a list: its numbers, and the sum that each of them is mapped by
-  chain : List ℤ → SumTree → Form
+  -- a chain over a list: its items, and the closure that each of them is mapped by
+  chain : List Plain → Closing → Form
   -- a process over a list, and the list
   tasks : ProcessSpec → List Plain → Form
 
 -- ---- a workflow
 
 -- one statement
-abbrev pub statement_from : Role → Place → Tree → Built Made
-statement_from r p (tree.cons x tree.empty) = made_from r x
-statement_from r p (tree.cons x (tree.cons y ys)) = then_at (made_from r x) (begins_at y)
-statement_from r p _ = Err p
+abbrev pub statement_from : Env → Role → Place → Tree → Built Made
+statement_from env r p (tree.cons x tree.empty) = made_from env r x
+statement_from env r p (tree.cons x (tree.cons y ys)) = then_at (made_from env r x) (begins_at y)
+statement_from env r p _ = Err p
 
 -- the section `main:` alone
-abbrev pub main_from : Role → Tree → Built Made
-main_from r (tree.section p xs) = statement_from r p xs
-main_from r e = Err (begins_at e)
+abbrev pub main_from : Env → Role → Tree → Built Made
+main_from env r (tree.section p xs) = statement_from env r p xs
+main_from env r e = Err (begins_at e)
 
-abbrev pub parts_from : Role → Tree → Tree → Tree → Built Made
-parts_from r take main emit = nothing take >>= λ u. main_from r main >>= λ m. nothing emit >>= λ v. Ok m
+abbrev pub parts_from : Env → Role → Tree → Tree → Tree → Built Made
+parts_from env r take main emit = nothing take >>= λ u. main_from env r main >>= λ m. nothing emit >>= λ v. Ok m
 
-abbrev pub body_from : Role → Place → Tree → Built Made
-body_from r p (tree.parts take main emit) = parts_from r take main emit
-body_from r p xs = statement_from r p xs
+abbrev pub body_from : Env → Role → Place → Tree → Built Made
+body_from env r p (tree.parts take main emit) = parts_from env r take main emit
+body_from env r p xs = statement_from env r p xs
 
 -- a workflow without a name
-abbrev pub workflow_from : Role → Tree → Built Made
-workflow_from r (tree.workflow p tree.empty body) = body_from r p body
-workflow_from r (tree.workflow p n body) = Err p
-workflow_from r e = Err (begins_at e)
+abbrev pub workflow_from : Env → Role → Tree → Built Made
+workflow_from env r (tree.workflow p tree.empty body) = body_from env r p body
+workflow_from env r (tree.workflow p n body) = Err p
+workflow_from env r e = Err (begins_at e)
 
 -- ---- the whole
 
@@ -63,25 +65,25 @@ abbrev pub add_process : Tree → Option ProcessSpec → Option Made → Built T
 add_process t None m = process_from t >>= λ s. Ok (record { process = Some s; made = m })
 add_process t (Some s) m = Err (top_place t)
 
-abbrev pub add_workflow : Role → Tree → Option ProcessSpec → Option Made → Built Tops
-add_workflow r t s None = workflow_from r t >>= λ m. Ok (record { process = s; made = Some m })
-add_workflow r t s (Some m) = Err (top_place t)
+abbrev pub add_workflow : Env → Role → Tree → Option ProcessSpec → Option Made → Built Tops
+add_workflow env r t s None = workflow_from env r t >>= λ m. Ok (record { process = s; made = Some m })
+add_workflow env r t s (Some m) = Err (top_place t)
 
 -- one more definition
-abbrev pub add : Role → Tree → Tops → Built Tops
-add r (tree.process p n ds is os t s) x = add_process (tree.process p n ds is os t s) x.process x.made
-add r (tree.workflow p n body) x = add_workflow r (tree.workflow p n body) x.process x.made
-add r t x = Err (top_place t)
+abbrev pub add : Env → Role → Tree → Tops → Built Tops
+add env r (tree.process p n ds is os t s) x = add_process (tree.process p n ds is os t s) x.process x.made
+add env r (tree.workflow p n body) x = add_workflow env r (tree.workflow p n body) x.process x.made
+add env r t x = Err (top_place t)
 
 -- those that follow
-abbrev pub add_all : Role → Tree → Tops → Built Tops
-add_all r (tree.cons t ts) x = add r t x >>= add_all r ts
-add_all r _ x = Ok x
+abbrev pub add_all : Env → Role → Tree → Tops → Built Tops
+add_all env r (tree.cons t ts) x = add env r t x >>= add_all env r ts
+add_all env r _ x = Ok x
 
-abbrev pub whole : Option ProcessSpec → Option Made → Built Form
-whole None (Some (link.chain ns s)) = Ok (chain ns s)
-whole (Some p) (Some (link.call vs)) = Ok (tasks p vs)
-whole _ _ = Err first_place
+abbrev pub whole : Env → Option ProcessSpec → Option Made → Built Form
+whole env None (Some (link.chain vs c)) = Ok (chain vs (closing c env))
+whole env (Some p) (Some (link.call vs)) = Ok (tasks p vs)
+whole env _ _ = Err first_place
 
 -- a workflow stands by itself, or calls the first process
 abbrev pub role_of : Tree → Role
@@ -92,6 +94,6 @@ role_of _ = alone
 abbrev pub no_tops : Tops
 no_tops = record { process = None; made = None }
 
--- the form of a script: one workflow without a name, and one process or none, in either order; or the first place that is of no form
-abbrev pub form_of : Tree → Built Form
-form_of t = add_all (role_of t) t no_tops >>= λ x. whole x.process x.made
+-- the form of a script, whose expressions find what is around it: one workflow without a name, and one process or none, in either order; or the first place that is of no form
+abbrev pub form_of : Env → Tree → Built Form
+form_of env t = add_all env (role_of t) t no_tops >>= λ x. whole env x.process x.made

@@ -1,33 +1,14 @@
--- The items of `channel.of(..)`, and the script of a process: literals.
-use Rattle.std.specs.Prelude.{ℤ, ℕ, suc, Bool, true, false, nat_lt, List, [], ◌∷◌, Option, Some, None, Ok, Err, bytes_eq, if◌then◌else◌}
+-- The arguments of methods, and the script of a process.
+use Rattle.std.specs.Prelude.{ℕ, suc, Bool, true, false, nat_lt, List, [], ◌∷◌, Option, Some, None, Ok, Err, bytes_eq, if◌then◌else◌}
 use Rattle.nf_value.specs.declared.place.Place.{Place}
-use Rattle.nf_value.specs.Plain.{Plain}
-use Rattle.nf_value.specs.Plain as plain
 use Rattle.nf_ast.specs.Tree as tree
 use Rattle.nf_ast.specs.Tree.{Tree}
 use Rattle.nf_process.specs.declared.template.Piece.{Piece}
 use Rattle.nf_process.specs.declared.template.Piece.TheVariants as piece
 use Rattle.nf_forms.specs.Built.{Built, ◌>>=◌, unless, most_items}
-use Rattle.nf_forms.specs.Leaf.{LeafTree, First, number, text, template, name, leaf_of, begins_at}
+use Rattle.nf_forms.specs.Leaf.{LeafTree, First, text, template, name, leaf_of, begins_at}
 
--- ---- items
-
-abbrev pub number_in : LeafTree → First → Built ℤ
-number_in l (number n) = unless l.after n
-number_in l _ = Err l.place
-
--- a number alone
-abbrev pub number_item : Tree → Built ℤ
-number_item e = number_in (leaf_of e) (leaf_of e).first
-
-abbrev pub plain_in : LeafTree → First → Built Plain
-plain_in l (number n) = unless l.after (plain.int n)
-plain_in l (text s) = unless l.after (plain.text s)
-plain_in l _ = Err l.place
-
--- a number or a plain string alone
-abbrev pub plain_item : Tree → Built Plain
-plain_item e = plain_in (leaf_of e) (leaf_of e).first
+-- ---- arguments
 
 abbrev pub within : {A : Type 0} → ℕ → Tree → Built A → Built A
 within n x b = if nat_lt n most_items then b else Err (begins_at x)

@@ -1,5 +1,5 @@
 -- What stands first in an expression, and where something follows it.
-use Rattle.std.specs.Prelude.{◌≡◌, ℤ, ℕ, Bool, true, false, List, [], ◌∷◌, Option, Some, None, Result, Ok, Err, map}
+use Rattle.std.specs.Prelude.{◌≡◌, ℕ, Bool, true, false, List, [], ◌∷◌, Option, Some, None, Result, Ok, Err, map}
 use Rattle.std.specs.Borrow.{Bor}
 use Rattle.nf_value.specs.declared.place.Place.{Place}
 use Rattle.nf_ast.specs.Tree as tree
@@ -13,13 +13,14 @@ use Rattle.nf_forms.specs.declared.leaf.Kind.TheVariants as k
 use Rattle.nf_forms.specs.Built.{first_place}
 
 pub data First : Type 0 where
-  number : ℤ → First
   text : List ℕ → First
   template : Tree → First
   name : List ℕ → First
   closure : Tree → First
   -- the statements of a section
   section : Tree → First
+  -- a name and its colon
+  labelled : First
   -- anything else
   other : First
 
@@ -42,14 +43,13 @@ followed x p = record { place = x.place; first = x.first; after = or_at x.after 
 
 -- where a node that isn't a chain begins
 abbrev pub own_place : Tree → Place
+own_place (tree.number p n) = p
 own_place (tree.pattern p s) = p
 own_place (tree.truth p b) = p
 own_place (tree.null p) = p
 own_place (tree.list p xs) = p
 own_place (tree.map p xs) = p
 own_place (tree.prefix p m e) = p
-own_place (tree.named n e) = place_of n
-own_place (tree.label n e) = place_of n
 own_place (tree.define p n e) = p
 own_place (tree.define_all p ns e) = p
 own_place (tree.assign n e) = place_of n
@@ -65,12 +65,13 @@ closure_place (tree.closure p ps xs) = p
 closure_place _ = first_place
 
 abbrev pub leaf_of : Tree → LeafTree
-leaf_of (tree.number p n) = alone p (number n)
 leaf_of (tree.text p k s) = alone p (text s)
 leaf_of (tree.template p k xs) = alone p (template xs)
 leaf_of (tree.name p n) = alone p (name n)
 leaf_of (tree.closure p ps xs) = alone p (closure (tree.closure p ps xs))
 leaf_of (tree.section p xs) = alone p (section xs)
+leaf_of (tree.named n e) = alone (place_of n) labelled
+leaf_of (tree.label n e) = alone (place_of n) labelled
 leaf_of (tree.binary p m a b) = followed (leaf_of a) p
 leaf_of (tree.conditional p c a b) = followed (leaf_of c) p
 leaf_of (tree.elvis p a b) = followed (leaf_of a) p
@@ -84,6 +85,14 @@ leaf_of e = alone (own_place e) other
 -- where an expression or a statement begins
 abbrev pub begins_at : Tree → Place
 begins_at e = (leaf_of e).place
+
+-- the place of a name and its colon, with which an argument or a part of a closure's body begins
+abbrev pub label_in : LeafTree → First → Option Place
+label_in l labelled = Some l.place
+label_in l _ = None
+
+abbrev pub label_at : Tree → Option Place
+label_at e = label_in (leaf_of e) (leaf_of e).first
 
 -- ---- in memory
 
@@ -120,7 +129,6 @@ follows x None = x
 follows x (Some p) = followed x p
 
 abbrev pub view_kind : Kind → First
-view_kind (k.Number n) = number n
 view_kind (k.Text s) = text s.now
 view_kind (k.Template xs) = template (trees (map view_piece xs.now))
 view_kind (k.Name n) = name n.now

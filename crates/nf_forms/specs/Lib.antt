@@ -1,7 +1,8 @@
 pub mod Built
 pub mod Leaf
 pub mod Items
-pub mod Sums
+pub mod Values
+pub mod Memory
 pub mod Links
 pub mod Chains
 pub mod Processes

@@ -1,11 +1,11 @@
 -- A process of one input `val NAME` and the output `stdout`.
-use Rattle.std.specs.Prelude.{ℕ, Bool, ◌&&◌, ◌||◌, nat_lt, ◌==◌, List, Ok, Err, if◌then◌else◌}
+use Rattle.std.specs.Prelude.{ℕ, List, Ok, Err, if◌then◌else◌}
 use Rattle.nf_value.specs.declared.place.Place.{Place}
 use Rattle.nf_ast.specs.Tree as tree
 use Rattle.nf_ast.specs.Tree.{Tree, place_of}
 use Rattle.nf_process.specs.declared.process.ProcessSpec.{ProcessSpec}
 use Rattle.nf_process.specs.declared.template.Piece.{Piece}
-use Rattle.nf_forms.specs.Built.{Built, ◌>>=◌, then_at}
+use Rattle.nf_forms.specs.Built.{Built, ◌>>=◌, then_at, is_before}
 use Rattle.nf_forms.specs.Leaf.{LeafTree, First, section, leaf_of, begins_at}
 use Rattle.nf_forms.specs.Items.{script_in, script_from}
 
@@ -55,10 +55,6 @@ one_output p _ = Err p
 abbrev pub output_from : Place → Tree → Built (Unit {0})
 output_from p (tree.section q xs) = one_output q xs
 output_from p _ = Err p
-
--- the one place stands before the other
-abbrev pub is_before : Place → Place → Bool
-is_before p q = nat_lt p.line q.line || ((p.line == q.line) && nat_lt p.col q.col)
 
 -- of two parts that aren't built the earlier one is named
 abbrev pub both : {A B : Type 0} → Built A → Built B → Built A

@@ -1,18 +1,24 @@
-//! Literals: the items of `channel.of(..)`, and the script of a process.
+//! The items of `channel.of(..)`, and the script of a process.
 
 ghost use Rattle.std.specs.Prelude.{◌≡◌, ◌≤◌, ◌↔◌, IfSome, IsSome, map, option_map, length};
 ghost use Rattle.nf_value.specs.View.{plain_of};
 ghost use Rattle.nf_ast.specs.View.{view, view_arg, view_piece, trees};
 ghost use Rattle.nf_forms.specs.Built.{Builds, most_items, unless as unless_of};
 ghost use Rattle.nf_forms.specs.Leaf.{view_leaf, view_kind};
-ghost use Rattle.nf_forms.specs.Items.{number_in, number_item, plain_in, plain_item, is_empty, single as single_of, some_items, each, input_in, piece_from, pieces_from, script_from};
+ghost use Rattle.nf_forms.specs.Items.{is_empty, single as single_of, each, input_in, piece_from, pieces_from, script_from};
+ghost use Rattle.nf_forms.specs.Links.{items_from};
+ghost use Rattle.nf_forms.specs.Values.{item_from};
+ghost use Rattle.nf_forms.specs.Memory.{view_around};
 ghost use Rattle.nf_forms.specs.Processes.{task_from};
 
+use crate::around::Around;
 use crate::fault::FormFault;
-use crate::leaf::{Kind, Leaf, argument, first_of};
+use crate::leaf::{Kind, Leaf, argument_place, first_of};
+use crate::values::item;
 use nf_ast::{Arg, Expr, Piece as Part};
+use nf_builtins::Natives;
 use nf_process::{Piece, Pieces};
-use nf_value::{Place, Vals, Value};
+use nf_value::{Place, Vals};
 use std::alloc::Global;
 
 /// How many items `of` takes at most (own).
@@ -57,30 +63,6 @@ pub fn unless<T: Drop>(after: Option<Place>, value: T) -> Result<T, FormFault>
     }
 }
 
-/// A number alone.
-fn number(leaf: &Leaf<'_>) -> Result<i64, FormFault>
-    ensures { Builds (λ x. x) (number_in (view_leaf leaf.now) (view_kind leaf.now.kind)) result }
-{
-    match &leaf.kind {
-        Kind::Number(number) => unless(leaf.after, *number),
-        _ => Err(FormFault::Unbuilt { place: leaf.place }),
-    }
-}
-
-/// A number or a plain string alone.
-fn plain(leaf: &Leaf<'_>) -> Result<Value, FormFault>
-    ensures { Builds plain_of (plain_in (view_leaf leaf.now) (view_kind leaf.now.kind)) result }
-{
-    match &leaf.kind {
-        Kind::Number(number) => unless(leaf.after, Value::Int(*number)),
-        Kind::Text(text) => {
-            let text = text.copy()?;
-            unless(leaf.after, Value::Text(text))
-        }
-        _ => Err(FormFault::Unbuilt { place: leaf.place }),
-    }
-}
-
 /// Whether there is no argument.
 pub fn are_none(args: &[Arg]) -> bool
     ensures { result ≡ is_empty (trees (map view_arg args.now)) }
@@ -102,52 +84,41 @@ pub fn single(args: &[Arg]) -> Option<&Arg>
     }
 }
 
-/// The numbers of `of`, whose name stands at this place.
-pub fn read_numbers(alloc: Global, of: Place, args: &[Arg]) -> Result<Vec<i64>, FormFault>
-    ensures { Builds (λ v. v.items) (some_items number_item of (trees (map view_arg args.now))) result }
+/// The items of `of`, whose name stands at this place.
+pub fn read_items<N: Natives>(
+    alloc: Global,
+    around: &Around,
+    natives: &N,
+    of: Place,
+    args: &[Arg],
+) -> Result<Items, FormFault>
+    requires { N.keeps natives.now }
+    ensures { Builds (λ i. i.list) (items_from (view_around around.now (N.titles natives.now) (N.answer natives.now)) of (trees (map view_arg args.now))) result }
 {
     if are_none(args) {
         return Err(FormFault::Unbuilt { place: of });
     }
-    all_numbers(alloc, args)
+    all_items(alloc, around, natives, args)
 }
 
-/// Numbers, at most 10,000.
-fn all_numbers(alloc: Global, args: &[Arg]) -> Result<Vec<i64>, FormFault>
-    ensures { Builds (λ v. v.items) (each number_item 0 (trees (map view_arg args.now))) result }
+/// The items of arguments, at most 10,000.
+fn all_items<N: Natives>(
+    alloc: Global,
+    around: &Around,
+    natives: &N,
+    args: &[Arg],
+) -> Result<Items, FormFault>
+    requires { N.keeps natives.now }
+    ensures { Builds (λ i. i.list) (each (item_from (view_around around.now (N.titles natives.now) (N.answer natives.now))) 0 (trees (map view_arg args.now))) result }
 {
     let mut all = Vec::new(alloc);
     for arg in args {
-        let leaf = argument(arg);
         if all.len() >= MOST_ITEMS {
-            return Err(FormFault::Unbuilt { place: leaf.place });
+            return Err(FormFault::Unbuilt {
+                place: argument_place(arg),
+            });
         }
-        all.push(number(&leaf)?)?;
-    }
-    Ok(all)
-}
-
-/// The numbers and plain strings of `of`, whose name stands at this place.
-pub fn read_items(alloc: Global, of: Place, args: &[Arg]) -> Result<Items, FormFault>
-    ensures { Builds (λ i. i.list) (some_items plain_item of (trees (map view_arg args.now))) result }
-{
-    if are_none(args) {
-        return Err(FormFault::Unbuilt { place: of });
-    }
-    all_items(alloc, args)
-}
-
-/// Numbers and plain strings, at most 10,000.
-fn all_items(alloc: Global, args: &[Arg]) -> Result<Items, FormFault>
-    ensures { Builds (λ i. i.list) (each plain_item 0 (trees (map view_arg args.now))) result }
-{
-    let mut all = Vec::new(alloc);
-    for arg in args {
-        let leaf = argument(arg);
-        if all.len() >= MOST_ITEMS {
-            return Err(FormFault::Unbuilt { place: leaf.place });
-        }
-        all.push(plain(&leaf)?)?;
+        all.push(item(alloc, around, natives, arg)?)?;
     }
     let list = Vals::of(all);
     Ok(Items { list })

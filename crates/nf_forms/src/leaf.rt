@@ -2,7 +2,8 @@
 
 ghost use Rattle.std.specs.Prelude.{◌≡◌, None, true, map, option_map};
 ghost use Rattle.nf_ast.specs.View.{view, view_arg, view_arm, view_stmt, view_operand, view_branch, view_postfix, choice, last_arm};
-ghost use Rattle.nf_forms.specs.Leaf.{leaf_of, view_leaf, begins_at, follows, prefix_at, operand_at, branch_at, postfix_place, part_at, is_statement, IsExpression};
+ghost use Rattle.nf_forms.specs.Built.{is_before as is_before_of};
+ghost use Rattle.nf_forms.specs.Leaf.{leaf_of, view_leaf, begins_at, label_at, follows, prefix_at, operand_at, branch_at, postfix_place, part_at, is_statement, IsExpression};
 
 use nf_ast::{Arg, Arm, Branch, Closure, Expr, Operand, Piece, Postfix, Prefix, Stmt};
 use nf_value::{Place, Txt};
@@ -10,8 +11,6 @@ use nf_value::{Place, Txt};
 /// The kind of what stands first.
 #[derive(Drop)]
 pub enum Kind<'a> {
-    /// A number.
-    Number(i64),
     /// A plain string.
     Text(&'a Txt),
     /// A template, with its texts and holes.
@@ -40,7 +39,7 @@ pub fn first_of(expr: &Expr) -> Leaf<'_>
     ensures { view_leaf result ≡ leaf_of (view expr.now) }
 {
     match expr {
-        Expr::Number(place, number) => alone(*place, Kind::Number(*number)),
+        Expr::Number(place, _) => alone(*place, Kind::Other),
         Expr::Text(place, _, text) => alone(*place, Kind::Text(text)),
         Expr::Template(place, _, pieces) => alone(*place, Kind::Template(pieces.as_slice())),
         Expr::Name(place, name) => alone(*place, Kind::Name(name)),
@@ -60,14 +59,21 @@ pub fn first_of(expr: &Expr) -> Leaf<'_>
     }
 }
 
-/// What stands first in an argument; its name, where it has one.
-pub fn argument(arg: &Arg) -> Leaf<'_>
-    ensures { view_leaf result ≡ leaf_of (view_arg arg.now) }
+/// Where an argument begins: at its name, where it has one.
+pub fn argument_place(arg: &Arg) -> Place
+    ensures { result ≡ begins_at (view_arg arg.now) }
 {
     match &arg.name {
-        None => first_of(&arg.value),
-        Some((place, _)) => alone(*place, Kind::Other),
+        None => first_of(&arg.value).place,
+        Some((place, _)) => *place,
     }
+}
+
+/// Tells that an expression doesn't begin with a name and its colon.
+pub fn tell_no_label(expr: &Expr)
+    ensures { label_at (view expr.now) ≡ None }
+{
+    let _leaf = first_of(expr);
 }
 
 fn alone(place: Place, kind: Kind<'_>) -> Leaf<'_>
@@ -179,4 +185,11 @@ pub fn statement_place(stmt: &Stmt) -> Place
         Ok(expr) => first_of(expr).place,
         Err(place) => place,
     }
+}
+
+/// Whether the one place stands before the other.
+pub fn is_before(first: Place, second: Place) -> bool
+    ensures { result ≡ is_before_of first second }
+{
+    first.line < second.line || first.line == second.line && first.col < second.col
 }

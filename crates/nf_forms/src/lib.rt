@@ -1,15 +1,16 @@
 //! The forms of scripts that run, found on the tree of the whole language.
 #![tactic(auto)]
 
+mod around;
 mod fault;
 mod items;
 mod leaf;
 mod links;
 mod plan;
 mod processes;
-mod sums;
 #[cfg(test)]
 mod tests;
+mod values;
 
 pub use fault::FormFault;
 pub use items::Items;

@@ -5,14 +5,16 @@ ghost use Rattle.nf_ast.specs.View.{view, view_arg, view_postfix, view_closure, 
 ghost use Rattle.nf_forms.specs.Built.{Builds};
 ghost use Rattle.nf_forms.specs.Links.{made_from, link_from, item_source, head as head_of, with_name as with_name_of, with_closure as with_closure_of, with_args as with_args_of, called, mapped as mapped_of, with_no_items as with_no_items_of};
 ghost use Rattle.nf_forms.specs.Items.{single as single_of};
+ghost use Rattle.nf_forms.specs.Memory.{view_around};
 ghost use Rattle.nf_forms.specs.Chains.{view_role, view_link, view_made, steps_on, step as step_of};
 
+use crate::around::Around;
 use crate::fault::FormFault;
-use crate::items::{Items, are_none, read_items, read_numbers, single, unless};
-use crate::leaf::{argument, branch_mark, first_of, operand_mark, prefix_mark};
-use crate::sums::{closure_sum, sum_closure};
+use crate::items::{Items, are_none, read_items, single, unless};
+use crate::leaf::{branch_mark, first_of, operand_mark, prefix_mark};
+use crate::values::{argument_closure, read_closure};
 use nf_ast::{Arg, Closure, Expr, Postfix};
-use nf_eval::Sum;
+use nf_builtins::Natives;
 use nf_value::Place;
 use std::alloc::Global;
 
@@ -30,8 +32,8 @@ pub enum Role<'a> {
 /// What can be viewed.
 #[derive(Drop)]
 pub enum Made {
-    /// The images of numbers by a sum.
-    Chain(Vec<i64>, Sum),
+    /// The images of items by a closure.
+    Chain(Items, Closure),
     /// What a process makes of items.
     Call(Items),
 }
@@ -43,12 +45,12 @@ pub enum Link {
     Channel,
     /// `channel.of`.
     Of(Place),
-    /// `channel.of(..)` with numbers.
-    Numbers(Vec<i64>),
-    /// `channel.of(..)` with numbers and plain strings.
+    /// `channel.of(..)` in a chain by itself.
+    Source(Items),
+    /// `channel.of(..)` as an argument.
     Items(Items),
-    /// Numbers and `.map`.
-    Map(Place, Vec<i64>),
+    /// A source and `.map`.
+    Map(Place, Items),
     /// The name of the process.
     Process(Place),
     /// What can be viewed.
@@ -60,10 +62,17 @@ pub enum Link {
 }
 
 /// What a chain makes, up to its `view()`.
-pub fn read_made(alloc: Global, role: &Role<'_>, expr: &Expr) -> Result<Made, FormFault>
-    ensures { Builds view_made (made_from (view_role role.now) (view expr.now)) result }
+pub fn read_made<N: Natives>(
+    alloc: Global,
+    around: &Around,
+    natives: &N,
+    role: &Role<'_>,
+    expr: &Expr,
+) -> Result<Made, FormFault>
+    requires { N.keeps natives.now }
+    ensures { Builds view_made (made_from (view_around around.now (N.titles natives.now) (N.answer natives.now)) (view_role role.now) (view expr.now)) result }
 {
-    match read_link(alloc, role, expr)? {
+    match read_link(alloc, around, natives, role, expr)? {
         Link::Viewed(made) => Ok(made),
         Link::Of(place) => Err(FormFault::Unbuilt { place }),
         Link::Map(place, _) => Err(FormFault::Unbuilt { place }),
@@ -76,10 +85,16 @@ pub fn read_made(alloc: Global, role: &Role<'_>, expr: &Expr) -> Result<Made, Fo
 
 /// The items of `channel.of(..)`.
 #[cycle(link)]
-fn source(alloc: Global, expr: &Expr) -> Result<Items, FormFault>
-    ensures { Builds (λ i. i.list) (item_source (view expr.now)) result }
+fn source<N: Natives>(
+    alloc: Global,
+    around: &Around,
+    natives: &N,
+    expr: &Expr,
+) -> Result<Items, FormFault>
+    requires { N.keeps natives.now }
+    ensures { Builds (λ i. i.list) (item_source (view_around around.now (N.titles natives.now) (N.answer natives.now)) (view expr.now)) result }
 {
-    match read_link(alloc, &Role::Argument, expr)? {
+    match read_link(alloc, around, natives, &Role::Argument, expr)? {
         Link::Items(items) => Ok(items),
         Link::Of(place) => Err(FormFault::Unbuilt { place }),
         Link::Map(place, _) => Err(FormFault::Unbuilt { place }),
@@ -92,25 +107,32 @@ fn source(alloc: Global, expr: &Expr) -> Result<Items, FormFault>
 
 /// How far a chain can be read: to its end.
 #[cycle(link)]
-fn read_link(alloc: Global, role: &Role<'_>, expr: &Expr) -> Result<Link, FormFault>
-    ensures { Builds view_link (link_from (view_role role.now) (view expr.now)) result }
+fn read_link<N: Natives>(
+    alloc: Global,
+    around: &Around,
+    natives: &N,
+    role: &Role<'_>,
+    expr: &Expr,
+) -> Result<Link, FormFault>
+    requires { N.keeps natives.now }
+    ensures { Builds view_link (link_from (view_around around.now (N.titles natives.now) (N.answer natives.now)) (view_role role.now) (view expr.now)) result }
 {
     match expr {
         Expr::Name(place, name) => head(role, *place, name.as_str()),
         Expr::Postfix(first, rest) => {
-            let first = read_link(alloc, role, first)?;
-            steps(alloc, role, rest, first)
+            let first = read_link(alloc, around, natives, role, first)?;
+            steps(alloc, around, natives, role, rest, first)
         }
         Expr::Infix(first, rest) => {
-            let first = read_link(alloc, role, first)?;
+            let first = read_link(alloc, around, natives, role, first)?;
             unless(operand_mark(rest), first)
         }
         Expr::Conditional(first, rest) => {
-            let first = read_link(alloc, role, first)?;
+            let first = read_link(alloc, around, natives, role, first)?;
             unless(branch_mark(rest), first)
         }
         Expr::Prefix(marks, of) => match prefix_mark(marks) {
-            None => read_link(alloc, role, of),
+            None => read_link(alloc, around, natives, role, of),
             Some(place) => Err(FormFault::Unbuilt { place }),
         },
         Expr::Number(place, _) => Err(FormFault::Unbuilt { place: *place }),
@@ -139,24 +161,40 @@ fn head(role: &Role<'_>, place: Place, name: &str) -> Result<Link, FormFault>
 
 /// The parts after a link.
 #[cycle(link)]
-fn steps(alloc: Global, role: &Role<'_>, rest: &[Postfix], first: Link) -> Result<Link, FormFault>
-    ensures { Builds view_link (steps_on (view_role role.now) (map view_postfix rest.now) (view_link first)) result }
+fn steps<N: Natives>(
+    alloc: Global,
+    around: &Around,
+    natives: &N,
+    role: &Role<'_>,
+    rest: &[Postfix],
+    first: Link,
+) -> Result<Link, FormFault>
+    requires { N.keeps natives.now }
+    ensures { Builds view_link (steps_on (view_around around.now (N.titles natives.now) (N.answer natives.now)) (view_role role.now) (map view_postfix rest.now) (view_link first)) result }
 {
     let mut link = first;
     for part in rest {
-        link = step(alloc, role, part, link)?;
+        link = step(alloc, around, natives, role, part, link)?;
     }
     Ok(link)
 }
 
 #[cycle(link)]
-fn step(alloc: Global, role: &Role<'_>, part: &Postfix, link: Link) -> Result<Link, FormFault>
-    ensures { Builds view_link (step_of (view_role role.now) (view_postfix part.now) (view_link link)) result }
+fn step<N: Natives>(
+    alloc: Global,
+    around: &Around,
+    natives: &N,
+    role: &Role<'_>,
+    part: &Postfix,
+    link: Link,
+) -> Result<Link, FormFault>
+    requires { N.keeps natives.now }
+    ensures { Builds view_link (step_of (view_around around.now (N.titles natives.now) (N.answer natives.now)) (view_role role.now) (view_postfix part.now) (view_link link)) result }
 {
     match part {
         Postfix::Property(place, name) => with_name(link, *place, name.as_str()),
-        Postfix::Call(place, args) => with_args(alloc, role, args, *place, link),
-        Postfix::With(closure) => with_closure(alloc, link, closure),
+        Postfix::Call(place, args) => with_args(alloc, around, natives, role, args, *place, link),
+        Postfix::With(closure) => with_closure(alloc, around, natives, link, closure),
         Postfix::SafeProperty(place, _) => Err(FormFault::Unbuilt { place: *place }),
         Postfix::Index(place, _) => Err(FormFault::Unbuilt { place: *place }),
     }
@@ -168,20 +206,27 @@ fn with_name(link: Link, place: Place, name: &str) -> Result<Link, FormFault>
 {
     match link {
         Link::Channel if name == "of" => Ok(Link::Of(place)),
-        Link::Numbers(numbers) if name == "map" => Ok(Link::Map(place, numbers)),
+        Link::Source(items) if name == "map" => Ok(Link::Map(place, items)),
         Link::Made(made) if name == "view" => Ok(Link::View(place, made)),
         _ => Err(FormFault::Unbuilt { place }),
     }
 }
 
 /// A closure after a link.
-fn with_closure(alloc: Global, link: Link, closure: &Closure) -> Result<Link, FormFault>
-    ensures { Builds view_link (with_closure_of (view_link link) (view_closure closure.now)) result }
+fn with_closure<N: Natives>(
+    alloc: Global,
+    around: &Around,
+    natives: &N,
+    link: Link,
+    closure: &Closure,
+) -> Result<Link, FormFault>
+    requires { N.keeps natives.now }
+    ensures { Builds view_link (with_closure_of (view_around around.now (N.titles natives.now) (N.answer natives.now)) (view_link link) (view_closure closure.now)) result }
 {
     match link {
-        Link::Map(_, numbers) => {
-            let sum = closure_sum(alloc, closure)?;
-            Ok(Link::Made(Made::Chain(numbers, sum)))
+        Link::Map(_, items) => {
+            let closure = read_closure(alloc, around, natives, closure)?;
+            Ok(Link::Made(Made::Chain(items, closure)))
         }
         _ => Err(FormFault::Unbuilt {
             place: closure.place,
@@ -191,52 +236,82 @@ fn with_closure(alloc: Global, link: Link, closure: &Closure) -> Result<Link, Fo
 
 /// Arguments after a link.
 #[cycle(link)]
-fn with_args(
+fn with_args<N: Natives>(
     alloc: Global,
+    around: &Around,
+    natives: &N,
     role: &Role<'_>,
     args: &[Arg],
     place: Place,
     link: Link,
 ) -> Result<Link, FormFault>
-    ensures { Builds view_link (with_args_of (view_role role.now) (view_link link) place (trees (map view_arg args.now))) result }
+    requires { N.keeps natives.now }
+    ensures { Builds view_link (with_args_of (view_around around.now (N.titles natives.now) (N.answer natives.now)) (view_role role.now) (view_link link) place (trees (map view_arg args.now))) result }
 {
     match (role, link) {
-        (Role::Alone, Link::Of(of)) => Ok(Link::Numbers(read_numbers(alloc, of, args)?)),
-        (Role::Argument, Link::Of(of)) => Ok(Link::Items(read_items(alloc, of, args)?)),
-        (Role::Calling(_), Link::Process(of)) => call(alloc, of, args),
-        (_, link) => with_no_items(alloc, link, place, args),
+        (Role::Alone, Link::Of(of)) => {
+            let items = read_items(alloc, around, natives, of, args)?;
+            Ok(Link::Source(items))
+        }
+        (Role::Argument, Link::Of(of)) => {
+            let items = read_items(alloc, around, natives, of, args)?;
+            Ok(Link::Items(items))
+        }
+        (Role::Calling(_), Link::Process(of)) => call(alloc, around, natives, of, args),
+        (_, link) => with_no_items(alloc, around, natives, link, place, args),
     }
 }
 
 /// The arguments of a process's call; its name stands at this place.
 #[cycle(link)]
-fn call(alloc: Global, process: Place, args: &[Arg]) -> Result<Link, FormFault>
-    ensures { Builds view_link (called process (single_of (trees (map view_arg args.now)))) result }
+fn call<N: Natives>(
+    alloc: Global,
+    around: &Around,
+    natives: &N,
+    process: Place,
+    args: &[Arg],
+) -> Result<Link, FormFault>
+    requires { N.keeps natives.now }
+    ensures { Builds view_link (called (view_around around.now (N.titles natives.now) (N.answer natives.now)) process (single_of (trees (map view_arg args.now)))) result }
 {
     match args {
         [] => Err(FormFault::Unbuilt { place: process }),
-        [only] => Ok(Link::Made(Made::Call(argument_items(alloc, only)?))),
+        [only] => Ok(Link::Made(Made::Call(argument_items(alloc, around, natives, only)?))),
         [_, _, ..] => Err(FormFault::Unbuilt { place: process }),
     }
 }
 
 /// The items of an argument, which has no name.
 #[cycle(link)]
-fn argument_items(alloc: Global, arg: &Arg) -> Result<Items, FormFault>
-    ensures { Builds (λ i. i.list) (item_source (view_arg arg.now)) result }
+fn argument_items<N: Natives>(
+    alloc: Global,
+    around: &Around,
+    natives: &N,
+    arg: &Arg,
+) -> Result<Items, FormFault>
+    requires { N.keeps natives.now }
+    ensures { Builds (λ i. i.list) (item_source (view_around around.now (N.titles natives.now) (N.answer natives.now)) (view_arg arg.now)) result }
 {
     match &arg.name {
-        None => source(alloc, &arg.value),
+        None => source(alloc, around, natives, &arg.value),
         Some((place, _)) => Err(FormFault::Unbuilt { place: *place }),
     }
 }
 
 /// Arguments after a link, none of which are items.
-fn with_no_items(alloc: Global, link: Link, place: Place, args: &[Arg]) -> Result<Link, FormFault>
-    ensures { Builds view_link (with_no_items_of (view_link link) place (trees (map view_arg args.now))) result }
+fn with_no_items<N: Natives>(
+    alloc: Global,
+    around: &Around,
+    natives: &N,
+    link: Link,
+    place: Place,
+    args: &[Arg],
+) -> Result<Link, FormFault>
+    requires { N.keeps natives.now }
+    ensures { Builds view_link (with_no_items_of (view_around around.now (N.titles natives.now) (N.answer natives.now)) (view_link link) place (trees (map view_arg args.now))) result }
 {
     match link {
-        Link::Map(map, numbers) => mapped(alloc, map, numbers, args),
+        Link::Map(map, items) => mapped(alloc, around, natives, map, items, args),
         Link::View(view, made) => {
             if are_none(args) {
                 Ok(Link::Viewed(made))
@@ -251,12 +326,20 @@ fn with_no_items(alloc: Global, link: Link, place: Place, args: &[Arg]) -> Resul
 }
 
 /// The one argument of `map`, whose name stands at this place.
-fn mapped(alloc: Global, name: Place, numbers: Vec<i64>, args: &[Arg]) -> Result<Link, FormFault>
-    ensures { Builds view_link (mapped_of name numbers.items (single_of (trees (map view_arg args.now)))) result }
+fn mapped<N: Natives>(
+    alloc: Global,
+    around: &Around,
+    natives: &N,
+    name: Place,
+    items: Items,
+    args: &[Arg],
+) -> Result<Link, FormFault>
+    requires { N.keeps natives.now }
+    ensures { Builds view_link (mapped_of (view_around around.now (N.titles natives.now) (N.answer natives.now)) name items.list (single_of (trees (map view_arg args.now)))) result }
 {
     let Some(only) = single(args) else {
         return Err(FormFault::Unbuilt { place: name });
     };
-    let sum = sum_closure(alloc, &argument(only))?;
-    Ok(Link::Made(Made::Chain(numbers, sum)))
+    let closure = argument_closure(alloc, around, natives, only)?;
+    Ok(Link::Made(Made::Chain(items, closure)))
 }

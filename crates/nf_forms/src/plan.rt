@@ -1,21 +1,26 @@
 //! What a script asks for.
 
-ghost use Rattle.std.specs.Prelude.{◌≡◌, None, map};
+ghost use Rattle.std.specs.Prelude.{◌≡◌, ℕ, None, List, Option, map};
+ghost use Rattle.nf_value.specs.Plain.{Plain};
 ghost use Rattle.nf_ast.specs.View.{view_stmt, trees};
 ghost use Rattle.nf_ast.specs.Tops.{view_top, view_script, view_process, view_workflow, view_workflow_body, view_parts, view_section, view_take, view_emits, maybe};
 ghost use Rattle.nf_forms.specs.Built.{Builds};
+ghost use Rattle.nf_forms.specs.Values.{OverBuilt};
 ghost use Rattle.nf_forms.specs.Chains.{view_role, view_made};
 ghost use Rattle.nf_forms.specs.Links.{made_from};
 ghost use Rattle.nf_forms.specs.Form.{form_of, role_of as role_found, no_tops, add as add_of, add_process as add_process_of, add_workflow as add_workflow_of, add_all, whole as whole_of, statement_from, body_from, parts_from, workflow_from};
+ghost use Rattle.nf_forms.specs.Memory.{view_around};
 ghost use Rattle.nf_forms.specs.View.{view_plan, view_tops};
 
+use crate::around::Around;
 use crate::fault::FormFault;
 use crate::items::Items;
 use crate::leaf::{expression, statement_place};
 use crate::links::{Made, Role, read_made};
 use crate::processes::read_process;
 use nf_ast::{Parts, Process, Script, Stmt, Top, Workflow, WorkflowBody};
-use nf_eval::Sum;
+use nf_builtins::Natives;
+use nf_eval::Closure;
 use nf_process::ProcessSpec;
 use nf_value::Place;
 use std::alloc::Global;
@@ -23,8 +28,8 @@ use std::alloc::Global;
 /// What a script asks for (own). Contracts see its form, by `view_plan`.
 #[derive(Drop)]
 pub enum Plan {
-    /// The images of some numbers, by a sum.
-    Chain(Vec<i64>, Sum),
+    /// The images of some items, by a closure.
+    Chain(Items, Closure),
     /// The tasks of a process, one for each of these items.
     Tasks(ProcessSpec, Items),
 }
@@ -38,23 +43,42 @@ pub struct Tops {
     pub made: Option<Made>,
 }
 
-/// What a script asks for. There are two forms: `workflow { channel.of(NUMBER, ..).map { SUM }.view() }`, and one process with `workflow {
+/// What a script asks for. There are two forms: `workflow { channel.of(ITEM, ..).map { CLOSURE }.view() }`, and one process with `workflow {
 /// NAME(channel.of(ITEM, ..)).view() }`, in either order (Nextflow reference documentation, "Syntax", "Workflow" and "Process"; "Channel
-/// factories", `of`; "Operators", `map` and `view`). A SUM has numbers, `it`, `+`, `-` and `*`; an ITEM is a number or a plain string. The
+/// factories", `of`; "Operators", `map` and `view`). An ITEM is any expression but a range, a closure and one with a name; it is evaluated
+/// here, and finds the functions of the program and no other name. A CLOSURE has statements. The
 /// process has no directive and no stub, one input `val NAME`, the output `stdout` without options, and a string as its script, whose
-/// holes are the input's name. Limit (own): 10,000 items. Takes memory for the plan.
+/// holes are the input's name. Limit (own): 10,000 items. Takes memory for the plan, and time by the work that the items describe.
 ///
 /// # Errors
 ///
 /// `Unbuilt` exactly where the script is of no such form, with the first place, in the order of the text, of what isn't built: of a
 /// script without a workflow that of its first letter; of a wrong number of arguments that of the method's name; of a chain that ends
-/// too early where it begins, or its last method's name. `Mem` where there is no memory for the plan.
-pub fn plan_of(alloc: Global, script: &Script) -> Result<Plan, FormFault>
-    ensures { Builds view_plan (form_of (view_script script.now)) result }
+/// too early where it begins, or its last method's name. In an item and in a closure that is what nothing binds: a name, a function, an assignment to a name
+/// that isn't defined there, and a pattern that `regex` refuses. An item in which all is bound may have a fault: then at the fault's place. `Mem` where there is no
+/// memory for the plan.
+pub fn plan_of<N: Natives>(alloc: Global, script: &Script, natives: &N) -> Result<Plan, FormFault>
+    requires { N.keeps natives.now }
+    // There are patterns that are built, over which the plan is the script's form.
+    ensures { OverBuilt (N.titles natives.now) (N.answer natives.now) (λ env. Builds (view_plan env.titles env.answer) (form_of env (view_script script.now)) result) }
+{
+    let around = Around::of_script(alloc, script)?;
+    plan_around(alloc, script, natives, around)
+}
+
+/// What a script asks for, whose expressions find what is around them.
+fn plan_around<N: Natives>(
+    alloc: Global,
+    script: &Script,
+    natives: &N,
+    around: Around,
+) -> Result<Plan, FormFault>
+    requires { N.keeps natives.now }
+    ensures { Builds (view_plan (N.titles natives.now) (N.answer natives.now)) (form_of (view_around around (N.titles natives.now) (N.answer natives.now)) (view_script script.now)) result }
 {
     let role = role_of(&script.tops);
-    let tops = read_tops(alloc, &role, &script.tops)?;
-    whole(tops)
+    let tops = read_tops(alloc, &around, natives, &role, &script.tops)?;
+    whole(around, tops)
 }
 
 /// A workflow stands by itself, or calls the first process.
@@ -69,26 +93,41 @@ fn role_of(tops: &[Top]) -> Role<'_>
     Role::Alone
 }
 
-fn read_tops(alloc: Global, role: &Role<'_>, tops: &[Top]) -> Result<Tops, FormFault>
-    ensures { Builds view_tops (add_all (view_role role.now) (trees (map view_top tops.now)) no_tops) result }
+fn read_tops<N: Natives>(
+    alloc: Global,
+    around: &Around,
+    natives: &N,
+    role: &Role<'_>,
+    tops: &[Top],
+) -> Result<Tops, FormFault>
+    requires { N.keeps natives.now }
+    ensures { Builds view_tops (add_all (view_around around.now (N.titles natives.now) (N.answer natives.now)) (view_role role.now) (trees (map view_top tops.now)) no_tops) result }
 {
     let mut all = Tops {
         process: None,
         made: None,
     };
     for top in tops {
-        all = add(alloc, role, top, all)?;
+        all = add(alloc, around, natives, role, top, all)?;
     }
     Ok(all)
 }
 
 /// One more definition.
-fn add(alloc: Global, role: &Role<'_>, top: &Top, all: Tops) -> Result<Tops, FormFault>
-    ensures { Builds view_tops (add_of (view_role role.now) (view_top top.now) (view_tops all)) result }
+fn add<N: Natives>(
+    alloc: Global,
+    around: &Around,
+    natives: &N,
+    role: &Role<'_>,
+    top: &Top,
+    all: Tops,
+) -> Result<Tops, FormFault>
+    requires { N.keeps natives.now }
+    ensures { Builds view_tops (add_of (view_around around.now (N.titles natives.now) (N.answer natives.now)) (view_role role.now) (view_top top.now) (view_tops all)) result }
 {
     match top {
         Top::Process(process) => add_process(alloc, process, all),
-        Top::Workflow(workflow) => add_workflow(alloc, role, workflow, all),
+        Top::Workflow(workflow) => add_workflow(alloc, around, natives, role, workflow, all),
         Top::Function(function) => Err(FormFault::Unbuilt {
             place: function.place,
         }),
@@ -120,13 +159,16 @@ fn add_process(alloc: Global, process: &Process, all: Tops) -> Result<Tops, Form
     })
 }
 
-fn add_workflow(
+fn add_workflow<N: Natives>(
     alloc: Global,
+    around: &Around,
+    natives: &N,
     role: &Role<'_>,
     workflow: &Workflow,
     all: Tops,
 ) -> Result<Tops, FormFault>
-    ensures { Builds view_tops (add_workflow_of (view_role role.now) (view_workflow workflow.now) (view_tops all).process (view_tops all).made) result }
+    requires { N.keeps natives.now }
+    ensures { Builds view_tops (add_workflow_of (view_around around.now (N.titles natives.now) (N.answer natives.now)) (view_role role.now) (view_workflow workflow.now) (view_tops all).process (view_tops all).made) result }
 {
     let Tops {
         process,
@@ -137,7 +179,7 @@ fn add_workflow(
             place: workflow.place,
         });
     };
-    let made = read_workflow(alloc, role, workflow)?;
+    let made = read_workflow(alloc, around, natives, role, workflow)?;
     Ok(Tops {
         process,
         made: Some(made),
@@ -145,11 +187,18 @@ fn add_workflow(
 }
 
 /// What a workflow without a name makes.
-fn read_workflow(alloc: Global, role: &Role<'_>, workflow: &Workflow) -> Result<Made, FormFault>
-    ensures { Builds view_made (workflow_from (view_role role.now) (view_workflow workflow.now)) result }
+fn read_workflow<N: Natives>(
+    alloc: Global,
+    around: &Around,
+    natives: &N,
+    role: &Role<'_>,
+    workflow: &Workflow,
+) -> Result<Made, FormFault>
+    requires { N.keeps natives.now }
+    ensures { Builds view_made (workflow_from (view_around around.now (N.titles natives.now) (N.answer natives.now)) (view_role role.now) (view_workflow workflow.now)) result }
 {
     match &workflow.name {
-        None => read_body(alloc, role, workflow.place, &workflow.body),
+        None => read_body(alloc, around, natives, role, workflow.place, &workflow.body),
         Some(_) => Err(FormFault::Unbuilt {
             place: workflow.place,
         }),
@@ -157,28 +206,47 @@ fn read_workflow(alloc: Global, role: &Role<'_>, workflow: &Workflow) -> Result<
 }
 
 /// What the body of a workflow makes, whose word stands at this place.
-fn read_body(
+fn read_body<N: Natives>(
     alloc: Global,
+    around: &Around,
+    natives: &N,
     role: &Role<'_>,
     place: Place,
     body: &WorkflowBody,
 ) -> Result<Made, FormFault>
-    ensures { Builds view_made (body_from (view_role role.now) place (view_workflow_body body.now)) result }
+    requires { N.keeps natives.now }
+    ensures { Builds view_made (body_from (view_around around.now (N.titles natives.now) (N.answer natives.now)) (view_role role.now) place (view_workflow_body body.now)) result }
 {
     match body {
-        WorkflowBody::Statements(body) => read_statements(alloc, role, place, body),
-        WorkflowBody::Parts(parts) => read_parts(alloc, role, parts),
+        WorkflowBody::Statements(body) => read_statements(
+            alloc, around, natives, role, place, body,
+        ),
+        WorkflowBody::Parts(parts) => read_parts(alloc, around, natives, role, parts),
     }
 }
 
 /// What the section `main:` makes, which stands alone.
-fn read_parts(alloc: Global, role: &Role<'_>, parts: &Parts) -> Result<Made, FormFault>
-    ensures { Builds view_made (parts_from (view_role role.now) (maybe view_take parts.now.take) (view_section parts.now.main) (maybe view_emits parts.now.emit)) result }
+fn read_parts<N: Natives>(
+    alloc: Global,
+    around: &Around,
+    natives: &N,
+    role: &Role<'_>,
+    parts: &Parts,
+) -> Result<Made, FormFault>
+    requires { N.keeps natives.now }
+    ensures { Builds view_made (parts_from (view_around around.now (N.titles natives.now) (N.answer natives.now)) (view_role role.now) (maybe view_take parts.now.take) (view_section parts.now.main) (maybe view_emits parts.now.emit)) result }
 {
     if let Some(take) = &parts.take {
         return Err(FormFault::Unbuilt { place: take.place });
     }
-    let made = read_statements(alloc, role, parts.main.place, &parts.main.body)?;
+    let made = read_statements(
+        alloc,
+        around,
+        natives,
+        role,
+        parts.main.place,
+        &parts.main.body,
+    )?;
     match &parts.emit {
         None => Ok(made),
         Some(emit) => Err(FormFault::Unbuilt { place: emit.place }),
@@ -186,19 +254,22 @@ fn read_parts(alloc: Global, role: &Role<'_>, parts: &Parts) -> Result<Made, For
 }
 
 /// What the one statement of a workflow makes.
-fn read_statements(
+fn read_statements<N: Natives>(
     alloc: Global,
+    around: &Around,
+    natives: &N,
     role: &Role<'_>,
     place: Place,
     body: &[Stmt],
 ) -> Result<Made, FormFault>
-    ensures { Builds view_made (statement_from (view_role role.now) place (trees (map view_stmt body.now))) result }
+    requires { N.keeps natives.now }
+    ensures { Builds view_made (statement_from (view_around around.now (N.titles natives.now) (N.answer natives.now)) (view_role role.now) place (trees (map view_stmt body.now))) result }
 {
     match body {
         [] => Err(FormFault::Unbuilt { place }),
-        [only] => read_statement(alloc, role, only),
+        [only] => read_statement(alloc, around, natives, role, only),
         [first, second, ..] => {
-            read_statement(alloc, role, first)?;
+            read_statement(alloc, around, natives, role, first)?;
             Err(FormFault::Unbuilt {
                 place: statement_place(second),
             })
@@ -206,22 +277,31 @@ fn read_statements(
     }
 }
 
-fn read_statement(alloc: Global, role: &Role<'_>, stmt: &Stmt) -> Result<Made, FormFault>
-    ensures { Builds view_made (made_from (view_role role.now) (view_stmt stmt.now)) result }
+fn read_statement<N: Natives>(
+    alloc: Global,
+    around: &Around,
+    natives: &N,
+    role: &Role<'_>,
+    stmt: &Stmt,
+) -> Result<Made, FormFault>
+    requires { N.keeps natives.now }
+    ensures { Builds view_made (made_from (view_around around.now (N.titles natives.now) (N.answer natives.now)) (view_role role.now) (view_stmt stmt.now)) result }
 {
     match expression(stmt) {
-        Ok(expr) => read_made(alloc, role, expr),
+        Ok(expr) => read_made(alloc, around, natives, role, expr),
         Err(place) => Err(FormFault::Unbuilt { place }),
     }
 }
 
 /// The plan of a script's definitions.
-fn whole(tops: Tops) -> Result<Plan, FormFault>
-    ensures { Builds view_plan (whole_of (view_tops tops).process (view_tops tops).made) result }
+fn whole(around: Around, tops: Tops) -> Result<Plan, FormFault>
+    ensures { (titles : List (List ℕ)) → (answer : (ℕ → List Plain → Option Plain)) → Builds (view_plan titles answer) (whole_of (view_around around titles answer) (view_tops tops).process (view_tops tops).made) result }
 {
     let Tops { process, made } = tops;
     match (process, made) {
-        (None, Some(Made::Chain(numbers, sum))) => Ok(Plan::Chain(numbers, sum)),
+        (None, Some(Made::Chain(items, closure))) => {
+            Ok(Plan::Chain(items, Closure::new(closure, around.into_env())))
+        }
         (Some(process), Some(Made::Call(items))) => Ok(Plan::Tasks(process, items)),
         _ => Err(FormFault::Unbuilt {
             place: Place { line: 1, col: 1 },

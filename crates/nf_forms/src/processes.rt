@@ -6,12 +6,12 @@ ghost use Rattle.nf_ast.specs.Tops.{maybe, view_directive, view_input, view_inpu
 ghost use Rattle.nf_ast.specs.View.{view_stmt};
 ghost use Rattle.nf_forms.specs.Built.{Builds, Names};
 ghost use Rattle.nf_forms.specs.Naming.{view_name};
-ghost use Rattle.nf_forms.specs.Processes.{part_place, nothing, input_part, one_input, input_from, output_part, one_output, output_from, is_before as is_before_of, both, body_from, task_from, process_from};
+ghost use Rattle.nf_forms.specs.Processes.{part_place, nothing, input_part, one_input, input_from, output_part, one_output, output_from, both, body_from, task_from, process_from};
 ghost use Rattle.nf_forms.specs.Items.{script_from};
 
 use crate::fault::FormFault;
 use crate::items::read_script;
-use crate::leaf::{expression, statement_place};
+use crate::leaf::{expression, is_before, statement_place};
 use nf_ast::{
     Directive, Input, InputPart, Inputs, Label, Output, OutputPart, OutputValue, Outputs, Process,
     Section, Stmt, Task,
@@ -81,12 +81,6 @@ fn input_and_output(process: &Process) -> Result<InputName<'_>, FormFault>
             }
         }
     }
-}
-
-fn is_before(first: Place, second: Place) -> bool
-    ensures { result ≡ is_before_of first second }
-{
-    first.line < second.line || first.line == second.line && first.col < second.col
 }
 
 fn input_of(process: Place, inputs: &Option<Inputs>) -> Result<InputName<'_>, Place>

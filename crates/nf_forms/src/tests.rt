@@ -1,11 +1,13 @@
 //! A script that is built by hand.
 
+ghost use Rattle.nf_builtins.specs.Natives.{AnswersNative, program_answer};
+
 use crate::{FormFault, Items, Plan, plan_of};
 use nf_ast::{
     Arg, Closure, ClosureBody, Expr, InfixMark, Operand, Postfix, Script, Stmt, Top, Workflow,
     WorkflowBody,
 };
-use nf_eval::sum;
+use nf_builtins::{CallFault, ProgramBook, StoredNatives, program_names, program_native};
 use nf_value::{Mem, Place, Txt, Vals, Value};
 use std::alloc::Global;
 use std::test::Fail;
@@ -66,24 +68,32 @@ fn script(alloc: Global, whole: bool) -> Result<Script, Mem> {
     })
 }
 
+/// The plan of a script, with the program's functions.
+fn planned(alloc: Global, script: &Script) -> Result<Plan, FormFault> {
+    let natives = StoredNatives::new(
+        program_names(alloc)?,
+        ProgramBook,
+        |alloc: Global, id: u32, args: &Vals| -> Result<Value, CallFault>
+            ensures { AnswersNative (program_answer id args.entry.now) result }
+        { program_native(alloc, id, args) },
+    );
+    plan_of(alloc, script, &natives)
+}
+
 #[test]
 fn finds_a_chain(rt: HostRuntime) -> Result<(), Fail> {
     let script = script(rt.alloc(), true)?;
-    let Ok(Plan::Chain(numbers, added)) = plan_of(rt.alloc(), &script) else {
+    let Ok(Plan::Chain(items, _closure)) = planned(rt.alloc(), &script) else {
         return Err(Fail::from("no chain"));
     };
-    assert!(rt; matches!(numbers.as_slice(), [5]));
-    let Ok(value) = sum(&added, 5) else {
-        return Err(Fail::from("a fault"));
-    };
-    assert_eq!(rt; value, 7);
+    assert!(rt; matches!(items.list().items(), [Value::Int(5)]));
     Ok(())
 }
 
 #[test]
 fn refuses_a_front_of_a_chain(rt: HostRuntime) -> Result<(), Fail> {
     let script = script(rt.alloc(), false)?;
-    match plan_of(rt.alloc(), &script) {
+    match planned(rt.alloc(), &script) {
         Err(FormFault::Unbuilt { place }) => {
             assert_eq!(rt; place, AT);
             Ok(())

@@ -1,9 +1,0 @@
-use Rattle.std.proofs.Common.{◌≡◌, ◌≤◌, length, map, drop}
-use Rattle.nf_ast.specs.View.{view_arg, trees}
-use Rattle.nf_forms.specs.Built.{most_items}
-use Rattle.nf_forms.specs.Items.{each, number_item}
-use Rattle.nf_forms.proofs.Each.{joined}
-use Rattle.nf_forms.proofs.items.all_numbers.Given as goal
-
-abbrev pub invariant-loop-arg : goal.invariant-loop-arg
-invariant-loop-arg l = (joined l.all.items (each number_item (length l.all.items) (trees (map view_arg (drop l.arg-index l.args)))) ≡ each number_item 0 (trees (map view_arg l.args))) × (length l.all.items ≤ most_items)

@@ -1,0 +1,16 @@
+-- What expressions find, in memory.
+use Rattle.std.specs.Prelude.{◌≡◌, ℕ, List, Option}
+use Rattle.nf_value.specs.Plain.{Plain}
+use Rattle.nf_calls.specs.Scope.{Env}
+use Rattle.nf_eval.specs.Memory.{env_of}
+use Rattle.nf_eval.specs.declared.environment.Env as memory
+use Rattle.nf_forms.specs.declared.around.Around.{Around}
+use Rattle.nf_forms.specs.Values.{AreBuilt, bare}
+
+-- over the names and answers of the program's functions
+abbrev pub view_around : Around → List (List ℕ) → (ℕ → List Plain → Option Plain) → Env
+view_around a titles answer = env_of a.env titles answer
+
+-- it has these patterns, which are built, and no name
+abbrev pub IsBare : memory.Env → List (List ℕ) → Type 0
+IsBare e patterns = AreBuilt patterns × ((titles : List (List ℕ)) (answer : ℕ → List Plain → Option Plain) → env_of e titles answer ≡ bare titles answer patterns)
