@@ -1,11 +1,11 @@
 -- Images that stand before others.
-use Rattle.std.proofs.Common.{◌≡◌, ℕ, zero, suc, ◌+◌, ◌<◌, List, [], ◌∷◌, ◌++◌, length, drop, map, get_or, Ok, Err, refl, ap, sym, ◌∙◌, subst, arith, append_assoc, add-one, drop-cons}
+use Rattle.std.proofs.Common.{◌≡◌, ℕ, suc, ◌+◌, ◌<◌, List, [], ◌∷◌, ◌++◌, length, drop, map, get_or, Ok, Err, refl, ap, sym, ◌∙◌, arith, append_assoc, add-one, drop-cons}
 use Rattle.std.proofs.lemmas.List.{map_push}
 use Rattle.nf_value.specs.Plain.{Plain}
 use Rattle.nf_value.specs.View.{plain_of}
 use Rattle.nf_value.specs.declared.value.Value.{Value}
 use Rattle.nf_value.specs.declared.fault.EvalFault.{EvalFault}
-use Rattle.nf_core.specs.Chain.{Answered, Imaged, images, with_image, after_answer, AreTaken}
+use Rattle.nf_core.specs.Chain.{Answered, Imaged, images, with_image, after_answer}
 
 -- the images so far, and then those of the items that are left
 abbrev pub ahead : List Plain → Imaged → Imaged
@@ -31,8 +31,3 @@ pub imaged_fault : (gives : Plain → Answered Plain) (xs out : List Value) (i :
 imaged_fault gives xs out i x f h e g =
     let rest = images gives (map plain_of (drop (i + 1) xs)) in
     ap (ahead (map plain_of out)) (images_at gives xs i x h e ∙ ap (λ a. after_answer (plain_of x) a rest) g)
-
-pub taken_at : (takes : Plain → Type 0) (xs : List Value) (i : ℕ) (x : Value) → i < length xs → x ≡ get_or xs i x → AreTaken takes (map plain_of xs) → takes (plain_of x)
-taken_at takes [] i x h e t = absurd (omega arith)
-taken_at takes (y ∷ ys) zero x h e t = subst (λ z. takes (plain_of z)) (sym e) t.0
-taken_at takes (y ∷ ys) (suc i) x h e t = taken_at takes ys i x (omega arith) e t.1

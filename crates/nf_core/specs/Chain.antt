@@ -17,11 +17,6 @@ Answers answer (Ok v) = answer ≡ Ok (plain_of v)
 Answers answer (Err refusal.Mem) = Unit {0}
 Answers answer (Err (refusal.Fault f)) = answer ≡ Err f
 
--- each item is one that is answered
-abbrev pub AreTaken : (Plain → Type 0) → List Plain → Type 0
-AreTaken takes [] = Unit {0}
-AreTaken takes (x ∷ xs) = takes x × AreTaken takes xs
-
 abbrev pub Imaged : Type 0
 Imaged = Result (List Plain) (Plain × EvalFault)
 

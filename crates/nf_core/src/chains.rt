@@ -4,7 +4,7 @@ ghost use Rattle.std.specs.Prelude.{◌≡◌, IfErr, List};
 ghost use Rattle.nf_value.specs.Plain.{Plain};
 ghost use Rattle.nf_value.specs.View.{plain_of};
 ghost use Rattle.nf_value.specs.declared.fault.EvalFault.{EvalFault};
-ghost use Rattle.nf_core.specs.Chain.{Answered, Answers, AreTaken, images};
+ghost use Rattle.nf_core.specs.Chain.{Answered, Answers, images};
 ghost use Rattle.nf_core.specs.Outcome.{Chained};
 
 use nf_value::{EvalFault, EvalRefusal, Mem, Vals, Value};
@@ -15,16 +15,16 @@ pub trait Rules {
     /// The answer to an item: its image, or its fault.
     ghost gives: { Self → Plain → Answered Plain };
 
-    /// The items that are answered. No other item may be given.
-    ghost takes: { Self → Plain → Type 0 };
+    /// That they answer so.
+    ghost keeps: { Self → Type 0 };
 
-    /// The image of an item that the rules take.
+    /// The image of an item.
     ///
     /// # Errors
     ///
     /// `Fault` with the item's fault exactly where it has one, but for `Mem`, where there was no memory.
     fn gives(&self, alloc: Global, item: &Value) -> Result<Value, EvalRefusal>
-        requires { takes self.now (plain_of item.now) }
+        requires { keeps self.now }
         ensures { Answers (gives self.now (plain_of item.now)) result };
 }
 
@@ -57,15 +57,14 @@ impl<T: Drop> From<AllocFailed<T>> for ChainFault {
     }
 }
 
-/// The image of each item, in the order of the items (Nextflow reference documentation, "Operators", `map`). The rules
-/// have to take each item.
+/// The image of each item, in the order of the items (Nextflow reference documentation, "Operators", `map`).
 ///
 /// # Errors
 ///
 /// `Item` exactly where some item has a fault, with the first such item of the list and its fault; `Mem` where there
 /// is no memory for an image or for a copy of that item. No image comes with an error.
 pub fn chain<R: Rules>(alloc: Global, items: &Vals, rules: &R) -> Result<Vals, ChainFault>
-    requires { AreTaken (R.takes rules.now) items.now }
+    requires { R.keeps rules.now }
     ensures { Chained (images (R.gives rules.now) items.now) result }
 {
     let mut out = Vec::new(alloc);

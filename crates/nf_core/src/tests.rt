@@ -4,7 +4,6 @@ ghost use Rattle.std.specs.Prelude.{◌≤◌, [], ◌∷◌, Ok, Err, Some, if�
 ghost use Rattle.nf_value.specs.Plain.{list, item, no_items, null};
 ghost use Rattle.nf_value.specs.Truth.{truth_of};
 ghost use Rattle.nf_job.specs.declared.emitted.Outputs.TheVariants.{Emits};
-ghost use Rattle.nf_core.specs.Chain.{AreTaken};
 ghost use Rattle.nf_core.specs.Rules.{rules_by};
 
 use crate::{ChainFault, Rules, Stop, TaskRules, TasksEnd, chain, serial};
@@ -23,7 +22,7 @@ struct Listed {
 impl Rules for Listed {
     ghost gives = { λ r v. if truth_of v then Ok (list (item v no_items)) else Err r.fault };
 
-    ghost takes = { λ r v. Unit {0} };
+    ghost keeps = { λ r. Unit {0} };
 
     fn gives(&self, alloc: Global, item: &Value) -> Result<Value, EvalRefusal> {
         if !truth(item) {
@@ -68,9 +67,7 @@ fn answers_each_item_or_the_first_fault(rt: HostRuntime) -> Result<(), Fail> {
 }
 
 /// The images of some items, or the first faulty one with its fault.
-fn shown(alloc: Global, items: &Vals) -> Result<String, Fail>
-    requires { AreTaken (λ v. Unit {0}) items.now }
-{
+fn shown(alloc: Global, items: &Vals) -> Result<String, Fail> {
     match chain(alloc, items, &LISTED) {
         Ok(images) => {
             let text = text_of(alloc, &Value::List(images))?;
