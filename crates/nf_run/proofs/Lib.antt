@@ -1,3 +1,4 @@
 pub mod Chains
 pub mod Nothing
 pub mod Tasks
+mod Worked

@@ -1,10 +1,9 @@
 -- What a script means under outcomes, with no item in motion.
-use Rattle.std.specs.Prelude.{ℤ, List, [], ◌∷◌, Ok, Err, map}
-use Rattle.nf_value.specs.Plain.{Plain, int, null}
+use Rattle.std.specs.Prelude.{List, [], ◌∷◌, Ok, Err}
+use Rattle.nf_value.specs.Plain.{Plain}
 use Rattle.nf_value.specs.declared.fault.EvalFault.{EvalFault}
 use Rattle.nf_job.specs.declared.fault.TaskFault.{TaskFault}
-use Rattle.nf_eval.specs.Tree.{SumTree}
-use Rattle.nf_eval.specs.Sum.{sum_of}
+use Rattle.nf_eval.specs.Evaluation.{Closing, apply_of}
 use Rattle.nf_process.specs.declared.process.ProcessSpec.{ProcessSpec}
 use Rattle.nf_process.specs.Parts.{parts_of}
 use Rattle.nf_process.specs.Outcome.{outputs_of}
@@ -15,22 +14,13 @@ use Rattle.nf_forms.specs.Form.{Form, chain, tasks}
 
 -- ---- a chain
 
-abbrev pub IsNumber : Plain → Type 0
-IsNumber (int i) = Unit {0}
-IsNumber _ = ⊥
+-- what a closure gives for an item
+abbrev pub answer : Closing → Plain → Answered Plain
+answer c v = apply_of c (v ∷ [])
 
-abbrev int_answer : Answered ℤ → Answered Plain
-int_answer (Ok n) = Ok (int n)
-int_answer (Err f) = Err f
-
--- the sum's value where `it` is the item, a number
-abbrev pub answer : SumTree → Plain → Answered Plain
-answer sum (int i) = int_answer (sum_of sum i)
-answer sum _ = Ok null
-
--- the images of the numbers, or the first that has a fault
-abbrev pub chain_images : List ℤ → SumTree → Imaged
-chain_images ns sum = images (answer sum) (map int ns)
+-- the images of the items, or the first that has a fault
+abbrev pub chain_images : List Plain → Closing → Imaged
+chain_images xs c = images (answer c) xs
 
 -- ---- tasks
 
@@ -59,5 +49,5 @@ tasks_meaning m = record { viewed = m.bag; instances = m.instances; task_faults 
 
 -- the call of a process has its name
 abbrev pub script_meaning : Outcomes → Form → ScriptMeaning
-script_meaning o (chain ns sum) = images_meaning (chain_images ns sum)
+script_meaning o (chain xs c) = images_meaning (chain_images xs c)
 script_meaning o (tasks s xs) = tasks_meaning (meaning (process_rules s) o s.name xs)

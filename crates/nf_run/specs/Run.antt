@@ -28,12 +28,12 @@ use Rattle.nf_run.specs.Meaning.{ScriptMeaning, script_meaning, process_rules}
 
 -- the items that wait at the opening; a chain has no process
 abbrev pub queue_of : Form → List Plain
-queue_of (chain ns sum) = []
+queue_of (chain vs c) = []
 queue_of (tasks s xs) = xs
 
 -- the call of its process
 abbrev pub call_of : Form → List ℕ
-call_of (chain ns sum) = []
+call_of (chain vs c) = []
 call_of (tasks s xs) = s.name
 
 -- no process has a job
@@ -41,7 +41,7 @@ abbrev pub no_process : Rules
 no_process = rules_by (λ inputs n attempt. Err BadStdout) (λ inputs attempt report. Err BadStdout)
 
 abbrev pub rules_of : Form → Rules
-rules_of (chain ns sum) = no_process
+rules_of (chain vs c) = no_process
 rules_of (tasks s xs) = process_rules s
 
 -- each event is legal in the state before it; so the history of a chain is empty

@@ -1,52 +1,44 @@
 //! What answers the items of a chain, and the tasks of a process.
 
-ghost use Rattle.std.specs.Prelude.{◌≡◌, IfOk, map};
-ghost use Rattle.nf_value.specs.Plain.{int};
-ghost use Rattle.nf_eval.specs.View.{view};
-ghost use Rattle.nf_run.specs.Meaning.{answer, IsNumber, process_rules};
+ghost use Rattle.std.specs.Prelude.{◌≡◌, ◌∷◌, [], IfOk};
+ghost use Rattle.nf_value.specs.View.{plain_of};
+ghost use Rattle.nf_eval.specs.Closing.{closing_of};
+ghost use Rattle.nf_run.specs.Meaning.{answer, process_rules};
 
+use nf_builtins::Natives;
 use nf_core::{Rules, TaskRules};
-use nf_eval::{Sum, sum};
+use nf_eval::{Closure, apply};
 use nf_job::{Job, Outputs, Report, TaskRefusal};
 use nf_process::{ProcessSpec, emit_of, laws};
 use nf_value::{EvalRefusal, Mem, Vals, Value};
 use std::alloc::Global;
 
-/// The answers of a sum, where `it` is the item.
+/// The answers of a closure, with the program's functions.
 #[derive(Clone, Copy)]
-pub struct SumRules<'a> {
-    pub sum: &'a Sum,
+pub struct ClosureRules<'a, N> {
+    /// The closure.
+    pub closure: &'a Closure,
+    /// The functions.
+    pub natives: &'a N,
 }
 
-impl Rules for SumRules<'_> {
-    ghost gives = { λ s. answer (view s.sum.now) };
+impl<N: Natives> Rules for ClosureRules<'_, N> {
+    ghost gives = { λ r. answer (closing_of r.closure.now (N.titles r.natives.now) (N.answer r.natives.now)) };
 
-    ghost takes = { λ s item. IsNumber item };
+    ghost keeps = { λ r. N.keeps r.natives.now };
 
-    fn gives(&self, _alloc: Global, item: &Value) -> Result<Value, EvalRefusal> {
-        let Value::Int(number) = item else {
-            unreachable!()
-        };
-        match sum(self.sum, *number) {
-            Ok(value) => Ok(Value::Int(value)),
-            Err(fault) => Err(EvalRefusal::Fault(fault)),
-        }
+    fn gives(&self, alloc: Global, item: &Value) -> Result<Value, EvalRefusal> {
+        let args = one_argument(alloc, item)?;
+        apply(alloc, self.closure, &args, self.natives)
     }
 }
 
-/// The values of numbers.
-///
-/// # Errors
-///
-/// `Mem` where there is no memory for them.
-pub fn values(alloc: Global, numbers: &[i64]) -> Result<Vals, Mem>
-    ensures { IfOk result (λ v. v ≡ map int numbers.now) }
+/// The arguments of a closure that is given one item.
+fn one_argument(alloc: Global, item: &Value) -> Result<Vals, Mem>
+    ensures { IfOk result (λ v. v ≡ plain_of item.now ∷ []) }
 {
-    let mut values = Vec::with_capacity(alloc, numbers.len())?;
-    for number in numbers {
-        values.push(Value::Int(*number))?;
-    }
-    Ok(Vals::of(values))
+    let item = item.copy()?;
+    Ok(Vals::of(vec![in alloc; item]?))
 }
 
 /// The jobs of a process's instances, and what their reports amount to.

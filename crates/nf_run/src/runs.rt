@@ -1,19 +1,17 @@
 //! The run of a script.
 
 ghost use Rattle.std.specs.Prelude.{◌≡◌, ℕ, ◌+◌, ◌<◌, ◌≤◌, ◌^◌, [], true, length, map, sum_by, All, IfErr, Ok};
-ghost use Rattle.nf_eval.specs.View.{view};
+ghost use Rattle.nf_eval.specs.Closing.{closing_of};
 ghost use Rattle.nf_forms.specs.Built.{most_items};
 ghost use Rattle.nf_forms.specs.Form.{chain, tasks};
 ghost use Rattle.nf_forms.specs.View.{view_plan};
-ghost use Rattle.nf_core.specs.Chain.{Answered};
-ghost use Rattle.nf_core.specs.Outcome.{Chained};
 ghost use Rattle.nf_core.specs.Machine.{starts as starts_of};
-ghost use Rattle.nf_run.specs.Meaning.{chain_images};
 ghost use Rattle.nf_run.specs.Run.{AreBooked, fault_of_chain, IsFaultBy, IsHistoryOf, NoneFell, OneRose, OnLane, RunGives};
 
-use crate::rules::{ProcessRules, SumRules, values};
+use crate::rules::{ClosureRules, ProcessRules};
+use nf_builtins::Natives;
 use nf_core::{ChainFault, Event, Stop, TasksEnd, serial};
-use nf_eval::Sum;
+use nf_eval::Closure;
 use nf_forms::Plan;
 use nf_job::TaskFault;
 use nf_lane::{Kept, Lane};
@@ -55,16 +53,22 @@ pub struct Ran<L: Lane> {
 
 /// Runs a plan. Its tasks run on the first of the lanes, one after another in the order of the items; after a failing task, or
 /// where the lane failed, no further item is taken (own).
-pub fn run_plan<L: Lane>(alloc: Global, plan: &Plan, lanes: &mut Vec<L>) -> Ran<L>
+pub fn run_plan<N: Natives, L: Lane>(
+    alloc: Global,
+    plan: &Plan,
+    natives: &N,
+    lanes: &mut Vec<L>,
+) -> Ran<L>
+    requires natives { N.keeps natives.now }
     requires some { 1 ≤ length lanes.old.items }
     requires room { All (λ l. L.runs l < 2 ^ 62) lanes.old.items }
     // Each event is legal in the state before it.
-    ensures lawful { IsHistoryOf (view_plan plan.now) result.history.items }
+    ensures lawful { IsHistoryOf (view_plan (N.titles natives.now) (N.answer natives.now) plan.now) result.history.items }
     // The view got what the script means under the outcomes of the history; or an item or a task has this fault in that
     // meaning, or a lane failed; or memory ran out.
-    ensures gives { RunGives (view_plan plan.now) result.history.items result.outcome }
+    ensures gives { RunGives (view_plan (N.titles natives.now) (N.answer natives.now) plan.now) result.history.items result.outcome }
     // A run of a lane for each Start, and for each Finish a job of its own that was run.
-    ensures booked { AreBooked L.Done.genuine L.Done.job L.Done.told L.Done.number L.runs L.world (view_plan plan.now) result.history.items result.kept.dones.items lanes.old.items lanes.new.items }
+    ensures booked { AreBooked L.Done.genuine L.Done.job L.Done.told L.Done.number L.runs L.world (view_plan (N.titles natives.now) (N.answer natives.now) plan.now) result.history.items result.kept.dones.items lanes.old.items lanes.new.items }
     ensures runs { sum_by L.runs lanes.new.items ≡ sum_by L.runs lanes.old.items + starts_of result.history.items }
     ensures worlds { map L.world lanes.new.items ≡ map L.world lanes.old.items }
     // Where a lane stopped the run, its count rose.
@@ -72,16 +76,22 @@ pub fn run_plan<L: Lane>(alloc: Global, plan: &Plan, lanes: &mut Vec<L>) -> Ran<
     ensures later { NoneFell L.faults lanes.old.items lanes.new.items }
 {
     match plan {
-        Plan::Chain(numbers, sum) => run_chain(alloc, numbers, sum),
+        Plan::Chain(items, closure) => run_chain(alloc, items.list(), closure, natives),
         Plan::Tasks(spec, items) => run_tasks(alloc, spec, items.list(), lanes),
     }
 }
 
-/// The images of a chain's numbers by its sum. It has no tasks.
-fn run_chain<L: Lane>(alloc: Global, numbers: &[i64], sum: &Sum) -> Ran<L>
+/// The images of a chain's items by its closure. It has no tasks.
+fn run_chain<N: Natives, L: Lane>(
+    alloc: Global,
+    items: &Vals,
+    closure: &Closure,
+    natives: &N,
+) -> Ran<L>
+    requires { N.keeps natives.now }
     ensures history { result.history.items ≡ [] }
     ensures kept { result.kept.dones.items ≡ [] }
-    ensures gives { RunGives (chain numbers.now (view sum.now)) [] result.outcome }
+    ensures gives { RunGives (chain items.now (closing_of closure.now (N.titles natives.now) (N.answer natives.now))) [] result.outcome }
     ensures no_lane { IfErr result.outcome (λ e. OnLane e ⊥) }
 {
     Ran {
@@ -89,27 +99,25 @@ fn run_chain<L: Lane>(alloc: Global, numbers: &[i64], sum: &Sum) -> Ran<L>
         kept: Kept {
             dones: Vec::new(alloc),
         },
-        outcome: chain_outcome(alloc, numbers, sum),
+        outcome: chain_outcome(alloc, items, closure, natives),
     }
 }
 
 /// What the view of a chain gets.
-fn chain_outcome(alloc: Global, numbers: &[i64], sum: &Sum) -> Result<Vals, RunFault>
-    ensures gives { RunGives (chain numbers.now (view sum.now)) [] result }
+fn chain_outcome<N: Natives>(
+    alloc: Global,
+    items: &Vals,
+    closure: &Closure,
+    natives: &N,
+) -> Result<Vals, RunFault>
+    requires { N.keeps natives.now }
+    ensures gives { RunGives (chain items.now (closing_of closure.now (N.titles natives.now) (N.answer natives.now))) [] result }
     ensures no_lane { IfErr result (λ e. OnLane e ⊥) }
 {
-    match images(alloc, numbers, sum) {
-        Ok(items) => Ok(items),
+    match nf_core::chain(alloc, items, &ClosureRules { closure, natives }) {
+        Ok(images) => Ok(images),
         Err(fault) => Err(item_fault(fault)),
     }
-}
-
-/// The images of a chain's numbers by its sum.
-fn images(alloc: Global, numbers: &[i64], sum: &Sum) -> Result<Vals, ChainFault>
-    ensures { Chained (chain_images numbers.now (view sum.now)) result }
-{
-    let items = values(alloc, numbers)?;
-    nf_core::chain(alloc, &items, &SumRules { sum })
 }
 
 fn item_fault(fault: ChainFault) -> RunFault

@@ -1,9 +1,11 @@
 //! The run of a process that is built by hand, over a table.
 
 ghost use Rattle.std.specs.Prelude.{◌≡◌, ◌<◌, ◌≤◌, ◌^◌, All, IfOk, length};
+ghost use Rattle.nf_builtins.specs.Natives.{AnswersNative, program_answer};
 ghost use Rattle.nf_lane.specs.TableLane.{runs_of};
 
 use crate::{Ran, RunFault, laws, run_plan, starts};
+use nf_builtins::{CallFault, ProgramBook, StoredNatives, program_names, program_native};
 use nf_forms::{Items, Plan};
 use nf_job::{Captured, Found, Report};
 use nf_lane::{Table, TableLane};
@@ -83,6 +85,21 @@ fn shown(alloc: Global, outcome: Result<Vals, RunFault>) -> Result<String, Fail>
     }
 }
 
+/// Runs a plan with the program's functions.
+fn ran(alloc: Global, plan: &Plan, lanes: &mut Vec<TableLane>) -> Result<Ran<TableLane>, Mem>
+    requires some { 1 ≤ length lanes.old.items }
+    requires room { All (λ l. runs_of l < 2 ^ 62) lanes.old.items }
+{
+    let natives = StoredNatives::new(
+        program_names(alloc)?,
+        ProgramBook,
+        |alloc: Global, id: u32, args: &Vals| -> Result<Value, CallFault>
+            ensures { AnswersNative (program_answer id args.entry.now) result }
+        { program_native(alloc, id, args) },
+    );
+    Ok(run_plan(alloc, plan, &natives, lanes))
+}
+
 #[test]
 fn runs_up_to_a_failing_task(rt: HostRuntime) -> Result<(), Fail> {
     let alloc = rt.alloc();
@@ -95,7 +112,7 @@ fn runs_up_to_a_failing_task(rt: HostRuntime) -> Result<(), Fail> {
         history,
         kept,
         outcome,
-    } = run_plan(alloc, &plan, &mut lanes);
+    } = ran(alloc, &plan, &mut lanes)?;
     assert_eq!(rt; shown(alloc, outcome)?.as_str(), "P [b] 0: Exit 127");
     assert_eq!(rt; history.len(), 6);
     assert_eq!(rt; starts(&history), 2);
