@@ -7,6 +7,9 @@ use Rattle.nf_host.specs.Files.{Files}
 use Rattle.nf_job.specs.declared.report.Report.{Report}
 use Rattle.nf_lane.specs.World.{World}
 use Rattle.nf_core.specs.declared.event.Event.{Event}
+use Rattle.nf_value.specs.Plain.{Plain}
+use Rattle.nf_calls.specs.Scope.{Env}
+use Rattle.nf_forms.specs.Values.{OverBuilt, bare}
 use Rattle.nf_forms.specs.Form.{Form}
 use Rattle.nf_run.specs.Run.{state_after}
 use Rattle.nf_cli.specs.declared.ends.End.{End}
@@ -17,6 +20,7 @@ use Rattle.nf_cli.specs.Outcome.{Outcome, runs, formats, misused, absent, unlexe
 use Rattle.nf_cli.specs.Means.{Means}
 use Rattle.nf_cli.specs.Due.{RunEnds, MayEnd, Ended, as_due, host_failed, no_memory, StopEnds, EndsByStop, OnHostFault, OnLaneFault, WroteOutput, WroteDue, WroteOutcome, OnOutput, OutputStands, Tells, EndsOver}
 use Rattle.nf_cli.specs.Work.{WorkGives, HasWorked, IsDue, IsRefusal, IsWritten, IsKept, EndsAs, output_text}
+use Rattle.nf_cli.proofs.Patterned.{over_same}
 
 -- the end stays, or it is Mem
 same_or_memory : (P : End → Type 0) → P end.Mem → (before after : End) → P before → IsKept before after → P after
@@ -60,9 +64,9 @@ due_may (unlexed f) h o e due k = absurd due
 due_may (unparsed f) h o e due k = absurd due
 due_may (unbuilt p) h o e due k = absurd due
 
-ended : (words : List (List ℕ)) (files : Files) (h : List Event) (r : Result Output End) (e : End) → WorkGives words files h r → EndsAs r e → Ended words files h e
-ended words files h (Ok o) e g k = as_due g.0 g.1 (due_may g.0 h o e g.2 k)
-ended words files h (Err before) e g k = same_or_memory (Ended words files h) no_memory before e g k
+ended : (env : Env) (words : List (List ℕ)) (files : Files) (h : List Event) (r : Result Output End) (e : End) → WorkGives env words files h r → EndsAs r e → Ended env words files h e
+ended env words files h (Ok o) e g k = as_due g.0 g.1 (due_may g.0 h o e g.2 k)
+ended env words files h (Err before) e g k = same_or_memory (Ended env words files h) no_memory before e g k
 
 -- ---- the outcome is the end
 
@@ -77,19 +81,19 @@ memory_may (unparsed due) h = tt
 memory_may (unbuilt due) h = tt
 
 -- the host ends a call whose words are right, before anything is run
-host_may : (words : List (List ℕ)) (files : Files) (h : List Event) (command : Command) → command_of words ≡ Ok command → h ≡ [] → (o : Outcome) → Means words files o → MayEnd o h end.HostFault
-host_may words files h command right nothing (runs form) means = nothing
-host_may words files h command right nothing (formats tree) means = tt
-host_may words files h command right nothing (misused due) means = absurd (let e : ◌≡◌ {A = Result Command UsageFault} (Ok command) (Err due) = sym right ∙ means in cc)
-host_may words files h command right nothing absent means = tt
-host_may words files h command right nothing (unlexed due) means = tt
-host_may words files h command right nothing (unparsed due) means = tt
-host_may words files h command right nothing (unbuilt due) means = tt
+host_may : (env : Env) (words : List (List ℕ)) (files : Files) (h : List Event) (command : Command) → command_of words ≡ Ok command → h ≡ [] → (o : Outcome) → Means env words files o → MayEnd o h end.HostFault
+host_may env words files h command right nothing (runs form) means = nothing
+host_may env words files h command right nothing (formats tree) means = tt
+host_may env words files h command right nothing (misused due) means = absurd (let e : ◌≡◌ {A = Result Command UsageFault} (Ok command) (Err due) = sym right ∙ means in cc)
+host_may env words files h command right nothing absent means = tt
+host_may env words files h command right nothing (unlexed due) means = tt
+host_may env words files h command right nothing (unparsed due) means = tt
+host_may env words files h command right nothing (unbuilt due) means = tt
 
-complete : (words : List (List ℕ)) (files : Files) (h : List Event) (e : End) → Ended words files h e → (o : Outcome) → Means words files o → MayEnd o h e
-complete words files h e (as_due due is may) o means = subst (λ o. MayEnd o h e) (sym (is.only o means)) may
-complete words files h e (host_failed command right nothing) o means = host_may words files h command right nothing o means
-complete words files h e no_memory o means = memory_may o h
+complete : (env : Env) (words : List (List ℕ)) (files : Files) (h : List Event) (e : End) → Ended env words files h e → (o : Outcome) → Means env words files o → MayEnd o h e
+complete env words files h e (as_due due is may) o means = subst (λ o. MayEnd o h e) (sym (is.only o means)) may
+complete env words files h e (host_failed command right nothing) o means = host_may env words files h command right nothing o means
+complete env words files h e no_memory o means = memory_may o h
 
 -- ---- a stop is the end
 
@@ -169,31 +173,37 @@ due_written (unlexed f) h o e before after due w = absurd due
 due_written (unparsed f) h o e before after due w = absurd due
 due_written (unbuilt p) h o e before after due w = absurd due
 
-output : (words : List (List ℕ)) (files : Files) (h : List Event) (old new : Option (List ℕ)) (r : Result Output End) (e : End) → WorkGives words files h r → IfErr r IsRefusal → EndsAs r e → Took old new r e → OutputStands words files h old new e
-output words files h None new r e g early k w = tt
-output words files h (Some before) None r e g early k w = tt
-output words files h (Some before) (Some after) (Ok o) e g early k w =
-    on_output e (WroteOutcome words files h e before after) (record { outcome = g.0; of_words = g.1; output = due_written g.0 h o e before after g.2 w })
-output words files h (Some before) (Some after) (Err first) e g early k w =
-    same_or_memory (λ last. OnOutput last (WroteOutcome words files h e before after)) tt first e (no_output first (WroteOutcome words files h e before after) early) k
+output : (env : Env) (words : List (List ℕ)) (files : Files) (h : List Event) (old new : Option (List ℕ)) (r : Result Output End) (e : End) → WorkGives env words files h r → IfErr r IsRefusal → EndsAs r e → Took old new r e → OutputStands env words files h old new e
+output env words files h None new r e g early k w = tt
+output env words files h (Some before) None r e g early k w = tt
+output env words files h (Some before) (Some after) (Ok o) e g early k w =
+    on_output e (WroteOutcome env words files h e before after) (record { outcome = g.0; of_words = g.1; output = due_written g.0 h o e before after g.2 w })
+output env words files h (Some before) (Some after) (Err first) e g early k w =
+    same_or_memory (λ last. OnOutput last (WroteOutcome env words files h e before after)) tt first e (no_output first (WroteOutcome env words files h e before after) early) k
 
 -- ---- the whole call
 
-pub over : {L D : Type 0} (Genuine : D → Type 0) (job_of : D → List ℕ) (report_by : D → Report) (number : D → ℕ) (run_count : L → ℕ) (world : L → Option World)
-    (told : Option Files) (words : List (List ℕ)) (h : List Event) (kept : List D) (lanes_old lanes_new : List L) (old new : Option (List ℕ)) (r : Result Output End) (e : End)
-    → ((f : Files) × Tells told f × HasWorked Genuine job_of report_by number run_count world words f h kept lanes_old lanes_new r) → IfErr r IsRefusal → EndsAs r e → Took old new r e
-    → (f : Files) × Tells told f × EndsOver Genuine job_of report_by number run_count world words f h kept lanes_old lanes_new old new e
-over Genuine job_of report_by number run_count world told words h kept lanes_old lanes_new old new r e worked early k w =
-    let f = worked.0 in
-    let has = worked.2 in
-    let end_is = ended words f h r e has.gives k in (
-      f,
-      worked.1,
+module _ {L D : Type 0} (Genuine : D → Type 0) (job_of : D → List ℕ) (report_by : D → Report) (number : D → ℕ) (run_count : L → ℕ) (world : L → Option World) where
+  all_over : (env : Env) (words : List (List ℕ)) (f : Files) (h : List Event) (kept : List D) (lanes_old lanes_new : List L) (old new : Option (List ℕ)) (r : Result Output End) (e : End)
+      → HasWorked env Genuine job_of report_by number run_count world words f h kept lanes_old lanes_new r → IfErr r IsRefusal → EndsAs r e → Took old new r e
+      → EndsOver env Genuine job_of report_by number run_count world words f h kept lanes_old lanes_new old new e
+  all_over env words f h kept lanes_old lanes_new old new r e has early k w =
+      let end_is = ended env words f h r e has.gives k in
       record {
         ended = end_is;
-        complete = complete words f h e end_is;
+        complete = complete env words f h e end_is;
         ran = has.ran;
-        stopped = λ o means. stopped o h e (complete words f h e end_is o means);
-        output = output words f h old new r e has.gives early k w;
-      },
-    )
+        stopped = λ o means. stopped o h e (complete env words f h e end_is o means);
+        output = output env words f h old new r e has.gives early k w;
+      }
+
+  pub over : (titles : List (List ℕ)) (answer : ℕ → List Plain → Option Plain) (told : Option Files) (words : List (List ℕ)) (h : List Event) (kept : List D) (lanes_old lanes_new : List L) (old new : Option (List ℕ)) (r : Result Output End) (e : End)
+      → ((f : Files) × Tells told f × OverBuilt titles answer (λ env. HasWorked env Genuine job_of report_by number run_count world words f h kept lanes_old lanes_new r)) → IfErr r IsRefusal → EndsAs r e → Took old new r e
+      → (f : Files) × Tells told f × OverBuilt titles answer (λ env. EndsOver env Genuine job_of report_by number run_count world words f h kept lanes_old lanes_new old new e)
+  over titles answer told words h kept lanes_old lanes_new old new r e worked early k w =
+      let f = worked.0 in (
+        f,
+        worked.1,
+        over_same titles answer (λ env. HasWorked env Genuine job_of report_by number run_count world words f h kept lanes_old lanes_new r) (λ env. EndsOver env Genuine job_of report_by number run_count world words f h kept lanes_old lanes_new old new e)
+            (λ ps has. all_over (bare titles answer ps) words f h kept lanes_old lanes_new old new r e has early k w) worked.2,
+      )

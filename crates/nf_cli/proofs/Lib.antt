@@ -1,3 +1,4 @@
+pub mod Patterned
 pub mod Writing
 pub mod Outcomes
 pub mod Runs

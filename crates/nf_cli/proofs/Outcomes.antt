@@ -1,5 +1,5 @@
 -- From a text's tree to what the text comes to.
-use Rattle.std.proofs.Common.{◌≡◌, ℕ, ◌<◌, List, length, Result, Ok, Err, refl, sym, ap, ◌∙◌, subst, arith}
+use Rattle.std.proofs.Common.{◌≡◌, ℕ, ◌<◌, List, length, Option, Result, Ok, Err, refl, sym, ap, ◌∙◌, subst, arith}
 use Rattle.nf_value.specs.declared.place.Place.{Place}
 use Rattle.nf_ast.specs.Tree.{Tree}
 use Rattle.nf_ast.specs.declared.tops.Script.{Script}
@@ -17,9 +17,13 @@ use Rattle.nf_forms.specs.declared.fault.FormFault.{FormFault}
 use Rattle.nf_forms.specs.declared.fault.FormFault.TheVariants as form_fault
 use Rattle.nf_forms.specs.declared.plan.Plan.{Plan}
 use Rattle.nf_words.specs.declared.command.Command.{Command}
-use Rattle.nf_words.specs.declared.command.Command.TheVariants.{Run}
+use Rattle.nf_words.specs.declared.command.Command.TheVariants.{Run, Fmt}
 use Rattle.nf_words.specs.declared.command.RunWords.{RunWords}
+use Rattle.nf_words.specs.declared.command.FmtWords.{FmtWords}
 use Rattle.nf_forms.specs.Built.{Built, Builds}
+use Rattle.nf_value.specs.Plain.{Plain}
+use Rattle.nf_calls.specs.Scope.{Env}
+use Rattle.nf_forms.specs.Values.{OverBuilt, bare}
 use Rattle.nf_forms.specs.Form.{Form, form_of}
 use Rattle.nf_forms.specs.View.{view_plan}
 use Rattle.nf_cli.specs.declared.ends.End.{End}
@@ -34,54 +38,7 @@ use Rattle.nf_cli.specs.Outcome.{Outcome, runs, formats, misused, absent, unlexe
 use Rattle.nf_cli.specs.Means.{TreeMeans, TextMeans, IsTextOutcome, outcome_of_form, outcome_of_tree}
 use Rattle.nf_cli.specs.Reads.{ReadsScript, IsOnlyScript, IsOnlyBreak, IsOnlyFault, BreaksRule, SpellsNone, BreaksIn, Plans, FormRefused, Asks, TreeRefused, outcome_of, end_of_script, end_of_form}
 use Rattle.nf_cli.specs.Work.{TextRefused, TextGives}
-
--- a text with one tree comes to what the tree comes to
-module _ (command : Command) (text : List ℕ) (tree : Tree) (one : IsOnlyScript text tree) where
-  same : (outcome other : Outcome) → outcome_of_tree command tree ≡ outcome → TreeMeans command text other → other ≡ outcome
-  same outcome other is h = sym h.comes ∙ ap (outcome_of_tree command) (one.only h.tree h.script) ∙ is
-
-  only : (outcome : Outcome) → outcome_of_tree command tree ≡ outcome → (other : Outcome) → TextMeans command text other → other ≡ outcome
-  only outcome is (runs form) h = same outcome (runs form) is h
-  only outcome is (formats t) h = same outcome (formats t) is h
-  only outcome is (unbuilt p) h = same outcome (unbuilt p) is h
-  only outcome is (misused f) h = absurd h
-  only outcome is absent h = absurd h
-  only outcome is (unlexed f) h = absurd (one.lexed f h)
-  only outcome is (unparsed f) h = absurd (one.whole f h)
-
-  spelled : (outcome : Outcome) → outcome_of_tree command tree ≡ outcome → TreeMeans command text outcome
-  spelled outcome is = record { tree = tree; script = one.is; comes = is }
-
-  asked : (r : Request) → outcome_of_tree command tree ≡ outcome_of r → IsTextOutcome command text (outcome_of r)
-  asked (request.Run plan) is = record { means = spelled (runs (view_plan plan)) is; only = only (runs (view_plan plan)) is }
-  asked (request.Format s) is = record { means = spelled (formats (view_script s)) is; only = only (formats (view_script s)) is }
-
-  formless : (place : Place) → outcome_of_tree command tree ≡ unbuilt place → IsTextOutcome command text (unbuilt place)
-  formless place is = record { means = spelled (unbuilt place) is; only = only (unbuilt place) is }
-
-broken_text : (command : Command) (text : List ℕ) (fault : ParseFault) → IsOnlyBreak text fault → IsTextOutcome command text (unparsed fault)
-broken_text command text fault one = record { means = one.is; only = only }
-  where
-    only : (other : Outcome) → TextMeans command text other → other ≡ unparsed fault
-    only (runs g) h = absurd (one.none h.tree h.script)
-    only (formats t) h = absurd (one.none h.tree h.script)
-    only (misused f) h = absurd h
-    only absent h = absurd h
-    only (unlexed f) h = absurd (one.lexed f h)
-    only (unparsed f) h = ap unparsed (one.only f h)
-    only (unbuilt p) h = absurd (one.none h.tree h.script)
-
-pub unlexed_text : (command : Command) (text : List ℕ) (fault : LexFault) → IsOnlyFault text fault → IsTextOutcome command text (unlexed fault)
-unlexed_text command text fault one = record { means = one.is; only = only }
-  where
-    only : (other : Outcome) → TextMeans command text other → other ≡ unlexed fault
-    only (runs g) h = absurd (one.none h.script.tokens h.script.tokens_of)
-    only (formats t) h = absurd (one.none h.script.tokens h.script.tokens_of)
-    only (misused f) h = absurd h
-    only absent h = absurd h
-    only (unlexed f) h = ap unlexed (one.only f h)
-    only (unparsed f) h = absurd (one.none h.tokens h.tokens_of)
-    only (unbuilt p) h = absurd (one.none h.script.tokens h.script.tokens_of)
+use Rattle.nf_cli.proofs.Patterned.{over_none, over_same}
 
 -- a text that is too long breaks no other rule
 only_long : {text : List ℕ} → most_bytes < length text → {f : LexFault} → Breaks text f → f ≡ ScriptTooLong
@@ -95,75 +52,152 @@ too_long_only text h = record {
   none = λ tokens k. omega (arith, k.within);
 }
 
--- ---- what a function answers
+module _ (env : Env) where
+  -- a text with one tree comes to what the tree comes to
+  module _ (command : Command) (text : List ℕ) (tree : Tree) (one : IsOnlyScript text tree) where
+    same : (outcome other : Outcome) → outcome_of_tree env command tree ≡ outcome → TreeMeans env command text other → other ≡ outcome
+    same outcome other is h = sym h.comes ∙ ap (outcome_of_tree env command) (one.only h.tree h.script) ∙ is
 
-module _ (command : Command) (text : List ℕ) where
-  lex_refused : (fault : LexFault) → BreaksRule text fault → TextRefused command text (end_of_lex fault)
-  lex_refused (BadByte place) h = unlexed_text command text (BadByte place) h
-  lex_refused (OpenString place) h = unlexed_text command text (OpenString place) h
-  lex_refused (OpenComment place) h = unlexed_text command text (OpenComment place) h
-  lex_refused (BadEscape place) h = unlexed_text command text (BadEscape place) h
-  lex_refused (BigNumber place) h = unlexed_text command text (BigNumber place) h
-  lex_refused ScriptTooLong h = unlexed_text command text ScriptTooLong h
-  lex_refused lex.Mem h = tt
+    only : (outcome : Outcome) → outcome_of_tree env command tree ≡ outcome → (other : Outcome) → TextMeans env command text other → other ≡ outcome
+    only outcome is (runs form) h = same outcome (runs form) is h
+    only outcome is (formats t) h = same outcome (formats t) is h
+    only outcome is (unbuilt p) h = same outcome (unbuilt p) is h
+    only outcome is (misused f) h = absurd h
+    only outcome is absent h = absurd h
+    only outcome is (unlexed f) h = absurd (one.lexed f h)
+    only outcome is (unparsed f) h = absurd (one.whole f h)
 
-  parse_refused : (fault : ParseFault) → SpellsNone text fault → TextRefused command text (end_of_parse fault)
-  parse_refused (parse.Unexpected place) h = broken_text command text (parse.Unexpected place) h
-  parse_refused (parse.TooDeep place) h = broken_text command text (parse.TooDeep place) h
-  parse_refused parse.Mem h = tt
+    spelled : (outcome : Outcome) → outcome_of_tree env command tree ≡ outcome → TreeMeans env command text outcome
+    spelled outcome is = record { tree = tree; script = one.is; comes = is }
 
-  script_refused : (fault : ScriptFault) → BreaksIn text fault → TextRefused command text (end_of_script fault)
-  script_refused (Lex fault) h = lex_refused fault h
-  script_refused (Parse fault) h = parse_refused fault h
+    asked : (r : Request) → outcome_of_tree env command tree ≡ outcome_of env.titles env.answer r → IsTextOutcome env command text (outcome_of env.titles env.answer r)
+    asked (request.Run plan) is = record { means = spelled (runs (view_plan env.titles env.answer plan)) is; only = only (runs (view_plan env.titles env.answer plan)) is }
+    asked (request.Format s) is = record { means = spelled (formats (view_script s)) is; only = only (formats (view_script s)) is }
 
-  pub fault_refused : (fault : ScriptFault) (e : End) → BreaksIn text fault → e ≡ end_of_script fault → TextRefused command text e
-  fault_refused fault e h is = subst (TextRefused command text) (sym is) (script_refused fault h)
+    formless : (place : Place) → outcome_of_tree env command tree ≡ unbuilt place → IsTextOutcome env command text (unbuilt place)
+    formless place is = record { means = spelled (unbuilt place) is; only = only (unbuilt place) is }
 
--- ---- what a command asks of a text's tree
+  broken_text : (command : Command) (text : List ℕ) (fault : ParseFault) → IsOnlyBreak text fault → IsTextOutcome env command text (unparsed fault)
+  broken_text command text fault one = record { means = one.is; only = only }
+    where
+      only : (other : Outcome) → TextMeans env command text other → other ≡ unparsed fault
+      only (runs g) h = absurd (one.none h.tree h.script)
+      only (formats t) h = absurd (one.none h.tree h.script)
+      only (misused f) h = absurd h
+      only absent h = absurd h
+      only (unlexed f) h = absurd (one.lexed f h)
+      only (unparsed f) h = ap unparsed (one.only f h)
+      only (unbuilt p) h = absurd (one.none h.tree h.script)
 
-tree_refused : (command : Command) (text : List ℕ) (tree : Tree) → IsOnlyScript text tree → (e : End) → TreeRefused command tree e → TextRefused command text e
-tree_refused command text tree one end.Ok h = absurd h
-tree_refused command text tree one (end.TaskFailed p i n f) h = absurd h
-tree_refused command text tree one (end.ItemFault p c) h = absurd h
-tree_refused command text tree one (end.Usage f) h = absurd h
-tree_refused command text tree one end.NoScript h = absurd h
-tree_refused command text tree one (end.Lex f) h = absurd h
-tree_refused command text tree one (end.Parse f) h = absurd h
-tree_refused command text tree one (end.Unbuilt p) h = formless command text tree one p h
-tree_refused command text tree one end.HostFault h = absurd h
-tree_refused command text tree one end.LaneFault h = absurd h
-tree_refused command text tree one end.SinkFault h = absurd h
-tree_refused command text tree one end.Mem h = tt
+  pub unlexed_text : (command : Command) (text : List ℕ) (fault : LexFault) → IsOnlyFault text fault → IsTextOutcome env command text (unlexed fault)
+  unlexed_text command text fault one = record { means = one.is; only = only }
+    where
+      only : (other : Outcome) → TextMeans env command text other → other ≡ unlexed fault
+      only (runs g) h = absurd (one.none h.script.tokens h.script.tokens_of)
+      only (formats t) h = absurd (one.none h.script.tokens h.script.tokens_of)
+      only (misused f) h = absurd h
+      only absent h = absurd h
+      only (unlexed f) h = ap unlexed (one.only f h)
+      only (unparsed f) h = absurd (one.none h.tokens h.tokens_of)
+      only (unbuilt p) h = absurd (one.none h.script.tokens h.script.tokens_of)
 
-pub request_given : (command : Command) (text : List ℕ) (s : Script) (r : Result Request End) → IsOnlyScript text (view_script s) → Asks command (view_script s) r → TextGives command text r
-request_given command text s (Ok r) one h = asked command text (view_script s) one r h
-request_given command text s (Err e) one h = tree_refused command text (view_script s) one e h
+  -- ---- what a function answers
 
--- a tree that is run asks for its plan
-pub plan_asked : (words : RunWords) (tree : Tree) (plan : Plan) → form_of tree ≡ Ok (view_plan plan) → Asks (Run words) tree (Ok (request.Run plan))
-plan_asked words tree plan h = ap outcome_of_form h
+  module _ (command : Command) (text : List ℕ) where
+    lex_refused : (fault : LexFault) → BreaksRule text fault → TextRefused env command text (end_of_lex fault)
+    lex_refused (BadByte place) h = unlexed_text command text (BadByte place) h
+    lex_refused (OpenString place) h = unlexed_text command text (OpenString place) h
+    lex_refused (OpenComment place) h = unlexed_text command text (OpenComment place) h
+    lex_refused (BadEscape place) h = unlexed_text command text (BadEscape place) h
+    lex_refused (BigNumber place) h = unlexed_text command text (BigNumber place) h
+    lex_refused ScriptTooLong h = unlexed_text command text ScriptTooLong h
+    lex_refused lex.Mem h = tt
 
-pub plan_refused : (words : RunWords) (tree : Tree) (e : End) → FormRefused (form_of tree) e → Asks (Run words) tree (Err e)
-plan_refused words tree end.Ok h = absurd h
-plan_refused words tree (end.TaskFailed p i n f) h = absurd h
-plan_refused words tree (end.ItemFault p c) h = absurd h
-plan_refused words tree (end.Usage f) h = absurd h
-plan_refused words tree end.NoScript h = absurd h
-plan_refused words tree (end.Lex f) h = absurd h
-plan_refused words tree (end.Parse f) h = absurd h
-plan_refused words tree (end.Unbuilt p) h = ap outcome_of_form h
-plan_refused words tree end.HostFault h = absurd h
-plan_refused words tree end.LaneFault h = absurd h
-plan_refused words tree end.SinkFault h = absurd h
-plan_refused words tree end.Mem h = tt
+    parse_refused : (fault : ParseFault) → SpellsNone text fault → TextRefused env command text (end_of_parse fault)
+    parse_refused (parse.Unexpected place) h = broken_text command text (parse.Unexpected place) h
+    parse_refused (parse.TooDeep place) h = broken_text command text (parse.TooDeep place) h
+    parse_refused parse.Mem h = tt
 
--- want of memory, or the place
-form_refused : (due : Built Form) (fault : FormFault) → Builds view_plan due (Err fault) → FormRefused due (end_of_form fault)
-form_refused due (form_fault.Unbuilt p) h = h
-form_refused due form_fault.Mem h = tt
+    script_refused : (fault : ScriptFault) → BreaksIn text fault → TextRefused env command text (end_of_script fault)
+    script_refused (Lex fault) h = lex_refused fault h
+    script_refused (Parse fault) h = parse_refused fault h
 
-pub form_ends : (due : Built Form) (fault : FormFault) (e : End) → Builds view_plan due (Err fault) → e ≡ end_of_form fault → Plans due (Err e)
-form_ends due fault e h is = subst (FormRefused due) (sym is) (form_refused due fault h)
+    pub fault_refused : (fault : ScriptFault) (e : End) → BreaksIn text fault → e ≡ end_of_script fault → TextRefused env command text e
+    fault_refused fault e h is = subst (TextRefused env command text) (sym is) (script_refused fault h)
+
+  -- ---- what a command asks of a text's tree
+
+  tree_refused : (command : Command) (text : List ℕ) (tree : Tree) → IsOnlyScript text tree → (e : End) → TreeRefused env command tree e → TextRefused env command text e
+  tree_refused command text tree one end.Ok h = absurd h
+  tree_refused command text tree one (end.TaskFailed p i n f) h = absurd h
+  tree_refused command text tree one (end.ItemFault p c) h = absurd h
+  tree_refused command text tree one (end.Usage f) h = absurd h
+  tree_refused command text tree one end.NoScript h = absurd h
+  tree_refused command text tree one (end.Lex f) h = absurd h
+  tree_refused command text tree one (end.Parse f) h = absurd h
+  tree_refused command text tree one (end.Unbuilt p) h = formless command text tree one p h
+  tree_refused command text tree one end.HostFault h = absurd h
+  tree_refused command text tree one end.LaneFault h = absurd h
+  tree_refused command text tree one end.SinkFault h = absurd h
+  tree_refused command text tree one end.Mem h = tt
+
+  pub request_given : (command : Command) (text : List ℕ) (s : Script) (r : Result Request End) → IsOnlyScript text (view_script s) → Asks env command (view_script s) r → TextGives env command text r
+  request_given command text s (Ok r) one h = asked command text (view_script s) one r h
+  request_given command text s (Err e) one h = tree_refused command text (view_script s) one e h
+
+  -- a tree that is run asks for its plan
+  pub plan_asked : (words : RunWords) (tree : Tree) (plan : Plan) → form_of env tree ≡ Ok (view_plan env.titles env.answer plan) → Asks env (Run words) tree (Ok (request.Run plan))
+  plan_asked words tree plan h = ap outcome_of_form h
+
+  pub plan_refused : (words : RunWords) (tree : Tree) (e : End) → FormRefused (form_of env tree) e → Asks env (Run words) tree (Err e)
+  plan_refused words tree end.Ok h = absurd h
+  plan_refused words tree (end.TaskFailed p i n f) h = absurd h
+  plan_refused words tree (end.ItemFault p c) h = absurd h
+  plan_refused words tree (end.Usage f) h = absurd h
+  plan_refused words tree end.NoScript h = absurd h
+  plan_refused words tree (end.Lex f) h = absurd h
+  plan_refused words tree (end.Parse f) h = absurd h
+  plan_refused words tree (end.Unbuilt p) h = ap outcome_of_form h
+  plan_refused words tree end.HostFault h = absurd h
+  plan_refused words tree end.LaneFault h = absurd h
+  plan_refused words tree end.SinkFault h = absurd h
+  plan_refused words tree end.Mem h = tt
+
+  -- want of memory, or the place
+  form_refused : (due : Built Form) (fault : FormFault) → Builds (view_plan env.titles env.answer) due (Err fault) → FormRefused due (end_of_form fault)
+  form_refused due (form_fault.Unbuilt p) h = h
+  form_refused due form_fault.Mem h = tt
+
+  pub form_ends : (due : Built Form) (fault : FormFault) (e : End) → Builds (view_plan env.titles env.answer) due (Err fault) → e ≡ end_of_form fault → Plans env due (Err e)
+  form_ends due fault e h is = subst (FormRefused due) (sym is) (form_refused due fault h)
+
+-- ---- over some patterns that are built
+
+module _ (titles : List (List ℕ)) (answer : ℕ → List Plain → Option Plain) where
+  abbrev around : List (List ℕ) → Env
+  around patterns = bare titles answer patterns
+
+  pub plan_given : (tree : Tree) (plan : Plan) → OverBuilt titles answer (λ env. Builds (view_plan env.titles env.answer) (form_of env tree) (Ok plan)) → OverBuilt titles answer (λ env. Plans env (form_of env tree) (Ok plan))
+  plan_given tree plan h = over_same titles answer (λ env. Builds (view_plan env.titles env.answer) (form_of env tree) (Ok plan)) (λ env. Plans env (form_of env tree) (Ok plan)) (λ ps k. k) h
+
+  pub plan_ends : (tree : Tree) (fault : FormFault) (e : End) → OverBuilt titles answer (λ env. Builds (view_plan env.titles env.answer) (form_of env tree) (Err fault)) → e ≡ end_of_form fault → OverBuilt titles answer (λ env. Plans env (form_of env tree) (Err e))
+  plan_ends tree fault e h is =
+      over_same titles answer (λ env. Builds (view_plan env.titles env.answer) (form_of env tree) (Err fault)) (λ env. Plans env (form_of env tree) (Err e)) (λ ps k. form_ends (around ps) (form_of (around ps) tree) fault e k is) h
+
+  pub asks_for : (words : RunWords) (tree : Tree) (plan : Plan) → OverBuilt titles answer (λ env. Plans env (form_of env tree) (Ok plan)) → OverBuilt titles answer (λ env. Asks env (Run words) tree (Ok (request.Run plan)))
+  asks_for words tree plan h = over_same titles answer (λ env. Plans env (form_of env tree) (Ok plan)) (λ env. Asks env (Run words) tree (Ok (request.Run plan))) (λ ps k. plan_asked (around ps) words tree plan k) h
+
+  pub asks_nothing : (words : RunWords) (tree : Tree) (e : End) → OverBuilt titles answer (λ env. Plans env (form_of env tree) (Err e)) → OverBuilt titles answer (λ env. Asks env (Run words) tree (Err e))
+  asks_nothing words tree e h = over_same titles answer (λ env. Plans env (form_of env tree) (Err e)) (λ env. Asks env (Run words) tree (Err e)) (λ ps k. plan_refused (around ps) words tree e k) h
+
+  pub formats_asked : (words : FmtWords) (s : Script) → OverBuilt titles answer (λ env. Asks env (Fmt words) (view_script s) (Ok (request.Format s)))
+  formats_asked words s = over_none titles answer (λ env. Asks env (Fmt words) (view_script s) (Ok (request.Format s))) (λ env. refl)
+
+  pub all_given : (command : Command) (text : List ℕ) (s : Script) (r : Result Request End) → IsOnlyScript text (view_script s) → OverBuilt titles answer (λ env. Asks env command (view_script s) r) → OverBuilt titles answer (λ env. TextGives env command text r)
+  all_given command text s r one h = over_same titles answer (λ env. Asks env command (view_script s) r) (λ env. TextGives env command text r) (λ ps k. request_given (around ps) command text s r one k) h
+
+  pub all_refused : (command : Command) (text : List ℕ) (fault : ScriptFault) (e : End) → BreaksIn text fault → e ≡ end_of_script fault → OverBuilt titles answer (λ env. TextGives env command text (Err e))
+  all_refused command text fault e h is = over_none titles answer (λ env. TextGives env command text (Err e)) (λ env. fault_refused env command text fault e h is)
 
 -- ---- reading a text
 

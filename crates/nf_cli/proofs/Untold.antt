@@ -8,18 +8,18 @@ use Rattle.nf_host.specs.declared.whole.Whole.TheVariants as whole
 use Rattle.nf_words.specs.declared.command.Command.{Command}
 use Rattle.nf_lexer.specs.declared.fault.LexFault.TheVariants.{ScriptTooLong}
 use Rattle.nf_lexer.specs.Tokens.{most_bytes}
+use Rattle.nf_value.specs.Plain.{Plain}
+use Rattle.nf_calls.specs.Scope.{Env}
+use Rattle.nf_forms.specs.Values.{OverBuilt, bare}
 use Rattle.nf_cli.specs.declared.texts.Request.{Request}
 use Rattle.nf_cli.specs.declared.ends.End.{End}
 use Rattle.nf_cli.specs.declared.ends.End.TheVariants as end
 use Rattle.nf_cli.specs.Work.{TextRefused, TextGives, FileRefused, FileGives, TellsAt}
+use Rattle.nf_cli.proofs.Patterned.{over_none, over_same}
 use Rattle.nf_cli.proofs.Outcomes.{unlexed_text, too_long_only}
 
--- what a file that may be told gives
-abbrev pub SomeFile : Command → Option Files → List ℕ → Result Request End → Type 0
-SomeFile command told path r = (held : Option (List ℕ)) × TellsAt told path held × FileGives command held r
-
-module _ (command : Command) (file : Option (List ℕ)) (text : List ℕ) (there : file ≡ Some text) where
-  text_refused : (e : End) → TextRefused command text e → FileRefused command file e
+module _ (env : Env) (command : Command) (file : Option (List ℕ)) (text : List ℕ) (there : file ≡ Some text) where
+  text_refused : (e : End) → TextRefused env command text e → FileRefused env command file e
   text_refused end.Ok h = absurd h
   text_refused (end.TaskFailed p i n f) h = absurd h
   text_refused (end.ItemFault p c) h = absurd h
@@ -33,7 +33,7 @@ module _ (command : Command) (file : Option (List ℕ)) (text : List ℕ) (there
   text_refused end.SinkFault h = absurd h
   text_refused end.Mem h = tt
 
-  text_gives : (r : Result Request End) → TextGives command text r → FileGives command file r
+  text_gives : (r : Result Request End) → TextGives env command text r → FileGives env command file r
   text_gives (Ok p) h = record { text = text; there = there; comes = h }
   text_gives (Err e) h = text_refused e h
 
@@ -42,36 +42,47 @@ whole_there : (file : Option (List ℕ)) (text : List ℕ) → IsWhole file most
 whole_there None text h = absurd (let e : whole.Bytes text ≡ whole.Absent = h in cc)
 whole_there (Some b) text h = λ j. Some (sym h.1 j)
 
-pub text_given : (command : Command) (told : Option Files) (path text : List ℕ) (w : Whole) → w ≡ whole.Bytes text → IfSome told (λ f. IsWhole (f path) most_bytes w) → (r : Result Request End) → TextGives command text r → SomeFile command told path r
-text_given command None path text w e h r g = (Some text, tt, text_gives command (Some text) text refl r g)
-text_given command (Some f) path text w e h r g = (f path, refl, text_gives command (f path) text (whole_there (f path) text (subst (IsWhole (f path) most_bytes) e h)) r g)
-
 longer : (n : ℕ) → (text : List ℕ) × (n < length text)
 longer n = (replicate {A = ℕ} (n + 1) 0, omega (arith, length-replicate {A = ℕ} (n + 1) 0))
 
-too_long : (command : Command) (text : List ℕ) → most_bytes < length text → FileGives command (Some text) (Err (end.Lex ScriptTooLong))
-too_long command text h = record { text = text; there = refl; comes = unlexed_text command text ScriptTooLong (too_long_only text h) }
+too_long : (env : Env) (command : Command) (text : List ℕ) → most_bytes < length text → FileGives env command (Some text) (Err (end.Lex ScriptTooLong))
+too_long env command text h = record { text = text; there = refl; comes = unlexed_text env command text ScriptTooLong (too_long_only text h) }
 
-long_file : (command : Command) (file : Option (List ℕ)) → IsWhole file most_bytes whole.TooLong → FileGives command file (Err (end.Lex ScriptTooLong))
-long_file command None h = absurd (let e : whole.TooLong ≡ whole.Absent = h in cc)
-long_file command (Some text) h = too_long command text h
+long_file : (env : Env) (command : Command) (file : Option (List ℕ)) → IsWhole file most_bytes whole.TooLong → FileGives env command file (Err (end.Lex ScriptTooLong))
+long_file env command None h = absurd (let e : whole.TooLong ≡ whole.Absent = h in cc)
+long_file env command (Some text) h = too_long env command text h
 
-pub long_given : (command : Command) (told : Option Files) (path : List ℕ) (w : Whole) → w ≡ whole.TooLong → IfSome told (λ f. IsWhole (f path) most_bytes w) → SomeFile command told path (Err (end.Lex ScriptTooLong))
-long_given command None path w e h = let long = longer most_bytes in (Some long.0, tt, too_long command long.0 long.1)
-long_given command (Some f) path w e h = (f path, refl, long_file command (f path) (subst (IsWhole (f path) most_bytes) e h))
+module _ (titles : List (List ℕ)) (answer : ℕ → List Plain → Option Plain) where
+  -- what a file that may be told gives
+  abbrev pub SomeFile : Command → Option Files → List ℕ → Result Request End → Type 0
+  SomeFile command told path r = (held : Option (List ℕ)) × TellsAt told path held × OverBuilt titles answer (λ env. FileGives env command held r)
 
-absent_file : (file : Option (List ℕ)) → IsWhole file most_bytes whole.Absent → file ≡ None
-absent_file None h = refl
-absent_file (Some text) h = absurd h
+  all : (P : Env → Type 0) → ((env : Env) → P env) → OverBuilt titles answer P
+  all P h = over_none titles answer P h
 
-pub absent_given : (command : Command) (told : Option Files) (path : List ℕ) (w : Whole) → w ≡ whole.Absent → IfSome told (λ f. IsWhole (f path) most_bytes w) → SomeFile command told path (Err end.NoScript)
-absent_given command None path w e h = (None, tt, refl)
-absent_given command (Some f) path w e h = (f path, refl, absent_file (f path) (subst (IsWhole (f path) most_bytes) e h))
+  pub text_given : (command : Command) (told : Option Files) (path text : List ℕ) (w : Whole) → w ≡ whole.Bytes text → IfSome told (λ f. IsWhole (f path) most_bytes w) → (r : Result Request End) → OverBuilt titles answer (λ env. TextGives env command text r) → SomeFile command told path r
+  text_given command None path text w e h r g =
+      (Some text, tt, over_same titles answer (λ env. TextGives env command text r) (λ env. FileGives env command (Some text) r) (λ ps. text_gives (bare titles answer ps) command (Some text) text refl r) g)
+  text_given command (Some f) path text w e h r g =
+      let there = whole_there (f path) text (subst (IsWhole (f path) most_bytes) e h) in
+      (f path, refl, over_same titles answer (λ env. TextGives env command text r) (λ env. FileGives env command (f path) r) (λ ps. text_gives (bare titles answer ps) command (f path) text there r) g)
 
-pub fault_given : (command : Command) (told : Option Files) (path : List ℕ) → SomeFile command told path (Err end.HostFault)
-fault_given command None path = (None, tt, tt)
-fault_given command (Some f) path = (f path, refl, tt)
+  pub long_given : (command : Command) (told : Option Files) (path : List ℕ) (w : Whole) → w ≡ whole.TooLong → IfSome told (λ f. IsWhole (f path) most_bytes w) → SomeFile command told path (Err (end.Lex ScriptTooLong))
+  long_given command None path w e h = let long = longer most_bytes in (Some long.0, tt, all (λ env. FileGives env command (Some long.0) (Err (end.Lex ScriptTooLong))) (λ env. too_long env command long.0 long.1))
+  long_given command (Some f) path w e h = (f path, refl, all (λ env. FileGives env command (f path) (Err (end.Lex ScriptTooLong))) (λ env. long_file env command (f path) (subst (IsWhole (f path) most_bytes) e h)))
 
-pub memory_given : (command : Command) (told : Option Files) (path : List ℕ) → SomeFile command told path (Err end.Mem)
-memory_given command None path = (None, tt, tt)
-memory_given command (Some f) path = (f path, refl, tt)
+  absent_file : (file : Option (List ℕ)) → IsWhole file most_bytes whole.Absent → file ≡ None
+  absent_file None h = refl
+  absent_file (Some text) h = absurd h
+
+  pub absent_given : (command : Command) (told : Option Files) (path : List ℕ) (w : Whole) → w ≡ whole.Absent → IfSome told (λ f. IsWhole (f path) most_bytes w) → SomeFile command told path (Err end.NoScript)
+  absent_given command None path w e h = (None, tt, all (λ env. FileGives env command None (Err end.NoScript)) (λ env. refl))
+  absent_given command (Some f) path w e h = (f path, refl, all (λ env. FileGives env command (f path) (Err end.NoScript)) (λ env. absent_file (f path) (subst (IsWhole (f path) most_bytes) e h)))
+
+  pub fault_given : (command : Command) (told : Option Files) (path : List ℕ) → SomeFile command told path (Err end.HostFault)
+  fault_given command None path = (None, tt, all (λ env. FileGives env command None (Err end.HostFault)) (λ env. tt))
+  fault_given command (Some f) path = (f path, refl, all (λ env. FileGives env command (f path) (Err end.HostFault)) (λ env. tt))
+
+  pub memory_given : (command : Command) (told : Option Files) (path : List ℕ) → SomeFile command told path (Err end.Mem)
+  memory_given command None path = (None, tt, all (λ env. FileGives env command None (Err end.Mem)) (λ env. tt))
+  memory_given command (Some f) path = (f path, refl, all (λ env. FileGives env command (f path) (Err end.Mem)) (λ env. tt))

@@ -11,6 +11,7 @@ use Rattle.nf_core.specs.declared.event.Event.{Event}
 use Rattle.nf_core.specs.Machine.{starts}
 use Rattle.nf_run.specs.declared.runs.RunFault.{RunFault}
 use Rattle.nf_run.specs.declared.runs.RunFault.TheVariants as fault
+use Rattle.nf_calls.specs.Scope.{Env}
 use Rattle.nf_forms.specs.Form.{Form}
 use Rattle.nf_forms.specs.View.{view_plan}
 use Rattle.nf_cli.specs.declared.texts.Request.{Request}
@@ -27,11 +28,11 @@ use Rattle.nf_cli.specs.Work.{Gives, HasDone, HasWorked, OutcomeGives, WorkGives
 use Rattle.nf_cli.proofs.Runs.{one_command}
 
 -- a tree that is formatted isn't run
-never_run : (command : Command) (file : List ℕ) (text : List ℕ) (form : Form) → command ≡ fmt file → TreeMeans command text (runs form) → ⊥
-never_run command file text form is h = let e : formats h.tree ≡ runs form = ap (λ c. outcome_of_tree c h.tree) (sym is) ∙ h.comes in cc
+never_run : (env : Env) (command : Command) (file : List ℕ) (text : List ℕ) (form : Form) → command ≡ fmt file → TreeMeans env command text (runs form) → ⊥
+never_run env command file text form is h = let e : formats h.tree ≡ runs form = ap (λ c. outcome_of_tree env c h.tree) (sym is) ∙ h.comes in cc
 
-no_run : (words : List (List ℕ)) (files : Files) (file : List ℕ) (form : Form) → Formats words file → Means words files (runs form) → ⊥
-no_run words files file form formats_it m = never_run m.command file m.text form (one_command words m.command (fmt file) m.reads formats_it) m.means
+no_run : (env : Env) (words : List (List ℕ)) (files : Files) (file : List ℕ) (form : Form) → Formats words file → Means env words files (runs form) → ⊥
+no_run env words files file form formats_it m = never_run env m.command file m.text form (one_command words m.command (fmt file) m.reads formats_it) m.means
 
 -- the canonical text, or the end for want of memory
 text_gives : (tree : Tree) (h : List Event) (r : Result Output End) → IsTextOrEnd tree r → OutcomeGives (formats tree) h r
@@ -55,31 +56,31 @@ module _ {L D : Type 0} (Genuine : D → Type 0) (job_of : D → List ℕ) (repo
   idle ls free (unparsed f) = (refl, refl, refl)
   idle ls free (unbuilt p) = (refl, refl, refl)
 
-  pub nothing_worked : (words : List (List ℕ)) (files : Files) (ls : List L) → Idle ls → (e : End) → Gives words files (Err e)
-      → (h : List Event) (kept : List D) (r : Result Output End) → h ≡ [] → kept ≡ [] → r ≡ Err e → HasWorked Genuine job_of report_by number run_count world words files h kept ls ls r
-  nothing_worked words files ls free e g h kept r no_events no_dones is =
-      subst (λ r. HasWorked Genuine job_of report_by number run_count world words files h kept ls ls r) (sym is)
-      (subst (λ k. HasWorked Genuine job_of report_by number run_count world words files h k ls ls (Err e)) (sym no_dones)
-      (subst (λ h. HasWorked Genuine job_of report_by number run_count world words files h [] ls ls (Err e)) (sym no_events)
+  pub nothing_worked : (env : Env) (words : List (List ℕ)) (files : Files) (ls : List L) → Idle ls → (e : End) → Gives env words files (Err e)
+      → (h : List Event) (kept : List D) (r : Result Output End) → h ≡ [] → kept ≡ [] → r ≡ Err e → HasWorked env Genuine job_of report_by number run_count world words files h kept ls ls r
+  nothing_worked env words files ls free e g h kept r no_events no_dones is =
+      subst (λ r. HasWorked env Genuine job_of report_by number run_count world words files h kept ls ls r) (sym is)
+      (subst (λ k. HasWorked env Genuine job_of report_by number run_count world words files h k ls ls (Err e)) (sym no_dones)
+      (subst (λ h. HasWorked env Genuine job_of report_by number run_count world words files h [] ls ls (Err e)) (sym no_events)
       (record { ran = λ o means. idle ls free o; gives = g })))
 
-  work_gives : (words : List (List ℕ)) (files : Files) (outcome : Outcome) (h : List Event) (r : Result Output End) → IsOutcome words files outcome → OutcomeGives outcome h r → WorkGives words files h r
-  work_gives words files outcome h (Ok o) is g = (outcome, is, g)
-  work_gives words files outcome h (Err e) is g = as_due outcome is g
+  work_gives : (env : Env) (words : List (List ℕ)) (files : Files) (outcome : Outcome) (h : List Event) (r : Result Output End) → IsOutcome env words files outcome → OutcomeGives outcome h r → WorkGives env words files h r
+  work_gives env words files outcome h (Ok o) is g = (outcome, is, g)
+  work_gives env words files outcome h (Err e) is g = as_due outcome is g
 
-  pub request_worked : (words : List (List ℕ)) (files : Files) (q : Request) (h : List Event) (kept : List D) (old new : List L) (r : Result Output End) → Gives words files (Ok q)
-      → HasDone Genuine job_of report_by number run_count world (outcome_of q) h kept old new r → HasWorked Genuine job_of report_by number run_count world words files h kept old new r
-  request_worked words files q h kept old new r is done =
+  pub request_worked : (env : Env) (words : List (List ℕ)) (files : Files) (q : Request) (h : List Event) (kept : List D) (old new : List L) (r : Result Output End) → Gives env words files (Ok q)
+      → HasDone Genuine job_of report_by number run_count world (outcome_of env.titles env.answer q) h kept old new r → HasWorked env Genuine job_of report_by number run_count world words files h kept old new r
+  request_worked env words files q h kept old new r is done =
       record {
         ran = λ o means. subst (λ o. RanTasks Genuine job_of report_by number run_count world o h kept old new) (sym (is.only o means)) done.ran;
-        gives = work_gives words files (outcome_of q) h r is done.gives;
+        gives = work_gives env words files (outcome_of env.titles env.answer q) h r is done.gives;
       }
 
   -- the words of `fmt` don't ask for a run
-  pub fmt_idles : (words : List (List ℕ)) (files : Files) (q : Request) (h : List Event) (kept : List D) (old new : List L) (r : Result Output End) → Gives words files (Ok q)
-      → HasDone Genuine job_of report_by number run_count world (outcome_of q) h kept old new r → FmtRunsNothing words h kept old new
-  fmt_idles words files (request.Run plan) h kept old new r is done file formats_it = absurd (no_run words files file (view_plan plan) formats_it is.means)
-  fmt_idles words files (request.Format s) h kept old new r is done file formats_it = done.ran
+  pub fmt_idles : (env : Env) (words : List (List ℕ)) (files : Files) (q : Request) (h : List Event) (kept : List D) (old new : List L) (r : Result Output End) → Gives env words files (Ok q)
+      → HasDone Genuine job_of report_by number run_count world (outcome_of env.titles env.answer q) h kept old new r → FmtRunsNothing words h kept old new
+  fmt_idles env words files (request.Run plan) h kept old new r is done file formats_it = absurd (no_run env words files file (view_plan env.titles env.answer plan) formats_it is.means)
+  fmt_idles env words files (request.Format s) h kept old new r is done file formats_it = done.ran
 
   pub nothing_idles : (words : List (List ℕ)) (h : List Event) (kept : List D) (ls : List L) → h ≡ [] → kept ≡ [] → FmtRunsNothing words h kept ls ls
   nothing_idles words h kept ls no_events no_dones file formats_it = (no_events, no_dones, refl)

@@ -16,6 +16,7 @@ use Rattle.nf_core.specs.declared.event.Event.{Event}
 use Rattle.nf_core.specs.declared.event.Stop.{Stop}
 use Rattle.nf_core.specs.declared.event.Stop.TheVariants as stop
 use Rattle.nf_core.specs.Machine.{starts}
+use Rattle.nf_calls.specs.Scope.{Env}
 use Rattle.nf_forms.specs.Form.{Form}
 use Rattle.nf_run.specs.Run.{IsHistoryOf, AreBooked, WentWell, HasItemFault, HasTaskFault, LostLane, meant, state_after}
 use Rattle.nf_cli.specs.declared.ends.End.{End}
@@ -91,11 +92,11 @@ MayEnd (unlexed due) h e = EndsUnlexed due e
 MayEnd (unparsed due) h e = EndsUnparsed due e
 MayEnd (unbuilt due) h e = EndsUnbuilt due e
 
--- the end is that of the one outcome of the words over the files, where neither memory nor the host ended the call
-pub data Ended (words : List (List ℕ)) (files : Files) (h : List Event) : End → Type 0 where
-  as_due : {e : End} (outcome : Outcome) → IsOutcome words files outcome → MayEnd outcome h e → Ended words files h e
-  host_failed : (command : Command) → command_of words ≡ Ok command → h ≡ [] → Ended words files h end.HostFault
-  no_memory : Ended words files h end.Mem
+-- the end is that of the one outcome of the words over the files and what is around the script's expressions, where neither memory nor the host ended the call
+pub data Ended (env : Env) (words : List (List ℕ)) (files : Files) (h : List Event) : End → Type 0 where
+  as_due : {e : End} (outcome : Outcome) → IsOutcome env words files outcome → MayEnd outcome h e → Ended env words files h e
+  host_failed : (command : Command) → command_of words ≡ Ok command → h ≡ [] → Ended env words files h end.HostFault
+  no_memory : Ended env words files h end.Mem
 
 -- a run that its history stops ends by that stop; one that it doesn't stop ends by no task and no lane; or memory ran out
 abbrev pub StopEnds : Option Stop → End → Type 0
@@ -165,9 +166,9 @@ WroteDue (formats tree) h e before after = WroteOutput e (canonical tree) before
 WroteDue _ h e before after = ⊥
 
 -- what was written is due by the one outcome of the words over the files
-pub record WroteOutcome (words : List (List ℕ)) (files : Files) (h : List Event) (e : End) (before after : List ℕ) : Type 0 where
+pub record WroteOutcome (env : Env) (words : List (List ℕ)) (files : Files) (h : List Event) (e : End) (before after : List ℕ) : Type 0 where
   pub outcome : Outcome
-  pub of_words : IsOutcome words files outcome
+  pub of_words : IsOutcome env words files outcome
   pub output : WroteDue outcome h e before after
 
 abbrev pub OnOutput : End → Type 0 → Type 0
@@ -176,8 +177,8 @@ OnOutput end.SinkFault P = P
 OnOutput _ P = Unit {0}
 
 -- where the sink tells it
-abbrev pub OutputStands : List (List ℕ) → Files → List Event → Option (List ℕ) → Option (List ℕ) → End → Type 0
-OutputStands words files h old new e = IfSome old (λ before. IfSome new (λ after. OnOutput e (WroteOutcome words files h e before after)))
+abbrev pub OutputStands : Env → List (List ℕ) → Files → List Event → Option (List ℕ) → Option (List ℕ) → End → Type 0
+OutputStands env words files h old new e = IfSome old (λ before. IfSome new (λ after. OnOutput e (WroteOutcome env words files h e before after)))
 
 -- ---- the whole call
 
@@ -187,14 +188,14 @@ Tells None files = Unit {0}
 Tells (Some told) files = files ≡ told
 
 -- how a call ends over these files, and what it runs and writes
-pub record EndsOver {L D : Type 0} (Genuine : D → Type 0) (job_of : D → List ℕ) (report_by : D → Report) (number : D → ℕ) (run_count : L → ℕ) (world : L → Option World) (words : List (List ℕ)) (files : Files) (h : List Event) (kept : List D) (lanes_old lanes_new : List L) (old new : Option (List ℕ)) (e : End) : Type 0 where
+pub record EndsOver {L D : Type 0} (env : Env) (Genuine : D → Type 0) (job_of : D → List ℕ) (report_by : D → Report) (number : D → ℕ) (run_count : L → ℕ) (world : L → Option World) (words : List (List ℕ)) (files : Files) (h : List Event) (kept : List D) (lanes_old lanes_new : List L) (old new : Option (List ℕ)) (e : End) : Type 0 where
   -- the end has its cause
-  pub ended : Ended words files h e
+  pub ended : Ended env words files h e
   -- whatever the words and files come to is how the call ends, but for the host and memory
-  pub complete : (outcome : Outcome) → Means words files outcome → MayEnd outcome h e
+  pub complete : (outcome : Outcome) → Means env words files outcome → MayEnd outcome h e
   -- the history is lawful, and the lanes ran each of its tasks once
-  pub ran : (outcome : Outcome) → Means words files outcome → RanTasks Genuine job_of report_by number run_count world outcome h kept lanes_old lanes_new
+  pub ran : (outcome : Outcome) → Means env words files outcome → RanTasks Genuine job_of report_by number run_count world outcome h kept lanes_old lanes_new
   -- a stop of the history is the end
-  pub stopped : (outcome : Outcome) → Means words files outcome → EndsByStop outcome h e
+  pub stopped : (outcome : Outcome) → Means env words files outcome → EndsByStop outcome h e
   -- what was written is the report of the meaning under the history's outcomes, or the canonical text
-  pub output : OutputStands words files h old new e
+  pub output : OutputStands env words files h old new e

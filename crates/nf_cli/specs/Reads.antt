@@ -1,5 +1,6 @@
 -- What reading a script's text answers.
-use Rattle.std.specs.Prelude.{◌≡◌, ℕ, List, Result, Ok, Err}
+use Rattle.std.specs.Prelude.{◌≡◌, ℕ, List, Option, Result, Ok, Err}
+use Rattle.nf_value.specs.Plain.{Plain}
 use Rattle.nf_value.specs.declared.place.Place.{Place}
 use Rattle.nf_ast.specs.Tree.{Tree}
 use Rattle.nf_ast.specs.Tops.{view_script}
@@ -15,6 +16,7 @@ use Rattle.nf_forms.specs.declared.fault.FormFault.TheVariants as form_fault
 use Rattle.nf_forms.specs.declared.plan.Plan.{Plan}
 use Rattle.nf_words.specs.declared.command.Command.{Command}
 use Rattle.nf_forms.specs.Built.{Built}
+use Rattle.nf_calls.specs.Scope.{Env}
 use Rattle.nf_forms.specs.Form.{Form}
 use Rattle.nf_forms.specs.View.{view_plan}
 use Rattle.nf_cli.specs.declared.ends.End.{End}
@@ -81,24 +83,24 @@ FormRefused due end.Mem = Unit {0}
 FormRefused due _ = ⊥
 
 -- the plan of a tree, or why it has none
-abbrev pub Plans : Built Form → Result Plan End → Type 0
-Plans due (Ok p) = due ≡ Ok (view_plan p)
-Plans due (Err e) = FormRefused due e
+abbrev pub Plans : Env → Built Form → Result Plan End → Type 0
+Plans env due (Ok p) = due ≡ Ok (view_plan env.titles env.answer p)
+Plans env due (Err e) = FormRefused due e
 
 -- ---- what a command asks of a tree
 
--- the outcome that a request is
-abbrev pub outcome_of : Request → Outcome
-outcome_of (request.Run plan) = runs (view_plan plan)
-outcome_of (request.Format script) = formats (view_script script)
+-- the outcome that a request is, over the names and answers of the program's functions
+abbrev pub outcome_of : List (List ℕ) → (ℕ → List Plain → Option Plain) → Request → Outcome
+outcome_of titles answer (request.Run plan) = runs (view_plan titles answer plan)
+outcome_of titles answer (request.Format script) = formats (view_script script)
 
 -- why a command asks nothing of a tree: there is a place of what isn't built, or want of memory
-abbrev pub TreeRefused : Command → Tree → End → Type 0
-TreeRefused command tree (end.Unbuilt place) = outcome_of_tree command tree ≡ unbuilt place
-TreeRefused command tree end.Mem = Unit {0}
-TreeRefused command tree _ = ⊥
+abbrev pub TreeRefused : Env → Command → Tree → End → Type 0
+TreeRefused env command tree (end.Unbuilt place) = outcome_of_tree env command tree ≡ unbuilt place
+TreeRefused env command tree end.Mem = Unit {0}
+TreeRefused env command tree _ = ⊥
 
 -- what a command asks of a tree, or why it asks nothing
-abbrev pub Asks : Command → Tree → Result Request End → Type 0
-Asks command tree (Ok r) = outcome_of_tree command tree ≡ outcome_of r
-Asks command tree (Err e) = TreeRefused command tree e
+abbrev pub Asks : Env → Command → Tree → Result Request End → Type 0
+Asks env command tree (Ok r) = outcome_of_tree env command tree ≡ outcome_of env.titles env.answer r
+Asks env command tree (Err e) = TreeRefused env command tree e

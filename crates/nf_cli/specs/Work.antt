@@ -6,6 +6,7 @@ use Rattle.nf_job.specs.declared.report.Report.{Report}
 use Rattle.nf_ast.specs.Tree.{Tree}
 use Rattle.nf_words.specs.declared.command.Command.{Command}
 use Rattle.nf_printer.specs.Tops.{canonical}
+use Rattle.nf_calls.specs.Scope.{Env}
 use Rattle.nf_forms.specs.Form.{Form}
 use Rattle.nf_lane.specs.World.{World}
 use Rattle.nf_core.specs.declared.event.Event.{Event}
@@ -28,38 +29,38 @@ use Rattle.nf_cli.specs.Due.{Ended, MayEnd, RanTasks}
 -- ---- up to the script
 
 -- why nothing is asked of a text: its own outcome, or want of memory
-abbrev pub TextRefused : Command → List ℕ → End → Type 0
-TextRefused command text (end.Lex fault) = IsTextOutcome command text (unlexed fault)
-TextRefused command text (end.Parse fault) = IsTextOutcome command text (unparsed fault)
-TextRefused command text (end.Unbuilt place) = IsTextOutcome command text (unbuilt place)
-TextRefused command text end.Mem = Unit {0}
-TextRefused command text _ = ⊥
+abbrev pub TextRefused : Env → Command → List ℕ → End → Type 0
+TextRefused env command text (end.Lex fault) = IsTextOutcome env command text (unlexed fault)
+TextRefused env command text (end.Parse fault) = IsTextOutcome env command text (unparsed fault)
+TextRefused env command text (end.Unbuilt place) = IsTextOutcome env command text (unbuilt place)
+TextRefused env command text end.Mem = Unit {0}
+TextRefused env command text _ = ⊥
 
 -- what a command asks of a text, or why it asks nothing
-abbrev pub TextGives : Command → List ℕ → Result Request End → Type 0
-TextGives command text (Ok r) = IsTextOutcome command text (outcome_of r)
-TextGives command text (Err e) = TextRefused command text e
+abbrev pub TextGives : Env → Command → List ℕ → Result Request End → Type 0
+TextGives env command text (Ok r) = IsTextOutcome env command text (outcome_of env.titles env.answer r)
+TextGives env command text (Err e) = TextRefused env command text e
 
 -- the file is there, and its text comes to this
-pub record HasText (command : Command) (file : Option (List ℕ)) (outcome : Outcome) : Type 0 where
+pub record HasText (env : Env) (command : Command) (file : Option (List ℕ)) (outcome : Outcome) : Type 0 where
   pub text : List ℕ
   pub there : file ≡ Some text
-  pub comes : IsTextOutcome command text outcome
+  pub comes : IsTextOutcome env command text outcome
 
 -- why nothing is asked of a file: it isn't there, its text's own outcome, an outside fault, or want of memory
-abbrev pub FileRefused : Command → Option (List ℕ) → End → Type 0
-FileRefused command file end.NoScript = file ≡ None
-FileRefused command file (end.Lex fault) = HasText command file (unlexed fault)
-FileRefused command file (end.Parse fault) = HasText command file (unparsed fault)
-FileRefused command file (end.Unbuilt place) = HasText command file (unbuilt place)
-FileRefused command file end.HostFault = Unit {0}
-FileRefused command file end.Mem = Unit {0}
-FileRefused command file _ = ⊥
+abbrev pub FileRefused : Env → Command → Option (List ℕ) → End → Type 0
+FileRefused env command file end.NoScript = file ≡ None
+FileRefused env command file (end.Lex fault) = HasText env command file (unlexed fault)
+FileRefused env command file (end.Parse fault) = HasText env command file (unparsed fault)
+FileRefused env command file (end.Unbuilt place) = HasText env command file (unbuilt place)
+FileRefused env command file end.HostFault = Unit {0}
+FileRefused env command file end.Mem = Unit {0}
+FileRefused env command file _ = ⊥
 
 -- what a command asks of a file, or why it asks nothing
-abbrev pub FileGives : Command → Option (List ℕ) → Result Request End → Type 0
-FileGives command file (Ok r) = HasText command file (outcome_of r)
-FileGives command file (Err e) = FileRefused command file e
+abbrev pub FileGives : Env → Command → Option (List ℕ) → Result Request End → Type 0
+FileGives env command file (Ok r) = HasText env command file (outcome_of env.titles env.answer r)
+FileGives env command file (Err e) = FileRefused env command file e
 
 -- this is what the host tells of the path, where it tells its files
 abbrev pub TellsAt : Option Files → List ℕ → Option (List ℕ) → Type 0
@@ -67,9 +68,9 @@ TellsAt None path file = Unit {0}
 TellsAt (Some told) path file = file ≡ told path
 
 -- what the words ask for over the files, or how the call ends
-abbrev pub Gives : List (List ℕ) → Files → Result Request End → Type 0
-Gives words files (Ok r) = IsOutcome words files (outcome_of r)
-Gives words files (Err e) = Ended words files [] e
+abbrev pub Gives : Env → List (List ℕ) → Files → Result Request End → Type 0
+Gives env words files (Ok r) = IsOutcome env words files (outcome_of env.titles env.answer r)
+Gives env words files (Err e) = Ended env words files [] e
 
 -- an end before anything is written
 abbrev pub IsRefusal : End → Type 0
@@ -131,14 +132,14 @@ pub record HasDone {L D : Type 0} (Genuine : D → Type 0) (job_of : D → List 
   pub gives : OutcomeGives outcome h r
 
 -- what is to be written, or how the call ends
-abbrev pub WorkGives : List (List ℕ) → Files → List Event → Result Output End → Type 0
-WorkGives words files h (Ok o) = (outcome : Outcome) × IsOutcome words files outcome × IsDue outcome h o
-WorkGives words files h (Err e) = Ended words files h e
+abbrev pub WorkGives : Env → List (List ℕ) → Files → List Event → Result Output End → Type 0
+WorkGives env words files h (Ok o) = (outcome : Outcome) × IsOutcome env words files outcome × IsDue outcome h o
+WorkGives env words files h (Err e) = Ended env words files h e
 
 -- all that comes before the writing
-pub record HasWorked {L D : Type 0} (Genuine : D → Type 0) (job_of : D → List ℕ) (report_by : D → Report) (number : D → ℕ) (run_count : L → ℕ) (world : L → Option World) (words : List (List ℕ)) (files : Files) (h : List Event) (kept : List D) (old new : List L) (r : Result Output End) : Type 0 where
-  pub ran : (outcome : Outcome) → Means words files outcome → RanTasks Genuine job_of report_by number run_count world outcome h kept old new
-  pub gives : WorkGives words files h r
+pub record HasWorked {L D : Type 0} (env : Env) (Genuine : D → Type 0) (job_of : D → List ℕ) (report_by : D → Report) (number : D → ℕ) (run_count : L → ℕ) (world : L → Option World) (words : List (List ℕ)) (files : Files) (h : List Event) (kept : List D) (old new : List L) (r : Result Output End) : Type 0 where
+  pub ran : (outcome : Outcome) → Means env words files outcome → RanTasks Genuine job_of report_by number run_count world outcome h kept old new
+  pub gives : WorkGives env words files h r
 
 -- ---- the writing
 

@@ -4,6 +4,7 @@ ghost use Rattle.std.specs.Prelude.{◌≡◌, ℕ, ◌≤◌, List, IfErr, map,
 ghost use Rattle.std.specs.declared.option.Option.{Option};
 ghost use Rattle.nf_host.specs.Faults.{Rose};
 ghost use Rattle.nf_host.specs.Files.{Files};
+ghost use Rattle.nf_forms.specs.Values.{OverBuilt};
 ghost use Rattle.nf_cli.specs.Ends.{end_of_usage};
 ghost use Rattle.nf_cli.specs.Means.{file_of};
 ghost use Rattle.nf_cli.specs.Due.{OnHostFault, Tells};
@@ -11,6 +12,7 @@ ghost use Rattle.nf_cli.specs.Work.{FileGives, Gives, IsEarly, TellsAt};
 
 use crate::ends::End;
 use crate::texts::{Request, request_of_text};
+use nf_builtins::Natives;
 use nf_host::{Host, HostRefusal, Whole, read_whole};
 use nf_lexer::LexFault;
 use nf_words::{Command, UsageFault, read_words};
@@ -24,38 +26,42 @@ pub const SCRIPT_LIMIT: u64 = 1_048_576;
 /// # Errors
 ///
 /// The end of a call that has no such script.
-pub fn request_of_words<H: Host>(
+pub fn request_of_words<H: Host, N: Natives>(
     alloc: Global,
     words: &[String],
     host: &mut H,
+    natives: &N,
 ) -> Result<Request, End>
+    requires { N.keeps natives.now }
     ensures later { H.faults host.old ≤ H.faults host.new }
     ensures files { H.files host.new ≡ H.files host.old }
     ensures early { IfErr result IsEarly }
     ensures cause { IfErr result (λ e. OnHostFault e (Rose (H.faults host.old) (H.faults host.new))) }
-    ensures gives { (f : Files) × Tells (H.files host.old) f × Gives (map string_bytes words.now) f result }
+    ensures gives { (f : Files) × Tells (H.files host.old) f × OverBuilt (N.titles natives.now) (N.answer natives.now) (λ env. Gives env (map string_bytes words.now) f result) }
 {
     match read_words(alloc, words) {
-        Ok(command) => request_of_command(alloc, &command, host),
+        Ok(command) => request_of_command(alloc, &command, host, natives),
         Err(fault) => Err(usage_end(fault)),
     }
 }
 
 /// What a command asks for.
-fn request_of_command<H: Host>(
+fn request_of_command<H: Host, N: Natives>(
     alloc: Global,
     command: &Command,
     host: &mut H,
+    natives: &N,
 ) -> Result<Request, End>
+    requires { N.keeps natives.now }
     ensures later { H.faults host.old ≤ H.faults host.new }
     ensures files { H.files host.new ≡ H.files host.old }
     ensures cause { IfErr result (λ e. OnHostFault e (Rose (H.faults host.old) (H.faults host.new))) }
     ensures early { IfErr result IsEarly }
-    ensures gives { (held : Option (List ℕ)) × TellsAt (H.files host.old) (file_of command.now) held × FileGives command.now held result }
+    ensures gives { (held : Option (List ℕ)) × TellsAt (H.files host.old) (file_of command.now) held × OverBuilt (N.titles natives.now) (N.answer natives.now) (λ env. FileGives env command.now held result) }
 {
     match command {
-        Command::Run(run) => request_of_file(alloc, command, run.file.as_str(), host),
-        Command::Fmt(fmt) => request_of_file(alloc, command, fmt.file.as_str(), host),
+        Command::Run(run) => request_of_file(alloc, command, run.file.as_str(), host, natives),
+        Command::Fmt(fmt) => request_of_file(alloc, command, fmt.file.as_str(), host, natives),
     }
 }
 
@@ -69,22 +75,24 @@ fn usage_end(fault: UsageFault) -> End
 }
 
 /// What a command asks of the script of a file.
-fn request_of_file<H: Host>(
+fn request_of_file<H: Host, N: Natives>(
     alloc: Global,
     command: &Command,
     file: &str,
     host: &mut H,
+    natives: &N,
 ) -> Result<Request, End>
+    requires { N.keeps natives.now }
     ensures later { H.faults host.old ≤ H.faults host.new }
     ensures files { H.files host.new ≡ H.files host.old }
     ensures cause { IfErr result (λ e. OnHostFault e (Rose (H.faults host.old) (H.faults host.new))) }
     ensures early { IfErr result IsEarly }
-    ensures gives { (held : Option (List ℕ)) × TellsAt (H.files host.old) file.now held × FileGives command.now held result }
+    ensures gives { (held : Option (List ℕ)) × TellsAt (H.files host.old) file.now held × OverBuilt (N.titles natives.now) (N.answer natives.now) (λ env. FileGives env command.now held result) }
 {
     match read_whole(alloc, host, file, SCRIPT_LIMIT) {
         Ok(Whole::Absent) => Err(End::NoScript),
         Ok(Whole::TooLong) => Err(End::Lex(LexFault::ScriptTooLong)),
-        Ok(Whole::Bytes(text)) => request_of_text(alloc, command, text.items()),
+        Ok(Whole::Bytes(text)) => request_of_text(alloc, command, text.items(), natives),
         Err(HostRefusal::Failed) => Err(End::HostFault),
         Err(HostRefusal::Mem) => Err(End::Mem),
     }

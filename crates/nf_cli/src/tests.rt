@@ -2,11 +2,15 @@
 
 mod tasks;
 
+ghost use Rattle.std.specs.Prelude.{◌≡◌, ◌<◌, ◌^◌, All, length};
+ghost use Rattle.nf_builtins.specs.Natives.{AnswersNative, program_answer};
+
 use crate::{End, ItemCause, NfEnd, nf_main};
-use nf_host::{MemHost, MemSink};
+use nf_builtins::{CallFault, ProgramBook, StoredNatives, program_names, program_native};
+use nf_host::{Host, MemHost, MemSink, Sink};
 use nf_lane::Lane;
 use nf_parser::ParseFault;
-use nf_value::{Value, text_of};
+use nf_value::{Mem, Vals, Value, text_of};
 use std::alloc::{AllocError, Global};
 use std::fmt::Write;
 use std::test::Fail;
@@ -94,6 +98,38 @@ const ROWS: &[Row] = &[
         "0 Ok",
         "-9223372036854775808\nexecuted 0 cached 0\n",
     ),
+    (
+        RUN,
+        Some("workflow { channel.of(-1).map { it }.view() }"),
+        None,
+        None,
+        "0 Ok",
+        "-1\nexecuted 0 cached 0\n",
+    ),
+    (
+        RUN,
+        Some("workflow { channel.of(1 /* a */).map { 'it' }.view() } // b"),
+        None,
+        None,
+        "0 Ok",
+        "it\nexecuted 0 cached 0\n",
+    ),
+    (
+        RUN,
+        Some("workflow { channel.of(7).map { zeroPad(it, 3) }.view() }"),
+        None,
+        None,
+        "0 Ok",
+        "007\nexecuted 0 cached 0\n",
+    ),
+    (
+        RUN,
+        Some("workflow { channel.of([b: [], a: 1], [:]).map { it }.view() }"),
+        None,
+        None,
+        "0 Ok",
+        "[:]\n[a:1, b:[]]\nexecuted 0 cached 0\n",
+    ),
     // Items with a fault: the first item in the text, and its first fault from the left, operands before their mark.
     (
         RUN,
@@ -147,6 +183,38 @@ const ROWS: &[Row] = &[
         "1 ItemFault at 1:42",
         "error: 1:42: Overflow on 1\n",
     ),
+    (
+        RUN,
+        Some("workflow { channel.of(1, 0).map { 10.intdiv(it) }.view() }"),
+        None,
+        None,
+        "1 ItemFault at 1:38",
+        "error: 1:38: DivZero on 0\n",
+    ),
+    (
+        RUN,
+        Some("workflow { channel.of([1, 'a'], [:]).map { it.size() + it.x }.view() }"),
+        None,
+        None,
+        "1 ItemFault at 1:59",
+        "error: 1:59: NoProperty on [1, a]\n",
+    ),
+    (
+        RUN,
+        Some("workflow { channel.of(1).map { a, b -> a }.view() }"),
+        None,
+        None,
+        "1 ItemFault at 1:30",
+        "error: 1:30: Arity on 1\n",
+    ),
+    (
+        RUN,
+        Some("workflow { channel.of('x').map { clamp(it, 1, 2) }.view() }"),
+        None,
+        None,
+        "1 ItemFault at 1:34",
+        "error: 1:34: Native on x\n",
+    ),
     // Texts that aren't of the form.
     (
         RUN,
@@ -171,22 +239,6 @@ const ROWS: &[Row] = &[
         None,
         "3 Parse Unexpected at 5:3",
         "error: 5:3: Unexpected\n",
-    ),
-    (
-        RUN,
-        Some("workflow { channel.of(-1).map { it }.view() }"),
-        None,
-        None,
-        "3 Unbuilt at 1:23",
-        "error: 1:23: Unbuilt\n",
-    ),
-    (
-        RUN,
-        Some("workflow { channel.of(1 /* a */).map { 'it' }.view() } // b"),
-        None,
-        None,
-        "3 Unbuilt at 1:40",
-        "error: 1:40: Unbuilt\n",
     ),
     // Texts whose tokens spell no script.
     (
@@ -473,8 +525,6 @@ fn fronts_of_a_script(rt: HostRuntime) -> Result<(), Fail> {
 
 /// Scripts of no form that is built, and the place.
 const UNBUILT: &[(&str, &str)] = &[
-    ("workflow { channel.of('a').map { it }.view() }", "1:23"),
-    ("workflow { channel.of(1 + 2).map { it }.view() }", "1:25"),
     ("workflow { channel.of(x: 1).map { it }.view() }", "1:23"),
     ("workflow { channel.of().map { it }.view() }", "1:20"),
     ("workflow { channel.of(1).view() }", "1:26"),
@@ -482,21 +532,30 @@ const UNBUILT: &[(&str, &str)] = &[
     ("workflow { channel.of(1).map { it } }", "1:12"),
     ("workflow { channel.of(1).map { it }.view }", "1:37"),
     ("workflow { channel.of(1).map { it }.view(1) }", "1:37"),
-    ("workflow { channel.of(1).map { it -> it }.view() }", "1:30"),
-    ("workflow { channel.of(1).map { it % 2 }.view() }", "1:35"),
-    ("workflow { channel.of(1).map { it; it }.view() }", "1:36"),
+    ("workflow { channel.of(1..3).map { it }.view() }", "1:24"),
+    ("workflow { channel.of(a..3).map { it }.view() }", "1:23"),
+    ("workflow { channel.of(1..a).map { it }.view() }", "1:24"),
+    ("workflow { channel.of({ a }).map { it }.view() }", "1:23"),
+    ("workflow { channel.of(1, a).map { it }.view() }", "1:26"),
     (
-        "workflow { channel.of(1).map { it ? 1 : 2 }.view() }",
-        "1:35",
+        "workflow { channel.of(1, 10.intdiv(0), a).map { it }.view() }",
+        "1:29",
     ),
+    ("workflow { channel.of(f(1)).map { it }.view() }", "1:23"),
+    ("workflow { channel.of(1).map { it + a }.view() }", "1:37"),
+    ("workflow { channel.of(1).map { f(it) }.view() }", "1:32"),
+    ("workflow { channel.of(1).map { a = it }.view() }", "1:32"),
     (
-        "workflow { channel.of(1).map { (it + 1).x }.view() }",
+        "workflow { channel.of('a').map { it ==~ ~/(/ }.view() }",
         "1:41",
     ),
     (
-        "workflow { channel.of(1).map { return it }.view() }",
-        "1:32",
+        "workflow { channel.of('a' ==~ '(').map { a }.view() }",
+        "1:31",
     ),
+    ("workflow { channel.of(1).map { a: it }.view() }", "1:32"),
+    ("workflow { channel.of(1).map(it).view() }", "1:30"),
+    ("workflow { channel.of(1).map({ it }, 1).view() }", "1:26"),
     ("workflow { channel ? 1 : 2 }", "1:20"),
     (
         "workflow { channel.of(1).map { it }.view()\nchannel.of(1) }",
@@ -528,10 +587,6 @@ const UNBUILT: &[(&str, &str)] = &[
     (
         "process P { input: val x; output: stdout; script: \"echo $x\" }\nworkflow { P(channel.of(1), 2).view() }",
         "2:12",
-    ),
-    (
-        "process P { input: val x; output: stdout; script: \"echo $x\" }\nworkflow { P(channel.of(\"a\")).view() }",
-        "2:25",
     ),
     (
         "process P { input: val x; output: stdout; script: \"echo $x\" }\nprocess P { input: val x; output: stdout; script: \"echo $x\" }\nworkflow { P(channel.of(1)).view() }",
@@ -590,6 +645,29 @@ const SPELLINGS: &[(&str, &str)] = &[
     (
         "workflow { (channel.of(1)).map { 10 - (it + 2) - 3 }.view() }",
         "4\n",
+    ),
+    ("workflow { channel.of('a').map { it }.view() }", "a\n"),
+    ("workflow { channel.of(1 + 2).map { it }.view() }", "3\n"),
+    ("workflow { channel.of(1).map { it -> it }.view() }", "1\n"),
+    ("workflow { channel.of(3).map { it % 2 }.view() }", "1\n"),
+    ("workflow { channel.of(1).map { it; it }.view() }", "1\n"),
+    (
+        "workflow { channel.of(1).map { it ? 1 : 2 }.view() }",
+        "1\n",
+    ),
+    ("workflow { channel.of(1).map { return it }.view() }", "1\n"),
+    ("workflow { channel.of(1).map { }.view() }", "null\n"),
+    (
+        "workflow { channel.of([1, 2]).map { a, b -> a + b }.view() }",
+        "3\n",
+    ),
+    (
+        "workflow { channel.of('abc', 'abcd').map { it ==~ ~/a.c/ }.view() }",
+        "false\ntrue\n",
+    ),
+    (
+        "workflow { channel.of((1..3)[0], [1, 2].collect { it + 1 }).map { def x = it; \"$x\" }.view() }",
+        "1\n[2, 3]\n",
     ),
 ];
 
@@ -748,8 +826,29 @@ fn called(
 ) -> Result<String, Fail> {
     let lanes = idle_lanes(alloc)?;
     let list = listed(alloc, words)?;
-    let end = nf_main(alloc, &list, host, lanes, sink);
+    let end = main_with(alloc, &list, host, lanes, sink)?;
     shown(alloc, &end)
+}
+
+/// Makes the call with the program's functions.
+fn main_with<H: Host, L: Lane + Drop, O: Sink>(
+    alloc: Global,
+    words: &[String],
+    host: &mut H,
+    lanes: Vec<L>,
+    out: &mut O,
+) -> Result<NfEnd<L>, Mem>
+    requires lanes { length lanes.items ≡ 16 }
+    requires room { All (λ l. L.runs l < 2 ^ 62) lanes.items }
+{
+    let natives = StoredNatives::new(
+        program_names(alloc)?,
+        ProgramBook,
+        |alloc: Global, id: u32, args: &Vals| -> Result<Value, CallFault>
+            ensures { AnswersNative (program_answer id args.entry.now) result }
+        { program_native(alloc, id, args) },
+    );
+    Ok(nf_main(alloc, words, host, &natives, lanes, out))
 }
 
 fn listed(alloc: Global, words: &[&str]) -> Result<Vec<String>, AllocError> {

@@ -2,6 +2,7 @@
 
 ghost use Rattle.std.specs.Prelude.{◌≡◌};
 ghost use Rattle.nf_ast.specs.Tops.{view_script};
+ghost use Rattle.nf_forms.specs.Values.{OverBuilt};
 ghost use Rattle.nf_forms.specs.Form.{form_of};
 ghost use Rattle.nf_cli.specs.Ends.{end_of_lex, end_of_parse};
 ghost use Rattle.nf_cli.specs.Reads.{Asks, ReadsScript, Plans, end_of_form, end_of_script};
@@ -9,6 +10,7 @@ ghost use Rattle.nf_cli.specs.Work.{TextGives};
 
 use crate::ends::End;
 use nf_ast::Script;
+use nf_builtins::Natives;
 use nf_forms::{FormFault, Plan, plan_of};
 use nf_lexer::{LexFault, tokens};
 use nf_parser::{ParseFault, script};
@@ -39,11 +41,17 @@ pub enum ScriptFault {
 /// `Lex` exactly where the text breaks a rule of the tokens, with the first that is broken; `Parse` exactly where its tokens spell no
 /// script, with the place; `Unbuilt` exactly where its script is to be run and is of no form that is built, with the place; `Mem` where
 /// there is no memory.
-pub fn request_of_text(alloc: Global, command: &Command, text: &[u8]) -> Result<Request, End>
-    ensures gives { TextGives command.now text.now result }
+pub fn request_of_text<N: Natives>(
+    alloc: Global,
+    command: &Command,
+    text: &[u8],
+    natives: &N,
+) -> Result<Request, End>
+    requires { N.keeps natives.now }
+    ensures gives { OverBuilt (N.titles natives.now) (N.answer natives.now) (λ env. TextGives env command.now text.now result) }
 {
     match read_script(alloc, text) {
-        Ok(script) => request_of_script(alloc, command, script),
+        Ok(script) => request_of_script(alloc, command, script, natives),
         Err(fault) => Err(script_end(fault)),
     }
 }
@@ -71,12 +79,18 @@ fn read_script(alloc: Global, text: &[u8]) -> Result<Script, ScriptFault>
 }
 
 /// What a command asks of a script.
-fn request_of_script(alloc: Global, command: &Command, script: Script) -> Result<Request, End>
-    ensures { Asks command.now (view_script script) result }
+fn request_of_script<N: Natives>(
+    alloc: Global,
+    command: &Command,
+    script: Script,
+    natives: &N,
+) -> Result<Request, End>
+    requires { N.keeps natives.now }
+    ensures { OverBuilt (N.titles natives.now) (N.answer natives.now) (λ env. Asks env command.now (view_script script) result) }
 {
     match command {
         Command::Run(_) => {
-            let plan = plan_of_script(alloc, &script)?;
+            let plan = plan_of_script(alloc, &script, natives)?;
             Ok(Request::Run(plan))
         }
         Command::Fmt(_) => Ok(Request::Format(script)),
@@ -84,10 +98,11 @@ fn request_of_script(alloc: Global, command: &Command, script: Script) -> Result
 }
 
 /// The plan of a script.
-fn plan_of_script(alloc: Global, script: &Script) -> Result<Plan, End>
-    ensures { Plans (form_of (view_script script.now)) result }
+fn plan_of_script<N: Natives>(alloc: Global, script: &Script, natives: &N) -> Result<Plan, End>
+    requires { N.keeps natives.now }
+    ensures { OverBuilt (N.titles natives.now) (N.answer natives.now) (λ env. Plans env (form_of env (view_script script.now)) result) }
 {
-    match plan_of(alloc, script) {
+    match plan_of(alloc, script, natives) {
         Ok(plan) => Ok(plan),
         Err(fault) => Err(form_end(fault)),
     }

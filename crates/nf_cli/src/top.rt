@@ -5,12 +5,14 @@ ghost use Rattle.nf_host.specs.Faults.{Rose};
 ghost use Rattle.nf_host.specs.Files.{Files};
 ghost use Rattle.nf_core.specs.Machine.{starts};
 ghost use Rattle.nf_run.specs.Run.{NoneFell, OneRose};
+ghost use Rattle.nf_forms.specs.Values.{OverBuilt};
 ghost use Rattle.nf_cli.specs.Ends.{status_of};
 ghost use Rattle.nf_cli.specs.Due.{EndsOver, FmtRunsNothing, OnHostFault, OnLaneFault, OnSinkFault, Tells, WroteLine};
 
 use crate::ends::NfEnd;
 use crate::works::{Work, work_of_words};
 use crate::writes::write;
+use nf_builtins::Natives;
 use nf_host::{Host, Sink};
 use nf_lane::Lane;
 use std::alloc::Global;
@@ -25,29 +27,33 @@ pub const LANES: usize = 16;
 /// `fmt` runs nothing: it writes the canonical text of the script in one write, and of an empty text nothing. It takes each script
 /// of the language, also where `run` doesn't.
 ///
-/// What is said of a script stands over the files that the host tells, and over some files where it tells none; what is said
+/// The functions that the program adds to the language of scripts are handed in: a script's expressions find these and no other names.
+///
+/// What is said of a script stands over the files that the host tells, and over some files where it tells none, and over some patterns that `regex` built: which it refuses for their size no contract says; what is said
 /// of written bytes stands where the sink tells them, and that a report is the lane's world's where the lane tells it. Want
 /// of memory may end any call (`End::Mem`); then nothing was written.
-pub fn nf_main<H: Host, L: Lane, O: Sink>(
+pub fn nf_main<H: Host, N: Natives, L: Lane, O: Sink>(
     alloc: Global,
     words: &[String],
     host: &mut H,
+    natives: &N,
     lanes: Vec<L>,
     out: &mut O,
 ) -> NfEnd<L>
+    requires natives { N.keeps natives.now }
     requires lanes { length lanes.items ≡ 16 }
     requires room { All (λ l. L.runs l < 2 ^ 62) lanes.items }
 
     // The status is that of the end.
     ensures status { result.status ≡ status_of result.end }
 
-    // There are files, those of the host where it tells them, over which the call ends, runs and writes as is due:
+    // There are files, those of the host where it tells them, and patterns that `regex` built, over which the call ends, runs and writes as is due:
     // the end is that of the words over the files and of the history's outcomes, and has its cause; whatever they come to is
     // how the call ends, unless the host failed or memory ran out; the history is lawful, each Start has one run of a lane and
     // each Finish a job of its own that was run, with its report; a stop of the history is the end; and what was written is
     // the report of what the script means under the history's outcomes, with the count of its Start events, or, of `fmt`, the
     // canonical text of the tree that its tokens spell.
-    ensures over { (f : Files) × Tells (H.files host.old) f × EndsOver L.Done.genuine L.Done.job L.Done.told L.Done.number L.runs L.world (map string_bytes words.now) f result.history.items result.kept.dones.items lanes.items result.lanes.items (O.written out.old) (O.written out.new) result.end }
+    ensures over { (f : Files) × Tells (H.files host.old) f × OverBuilt (N.titles natives.now) (N.answer natives.now) (λ env. EndsOver env L.Done.genuine L.Done.job L.Done.told L.Done.number L.runs L.world (map string_bytes words.now) f result.history.items result.kept.dones.items lanes.items result.lanes.items (O.written out.old) (O.written out.new) result.end) }
     // After each end but Ok, SinkFault and Mem its error line was written, or a front of it where the sink failed; after Mem
     // nothing.
     ensures line { IfSome (O.written out.old) (λ before. IfSome (O.written out.new) (λ after. WroteLine result.end (Rose (O.faults out.old) (O.faults out.new)) before after)) }
@@ -76,7 +82,7 @@ pub fn nf_main<H: Host, L: Lane, O: Sink>(
         history,
         kept,
         outcome,
-    } = work_of_words(alloc, words, host, &mut lanes);
+    } = work_of_words(alloc, words, host, natives, &mut lanes);
     let end = write(alloc, out, outcome);
     NfEnd {
         status: end.status(),

@@ -4,6 +4,7 @@ ghost use Rattle.std.specs.Prelude.{◌≡◌, ◌+◌, ◌<◌, ◌≤◌, ◌^
 ghost use Rattle.nf_host.specs.Faults.{Rose};
 ghost use Rattle.nf_host.specs.Files.{Files};
 ghost use Rattle.nf_ast.specs.Tops.{view_script};
+ghost use Rattle.nf_forms.specs.Values.{OverBuilt};
 ghost use Rattle.nf_forms.specs.View.{view_plan};
 ghost use Rattle.nf_core.specs.Machine.{starts as starts_of};
 ghost use Rattle.nf_run.specs.Run.{NoneFell, OneRose};
@@ -18,6 +19,7 @@ use crate::report::report;
 use crate::scripts::request_of_words;
 use crate::texts::Request;
 use nf_ast::Script;
+use nf_builtins::Natives;
 use nf_core::Event;
 use nf_forms::Plan;
 use nf_host::Host;
@@ -48,15 +50,17 @@ pub struct Work<L: Lane> {
 }
 
 /// Reads the script that the words name, does over the lanes what they ask of it, and makes the texts to be written.
-pub fn work_of_words<H: Host, L: Lane>(
+pub fn work_of_words<H: Host, N: Natives, L: Lane>(
     alloc: Global,
     words: &[String],
     host: &mut H,
+    natives: &N,
     lanes: &mut Vec<L>,
 ) -> Work<L>
+    requires natives { N.keeps natives.now }
     requires some { 1 ≤ length lanes.old.items }
     requires room { All (λ l. L.runs l < 2 ^ 62) lanes.old.items }
-    ensures worked { (f : Files) × Tells (H.files host.old) f × HasWorked L.Done.genuine L.Done.job L.Done.told L.Done.number L.runs L.world (map string_bytes words.now) f result.history.items result.kept.dones.items lanes.old.items lanes.new.items result.outcome }
+    ensures worked { (f : Files) × Tells (H.files host.old) f × OverBuilt (N.titles natives.now) (N.answer natives.now) (λ env. HasWorked env L.Done.genuine L.Done.job L.Done.told L.Done.number L.runs L.world (map string_bytes words.now) f result.history.items result.kept.dones.items lanes.old.items lanes.new.items result.outcome) }
     ensures idle { FmtRunsNothing (map string_bytes words.now) result.history.items result.kept.dones.items lanes.old.items lanes.new.items }
     ensures refusal { IfErr result.outcome IsRefusal }
     ensures runs { sum_by L.runs lanes.new.items ≡ sum_by L.runs lanes.old.items + starts_of result.history.items }
@@ -68,8 +72,8 @@ pub fn work_of_words<H: Host, L: Lane>(
     ensures files { H.files host.new ≡ H.files host.old }
 {
     laws::nothing_is_booked(lanes.as_slice());
-    match request_of_words(alloc, words, host) {
-        Ok(request) => work_of_request(alloc, &request, lanes),
+    match request_of_words(alloc, words, host, natives) {
+        Ok(request) => work_of_request(alloc, &request, natives, lanes),
         Err(end) => nothing_ran(alloc, Err(end)),
     }
 }
@@ -90,10 +94,16 @@ fn nothing_ran<L: Lane>(alloc: Global, outcome: Result<Output, End>) -> Work<L>
 }
 
 /// Does what is asked for, and makes the texts to be written.
-fn work_of_request<L: Lane>(alloc: Global, request: &Request, lanes: &mut Vec<L>) -> Work<L>
+fn work_of_request<N: Natives, L: Lane>(
+    alloc: Global,
+    request: &Request,
+    natives: &N,
+    lanes: &mut Vec<L>,
+) -> Work<L>
+    requires natives { N.keeps natives.now }
     requires some { 1 ≤ length lanes.old.items }
     requires room { All (λ l. L.runs l < 2 ^ 62) lanes.old.items }
-    ensures done { HasDone L.Done.genuine L.Done.job L.Done.told L.Done.number L.runs L.world (outcome_of request.now) result.history.items result.kept.dones.items lanes.old.items lanes.new.items result.outcome }
+    ensures done { HasDone L.Done.genuine L.Done.job L.Done.told L.Done.number L.runs L.world (outcome_of (N.titles natives.now) (N.answer natives.now) request.now) result.history.items result.kept.dones.items lanes.old.items lanes.new.items result.outcome }
     ensures refusal { IfErr result.outcome IsRefusal }
     ensures no_host { IfErr result.outcome (λ e. OnHostFault e ⊥) }
     ensures runs { sum_by L.runs lanes.new.items ≡ sum_by L.runs lanes.old.items + starts_of result.history.items }
@@ -103,7 +113,7 @@ fn work_of_request<L: Lane>(alloc: Global, request: &Request, lanes: &mut Vec<L>
 {
     laws::nothing_is_booked(lanes.as_slice());
     match request {
-        Request::Run(plan) => work_of_plan(alloc, plan, lanes),
+        Request::Run(plan) => work_of_plan(alloc, plan, natives, lanes),
         Request::Format(script) => nothing_ran(alloc, text_or_end(alloc, script)),
     }
 }
@@ -119,10 +129,16 @@ fn text_or_end(alloc: Global, script: &Script) -> Result<Output, End>
 }
 
 /// Runs a plan, and makes the texts to be written.
-fn work_of_plan<L: Lane>(alloc: Global, plan: &Plan, lanes: &mut Vec<L>) -> Work<L>
+fn work_of_plan<N: Natives, L: Lane>(
+    alloc: Global,
+    plan: &Plan,
+    natives: &N,
+    lanes: &mut Vec<L>,
+) -> Work<L>
+    requires natives { N.keeps natives.now }
     requires some { 1 ≤ length lanes.old.items }
     requires room { All (λ l. L.runs l < 2 ^ 62) lanes.old.items }
-    ensures done { HasDone L.Done.genuine L.Done.job L.Done.told L.Done.number L.runs L.world (runs (view_plan plan.now)) result.history.items result.kept.dones.items lanes.old.items lanes.new.items result.outcome }
+    ensures done { HasDone L.Done.genuine L.Done.job L.Done.told L.Done.number L.runs L.world (runs (view_plan (N.titles natives.now) (N.answer natives.now) plan.now)) result.history.items result.kept.dones.items lanes.old.items lanes.new.items result.outcome }
     ensures refusal { IfErr result.outcome IsRefusal }
     ensures no_host { IfErr result.outcome (λ e. OnHostFault e ⊥) }
     ensures runs { sum_by L.runs lanes.new.items ≡ sum_by L.runs lanes.old.items + starts_of result.history.items }
@@ -134,7 +150,7 @@ fn work_of_plan<L: Lane>(alloc: Global, plan: &Plan, lanes: &mut Vec<L>) -> Work
         history,
         kept,
         outcome,
-    } = run_plan(alloc, plan, lanes);
+    } = run_plan(alloc, plan, natives, lanes);
     let outcome = output_or_end(alloc, outcome, &history);
     Work {
         history,

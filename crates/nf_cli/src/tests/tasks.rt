@@ -4,8 +4,8 @@ ghost use Rattle.std.specs.Prelude.{◌≡◌, ◌<◌, ◌^◌, All, IfOk, leng
 ghost use Rattle.nf_lane.specs.TableLane.{runs_of as table_runs};
 ghost use Rattle.nf_lane.specs.ChildLane.{runs_of as child_runs};
 
-use super::{RUN, host_with, listed, shown};
-use crate::{LANES, nf_main};
+use super::{RUN, host_with, listed, main_with, shown};
+use crate::LANES;
 use nf_core::Event;
 use nf_host::MemSink;
 use nf_job::{Captured, Found, Report};
@@ -239,7 +239,7 @@ fn ran<L: Lane + Drop>(
     )?;
     let mut host = host_with(alloc, Some(text.as_bytes()))?;
     let words = listed(alloc, RUN)?;
-    let end = nf_main(alloc, &words, &mut host, lanes, sink);
+    let end = main_with(alloc, &words, &mut host, lanes, sink)?;
     Ok(Run {
         end: shown(alloc, &end)?,
         events: letters(alloc, &end.history)?,
