@@ -2,11 +2,14 @@
 #![tactic(auto)]
 
 ghost use Rattle.std.specs.Prelude.{◌≡◌, ◌<◌, ◌^◌, All, IfOk, length};
+ghost use Rattle.nf_builtins.specs.Natives.{AnswersNative, program_answer};
 ghost use Rattle.nf_lane.specs.ChildLane.{runs_of};
 
+use nf_builtins::{CallFault, Natives, ProgramBook, StoredNatives, program_names, program_native};
 use nf_cli::{LANES, nf_main};
 use nf_host::{FsHost, Host, Sink, StdSink};
 use nf_lane::{ChildLane, Lane};
+use nf_value::{Vals, Value};
 use std::alloc::{AllocError, Global};
 use std::process::{ExitCode, Processes};
 use std::{env, io};
@@ -41,22 +44,34 @@ fn main(rt: HostRuntime) -> ExitCode {
     let Ok(lanes) = lanes(alloc, &rt) else {
         return ExitCode::from(NO_MEMORY);
     };
+    let Ok(names) = program_names(alloc) else {
+        return ExitCode::from(NO_MEMORY);
+    };
+    let natives = StoredNatives::new(
+        names,
+        ProgramBook,
+        |alloc: Global, id: u32, args: &Vals| -> Result<Value, CallFault>
+            ensures { AnswersNative (program_answer id args.entry.now) result }
+        { program_native(alloc, id, args) },
+    );
     let mut host = FsHost::new(&rt);
-    ExitCode::from(status(alloc, &words, &mut host, lanes, &mut out))
+    ExitCode::from(status(alloc, &words, &mut host, &natives, lanes, &mut out))
 }
 
 /// Makes the call, and gives its status.
-fn status<H: Host, L: Lane + Drop, O: Sink>(
+fn status<H: Host, N: Natives, L: Lane + Drop, O: Sink>(
     alloc: Global,
     words: &[String],
     host: &mut H,
+    natives: &N,
     lanes: Vec<L>,
     out: &mut O,
 ) -> u8
+    requires natives { N.keeps natives.now }
     requires count { length lanes.items ≡ 16 }
     requires room { All (λ l. L.runs l < 2 ^ 62) lanes.items }
 {
-    nf_main(alloc, words, host, lanes, out).status
+    nf_main(alloc, words, host, natives, lanes, out).status
 }
 
 /// The lanes of a call, each over the system's processes.
