@@ -1,0 +1,3 @@
+workflow {
+    channel.of([b: [], a: 1], [:]).map { it }.view()
+}

@@ -1,0 +1,3 @@
+workflow {
+    channel.of(7).map { zeroPad(it, 3) }.view()
+}
