@@ -1,4 +1,3 @@
-pub mod Operands
 pub mod Worked
 pub mod Names
 pub mod Evaluating

@@ -19,10 +19,6 @@ mod reading;
 mod scope;
 mod shapes;
 mod subjects;
-mod sums;
-#[cfg(test)]
-mod tests;
-mod tree;
 mod turns;
 mod values;
 
@@ -30,5 +26,3 @@ pub use closures::Closure;
 pub use environment::Env;
 pub use evaluator::{apply, eval};
 pub use scope::Scope;
-pub use sums::sum;
-pub use tree::{Operand, Sum, SumMark};
