@@ -1,9 +1,10 @@
 //! Reaches layers that the program doesn't reach yet. `nf_bench OPERATION COUNT` does one operation on a list of COUNT numbers, or on
-//! a text that repeats a few bytes COUNT times, or pushes COUNT items into an operator (COUNT pairs into `join`). It prints what came
-//! of it, and on standard error how many microseconds the operation took. `nf_bench codes` reads codes of values from standard input,
+//! a text that repeats a few bytes COUNT times, or pushes COUNT items into an operator (COUNT pairs into `join`), or maps lists of COUNT
+//! numbers by a closure. It prints what came of it, and on standard error how many microseconds the operation took. `nf_bench codes` reads codes of values from standard input,
 //! one a line, and prints what they say.
 #![tactic(auto)]
 
+mod closures;
 mod operators;
 mod table;
 
@@ -32,6 +33,7 @@ fn run<R: Env + Clock + AllocGlobal + Input + Print + Eprint>(rt: &R) -> Result<
         "lex-brackets" => lex(rt, "({[", count),
         "unique" => operators::unique(rt, count),
         "join" => operators::join(rt, count),
+        "closure" => closures::closure(rt, count),
         "lex-strings" => lex(rt, "'\\u0041' \"$a.b\" /* c */\n", count),
         operation => values(rt, operation, numbers(rt.alloc(), count)?),
     }

@@ -1,0 +1,87 @@
+//! Times a closure on the items of a list.
+
+ghost use Rattle.nf_builtins.specs.Natives.{AnswersNative, program_answer};
+
+use crate::{numbers, took};
+use anyhow::{Result, bail};
+use nf_ast::Expr;
+use nf_builtins::{CallFault, Natives, ProgramBook, StoredNatives, program_names, program_native};
+use nf_eval::{Closure, Env, apply};
+use nf_value::{EvalRefusal, Mem, Vals, Value};
+use std::alloc::Global;
+use std::rt::Clock;
+use std::time::Instant;
+
+/// How often the closure is applied in all, whatever the length of the list.
+const CALLS: u32 = 10000;
+
+/// Maps a list of so many numbers by `{ it * 3 + 1 }`, so often that the closure is applied about 10,000 times.
+pub fn closure<R: Clock + AllocGlobal + Print + Eprint>(rt: &R, count: u32) -> Result<()> {
+    let alloc = rt.alloc();
+    let closure = read(alloc)?;
+    let natives = StoredNatives::new(
+        program_names(alloc)?,
+        ProgramBook,
+        |alloc: Global, id: u32, args: &Vals| -> Result<Value, CallFault>
+            ensures { AnswersNative (program_answer id args.entry.now) result }
+        { program_native(alloc, id, args) },
+    );
+    let items = numbers(alloc, count)?;
+    let start = Instant::now(rt)?;
+    let mapped = all_mapped(alloc, &items, CALLS / count.max(1), &closure, &natives);
+    took(rt, start)?;
+    match mapped {
+        Ok(len) => println!(rt; "images {len}")?,
+        Err(_) => bail!("no images"),
+    }
+    Ok(())
+}
+
+/// The closure as a script has it.
+fn read(alloc: Global) -> Result<Closure> {
+    let Ok(tokens) = nf_lexer::tokens(alloc, b"{ it * 3 + 1 }") else {
+        bail!("no tokens");
+    };
+    match nf_exprs::expr(alloc, &tokens, 0) {
+        Ok((Expr::Closure(code), _)) => Ok(Closure::new(code, Env::new(alloc))),
+        _ => bail!("no closure"),
+    }
+}
+
+/// Maps a list so often, and gives how many images the last list has.
+fn all_mapped<N: Natives>(
+    alloc: Global,
+    items: &Vals,
+    rounds: u32,
+    closure: &Closure,
+    natives: &N,
+) -> Result<usize, EvalRefusal>
+    requires { N.keeps natives.now }
+{
+    let mut len = 0;
+    for _ in 0..rounds {
+        len = mapped(alloc, items, closure, natives)?.len();
+    }
+    Ok(len)
+}
+
+fn mapped<N: Natives>(
+    alloc: Global,
+    items: &Vals,
+    closure: &Closure,
+    natives: &N,
+) -> Result<Vec<Value>, EvalRefusal>
+    requires { N.keeps natives.now }
+{
+    let mut images = Vec::new(alloc);
+    for item in items.items() {
+        let args = one_argument(alloc, item)?;
+        images.push(apply(alloc, closure, &args, natives)?)?;
+    }
+    Ok(images)
+}
+
+fn one_argument(alloc: Global, item: &Value) -> Result<Vals, Mem> {
+    let item = item.copy()?;
+    Ok(Vals::of(vec![in alloc; item]?))
+}
