@@ -1,5 +1,5 @@
 -- What a run of a script comes to, by its history.
-use Rattle.std.specs.Prelude.{ℕ, ◌≡◌, ◌⊎◌, ◌≤◌, true, List, [], ◌∷◌, length, Option, None, Some, Result, Ok, Err}
+use Rattle.std.specs.Prelude.{ℕ, ◌≡◌, ◌⊎◌, ◌≤◌, List, [], ◌∷◌, Option, None, Some, Result, Ok, Err}
 use Rattle.std.specs.List.{Contains}
 use Rattle.nf_value.specs.Plain.{Plain}
 use Rattle.nf_value.specs.View.{plain_of}
