@@ -49,7 +49,6 @@ use Rattle.nf_ast.specs.declared.expr.Arm.{Arm, the_lemmas as arm_lemmas}
 use Rattle.nf_eval.specs.declared.around.Around.{the_lemmas as around_lemmas}
 use Rattle.nf_eval.proofs.Stating.{splits_all, arm_flows, arms_refused, flows_on}
 use Rattle.nf_eval.proofs.Arms.{passed_by, gone_into, condition_refused, takes_step, takes_refused}
-
 use Rattle.nf_ast.specs.Tree as tree
 use Rattle.nf_eval.specs.declared.subjects.Subject.TheVariants as subject
 use Rattle.nf_value.specs.declared.value.Value.TheVariants as some_value
@@ -877,4 +876,3 @@ bodies::arms-returns g t0 c last =
     let env = with_names (names_of c.loop-arm.names) around in
     let none : drop k list ≡ [] = none_left list k c.loop-arm-test.false in
     sym (c.loop-arm.invariant last) ∙ ap (λ (l : List Arm). (meaning_of (choice (map view_arm l) last)).done env) none
-

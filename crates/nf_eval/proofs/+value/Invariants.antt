@@ -63,4 +63,3 @@ invariant-bodies::arms-loop-arm g l = (last : Tree) → (meaning_of (choice (map
 
 abbrev pub invariant-bodies::labels-loop-label : goal.invariant-bodies::labels-loop-label
 invariant-bodies::labels-loop-label g l = (meaning_of (trees (map view_label (drop l.label-index l.list)))).body (with_names (names_of l.names) (inside (seen l.around (g.N.Natives.titles l.natives) (g.N.Natives.answer l.natives)))) (plain_of l.last) ≡ (meaning_of (trees (map view_label l.list))).body (with_names (names_of l.names) (inside (seen l.around (g.N.Natives.titles l.natives) (g.N.Natives.answer l.natives)))) null
-

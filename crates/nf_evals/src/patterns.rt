@@ -1,0 +1,34 @@
+//! Patterns that rows match against.
+
+ghost use Rattle.std.specs.Prelude.{◌≡◌, IfOk};
+
+use anyhow::{Result, bail};
+use nf_bound::{Use, UseKind};
+use nf_eval::Env;
+use nf_pattern::WholeRe;
+use nf_value::Txt;
+use std::alloc::Global;
+
+/// Builds the patterns that are used.
+pub(crate) fn build_patterns(alloc: Global, uses: &[Use], env: &mut Env) -> Result<()> {
+    for used in uses {
+        match used.kind {
+            UseKind::Pattern => {
+                let re = built(alloc, &used.text)?;
+                env.add_pattern(used.text.copy()?, re)?;
+            }
+            _ => {}
+        }
+    }
+    Ok(())
+}
+
+/// The pattern of a text.
+pub(crate) fn built(alloc: Global, text: &Txt) -> Result<WholeRe>
+    ensures { IfOk result (λ re. re ≡ text.now) }
+{
+    match WholeRe::new(alloc, text.as_str()) {
+        Ok(re) => Ok(re),
+        Err(_) => bail!("no pattern"),
+    }
+}
