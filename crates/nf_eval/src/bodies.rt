@@ -154,6 +154,7 @@ pub(crate) fn statement<N: Natives>(
         Stmt::Println(_, _) => Ok(Step::Going(Value::Null)),
         Stmt::Log(_, _, _, _) => Ok(Step::Going(Value::Null)),
         Stmt::Expr(expr) => {
+            // By its contract the tree is that of an expression.
             is_block(expr);
             let value = crate::values::value(
                 alloc,
