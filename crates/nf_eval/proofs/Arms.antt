@@ -1,5 +1,5 @@
 -- The arms of a choice.
-use Rattle.std.proofs.Common.{◌≡◌, ◌∙◌, Bool, true, false, List, ◌∷◌, Ok, Err, refl, sym, ap, subst}
+use Rattle.std.proofs.Common.{◌≡◌, ◌∙◌, true, false, List, ◌∷◌, Ok, Err, sym, ap, subst}
 use Rattle.std.specs.Prelude.{Option, Some, Result}
 use Rattle.nf_value.specs.Plain.{Plain}
 use Rattle.nf_value.specs.Truth.{truth_of}

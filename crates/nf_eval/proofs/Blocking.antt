@@ -9,11 +9,10 @@ use Rattle.nf_value.specs.declared.fault.EvalRefusal.{EvalRefusal}
 use Rattle.nf_value.specs.declared.fault.EvalRefusal.TheVariants as refusal
 use Rattle.nf_marks.specs.Template.{listed}
 use Rattle.nf_calls.specs.declared.blocks.BlockMethod.{BlockMethod}
-use Rattle.nf_calls.specs.Placed.{Placed, ◌>>=◌, Evaluates}
+use Rattle.nf_calls.specs.Placed.{Placed, Evaluates}
 use Rattle.nf_calls.specs.Scope.{Env, function_in}
-use Rattle.nf_calls.specs.Calls.{Argument, plain, block, values_in, native_call, by_values, by_function, over_items, method_call, math_call, function_call, Callee, nothing, method, function, math, called}
+use Rattle.nf_calls.specs.Calls.{Argument, plain, block, values_in, by_values, by_function, over_items, method_call, math_call, Callee, method, function, math, called}
 use Rattle.nf_calls.specs.Blocks.{row_method, IsFaultOfBlocks}
-use Rattle.nf_eval.specs.Memory.{IsBare}
 
 pub function_of_blocks : (k : Callee) (p : Place) (n : List ℕ) (xs : List Argument) (env : Env) (r : EvalRefusal) → k ≡ function p n → values_in xs ≡ None → r ≡ refusal.Fault (record { kind = WrongKind; place = p }) → Evaluates (called k (λ e. Ok xs) env) (Err r)
 function_of_blocks k p n xs env r is none e =
@@ -51,8 +50,7 @@ method_of_values k v p n xs vs env s is some done = subst (λ (o : Placed Plain)
 pub math_of_values : (k : Callee) (p : Place) (n : List ℕ) (xs : List Argument) (vs : List Plain) (env : Env) (s : Result Value EvalRefusal) → k ≡ math p n → values_in xs ≡ Some vs → Evaluates (math_call p n (map plain vs)) s → Evaluates (called k (λ e. Ok xs) env) s
 math_of_values k p n xs vs env s is some done = subst (λ (o : Placed Plain). Evaluates o s) (sym (ap (λ c. called c (λ e. Ok xs) env) is ∙ ap (math_call p n) (values_are xs vs some))) done
 
-pub function_of_values : (k : Callee) (p : Place) (n : List ℕ) (xs : List Argument) (vs : List Plain) (env : Env) (titles : List (List ℕ)) (answer : ℕ → List Plain → Option Plain) (s : Result Value EvalRefusal) → k ≡ function p n → values_in xs ≡ Some vs → IsBare env titles answer → Evaluates (native_call p n titles answer vs) s → Evaluates (called k (λ e. Ok xs) env) s
-function_of_values k p n xs vs env titles answer s is some bare done =
+pub function_of_values : (k : Callee) (p : Place) (n : List ℕ) (xs : List Argument) (vs : List Plain) (env : Env) (s : Result Value EvalRefusal) → k ≡ function p n → values_in xs ≡ Some vs → Evaluates (by_function (function_in n env.functions) p n env vs) s → Evaluates (called k (λ e. Ok xs) env) s
+function_of_values k p n xs vs env s is some done =
     let known : called k (λ e. Ok xs) env ≡ by_function (function_in n env.functions) p n env vs = ap (λ c. called c (λ e. Ok xs) env) is ∙ ap (λ (o : Option (List Plain)). by_values p o (λ ws. by_function (function_in n env.functions) p n env ws)) some in
-    let native : called k (λ e. Ok xs) env ≡ native_call p n titles answer vs = known ∙ ap (λ fs. by_function (function_in n fs) p n env vs) bare.no_functions ∙ ap (λ ts. native_call p n ts env.answer vs) bare.has_titles ∙ ap (λ f. native_call p n titles f vs) bare.has_answer in
-    subst (λ (o : Placed Plain). Evaluates o s) (sym native) done
+    subst (λ (o : Placed Plain). Evaluates o s) (sym known) done

@@ -1,7 +1,6 @@
 -- What comes of the parts that stand in one list.
 use Rattle.std.proofs.Common.{◌≡◌, ◌∙◌, ℕ, suc, Bool, true, false, List, [], ◌∷◌, ◌++◌, length, map, Ok, Err, refl, sym, ap, subst, codes}
-use Rattle.std.specs.Prelude.{Option, Some, None, Result, if◌then◌else◌}
-use Rattle.std.specs.Str.{bytes_eq}
+use Rattle.std.specs.Prelude.{Option, Some, None, Result}
 use Rattle.std.proofs.lemmas.Slice.Eq.{bytes_eq-Decides}
 use Rattle.std.proofs.lemmas.Bool.{false≢true}
 use Rattle.nf_value.specs.Plain.{Plain, null}
@@ -38,7 +37,7 @@ use Rattle.nf_eval.proofs.Evaluating.{refused_on, refused_at}
 use Rattle.nf_eval.specs.declared.subjects.Subject.{Subject}
 use Rattle.nf_eval.specs.declared.subjects.Subject.TheVariants as s
 use Rattle.nf_eval.specs.declared.subjects.Called.{Called}
-use Rattle.nf_eval.specs.Chains.{prefixed, marked, going_on, callee_of, takes, placed_value, value_at, applied_at, is_math_at, and_more, IsClosed, Stands, Fails, Comes, IsCall, Waits}
+use Rattle.nf_eval.specs.Chains.{prefixed, marked, going_on, callee_of, takes, placed_value, value_at, applied_at, is_math_at, and_more, Stands, Fails, Comes, IsCall, Waits}
 use Rattle.nf_eval.specs.declared.subjects.Waiting.{Waiting}
 
 kept : (r : Placed Plain) → r ≡ (r >>= λ v. Ok v)

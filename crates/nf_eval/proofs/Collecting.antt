@@ -2,7 +2,6 @@
 use Rattle.std.proofs.Common.{◌≡◌, ◌∙◌, ℕ, true, false, Bool, List, [], ◌∷◌, ◌++◌, map, Ok, Err, refl, sym, ap, subst, append_assoc}
 use Rattle.std.specs.Prelude.{Option, Some, None, Result}
 use Rattle.std.proofs.lemmas.List.{map-append}
-use Rattle.std.proofs.lemmas.Bool.{false≢true}
 use Rattle.nf_value.specs.Plain.{Plain}
 use Rattle.nf_value.specs.View.{plain_of}
 use Rattle.nf_value.specs.declared.value.Value.{Value}
@@ -18,7 +17,7 @@ use Rattle.nf_calls.specs.Calls.{Argument, plain, block, values_in, with_one, ov
 use Rattle.nf_eval.specs.Evaluation.{meaning_of}
 use Rattle.nf_eval.specs.Shapes.{is_closure, block_of}
 use Rattle.nf_eval.specs.Gives.{Collects}
-use Rattle.nf_eval.proofs.Passing.{no_values, Both, both}
+use Rattle.nf_eval.proofs.Passing.{no_values, both}
 use Rattle.nf_eval.proofs.Blocking.{values_are}
 
 -- none so far

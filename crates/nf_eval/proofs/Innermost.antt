@@ -1,5 +1,5 @@
 -- Marks before a value, from the innermost.
-use Rattle.std.proofs.Common.{◌≡◌, ◌∙◌, ℕ, suc, ◌+◌, ◌<◌, List, [], ◌∷◌, ◌++◌, length, take, get_or, Ok, Err, refl, ap, arith}
+use Rattle.std.proofs.Common.{◌≡◌, ◌∙◌, ℕ, ◌+◌, ◌<◌, List, [], ◌∷◌, ◌++◌, length, take, get_or, Ok, Err, refl, ap}
 use Rattle.std.proofs.lemmas.List.{take_more}
 use Rattle.nf_value.specs.Plain.{Plain}
 use Rattle.nf_ast.specs.declared.expr.Prefix.{Prefix}

@@ -14,3 +14,4 @@ pub mod Arms
 pub mod Writing
 pub mod Innermost
 pub mod Reached
+pub mod Scripted

@@ -1,11 +1,10 @@
 -- What statements and bodies do.
-use Rattle.std.proofs.Common.{◌≡◌, ◌∙◌, ℕ, List, [], ◌∷◌, ◌++◌, ◌-◌, length, map, drop, Ok, Err, refl, sym, ap, subst, append_assoc}
-use Rattle.std.specs.Prelude.{Result, if◌then◌else◌}
+use Rattle.std.proofs.Common.{◌≡◌, ◌∙◌, ℕ, List, [], ◌∷◌, ◌++◌, ◌-◌, length, drop, Ok, Err, refl, sym, ap, subst, append_assoc}
+use Rattle.std.specs.Prelude.{Result}
 use mathlib.Core.List.{reverse}
 use Rattle.std.proofs.lemmas.List.{append-nil, reverse-append}
 use Rattle.nf_value.specs.Plain.{Plain, null}
 use Rattle.nf_value.specs.View.{plain_of}
-use Rattle.nf_value.specs.declared.value.Value.{Value}
 use Rattle.nf_value.specs.declared.place.Place.{Place}
 use Rattle.nf_ast.specs.Tree as tree
 use Rattle.nf_ast.specs.Tree.{Tree}

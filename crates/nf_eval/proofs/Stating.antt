@@ -1,26 +1,19 @@
 -- What each kind of statement does.
-use Rattle.std.proofs.Common.{◌≡◌, ◌∙◌, ℕ, List, [], ◌∷◌, ◌++◌, map, Ok, Err, refl, sym, ap, subst}
-use Rattle.std.specs.Prelude.{Option, Some, None, Result}
-use Rattle.std.specs.Global.{Vec}
+use Rattle.std.proofs.Common.{◌≡◌, ◌∙◌, ℕ, List, ◌++◌, Ok, Err, refl, sym, ap, subst}
+use Rattle.std.specs.Prelude.{Some, Result}
 use mathlib.Core.List.{reverse}
 use Rattle.nf_value.specs.Plain.{Plain, null}
-use Rattle.nf_value.specs.View.{plain_of, pair_of}
-use Rattle.nf_value.specs.declared.value.Value.{Value}
-use Rattle.nf_value.specs.declared.value.Value.TheVariants as value
 use Rattle.nf_value.specs.declared.place.Place.{Place}
 use Rattle.nf_value.specs.declared.fault.EvalRefusal.{EvalRefusal}
-use Rattle.nf_value.specs.declared.fault.EvalRefusal.TheVariants as refusal
 use Rattle.nf_ast.specs.Tree as tree
 use Rattle.nf_ast.specs.Tree.{Tree}
-use Rattle.nf_ast.specs.View.{names}
-use Rattle.nf_calls.specs.Placed.{Placed, ◌>>=◌, Evaluates}
-use Rattle.nf_calls.specs.Scope.{Env, with_names, rebound_in, defined, rebound}
-use Rattle.nf_calls.specs.Body.{Flow, going, returned, names_in, split, with_all, Binds}
+use Rattle.nf_calls.specs.Placed.{Placed, ◌>>=◌}
+use Rattle.nf_calls.specs.Scope.{Env, with_names}
+use Rattle.nf_calls.specs.Body.{Flow, going, names_in, split, with_all}
 use Rattle.nf_eval.specs.declared.flow.Step.{Step}
 use Rattle.nf_eval.specs.declared.flow.Step.TheVariants as step
 use Rattle.nf_eval.specs.Evaluation.{meaning_of}
-use Rattle.nf_eval.specs.Gives.{IsRefused, Flows, Takes}
-use Rattle.nf_eval.proofs.Evaluating.{refused, refused_on}
+use Rattle.nf_eval.specs.Gives.{Flows, Takes}
 use Rattle.nf_eval.proofs.Running.{all_named, flows_refused}
 
 module _ (t e : Tree) (env : Env) (ns : List (List ℕ × Plain)) (v : Plain) where

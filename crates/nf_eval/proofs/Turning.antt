@@ -1,5 +1,5 @@
 -- How a conditional expression is read from the left.
-use Rattle.std.proofs.Common.{◌≡◌, ◌∙◌, ℕ, zero, suc, Bool, true, false, List, [], ◌∷◌, Ok, Err, refl, sym, ap, subst}
+use Rattle.std.proofs.Common.{◌≡◌, ◌∙◌, ℕ, suc, Bool, true, false, List, [], ◌∷◌, Ok, Err, refl, sym, ap, subst}
 use Rattle.std.specs.Prelude.{Option, Some, None, if◌then◌else◌}
 use Rattle.nf_value.specs.Plain.{Plain}
 use Rattle.nf_value.specs.Truth.{truth_of}

@@ -1,5 +1,5 @@
 -- Worked expressions: what the definition gives for each.
-use Rattle.std.proofs.Common.{◌≡◌, ℕ, pos, negsuc, true, false, [], ◌∷◌, Some, Ok, refl, codes}
+use Rattle.std.proofs.Common.{◌≡◌, ℕ, ◌+◌, List, pos, negsuc, true, false, [], ◌∷◌, Some, Ok, refl, codes}
 use Rattle.std.specs.Fmt.{digits}
 use Rattle.nf_value.specs.Plain.{null, truth, int, text, list, plains_of}
 use Rattle.nf_value.specs.declared.place.Place.{Place}
@@ -13,7 +13,8 @@ use Rattle.nf_ast.specs.Tree.{Tree, empty, cons}
 use Rattle.nf_marks.specs.Compare.{matches}
 use Rattle.nf_calls.specs.Placed.{fault, made}
 use Rattle.nf_calls.specs.Scope.{Env}
-use Rattle.nf_eval.specs.Evaluation.{Closing, eval_of, apply_of, branch_of, labels_of}
+use Rattle.nf_eval.specs.Evaluation.{Closing, Definition, eval_of, apply_of, branch_of, labels_of}
+use Rattle.nf_eval.specs.Memory.{with_functions}
 
 abbrev at : ℕ → Place
 at k = record { line = 1; col = k }
@@ -209,3 +210,44 @@ branches = refl
 labelled : labels_of (closing empty small_or_large) (int (pos 12) ∷ []) ≡ Ok (list (plains_of (truth false ∷ truth true ∷ [])))
 unfolding digits
 labelled = refl
+
+-- functions of a script: each calls those before it, sees its parameters alone, and has the place of its own fault
+abbrev n : Tree
+n = tree.name (at 11) (codes "n")
+
+abbrev calls : ℕ → List ℕ → Tree → Tree
+calls k name e = tree.call (at (k + 1)) (tree.name (at k) name) (cons e empty)
+
+abbrev of_one : List ℕ → Tree → Definition
+of_one name e = record { name = name; params = codes "n" ∷ []; body = cons e empty }
+
+-- the first calls the second, which calls the first
+abbrev two_functions : Env
+two_functions = with_functions (of_one (codes "late") (calls 14 (codes "early") (tree.binary (at 16) mark.Plus n one)) ∷ of_one (codes "early") (calls 17 (codes "late") n) ∷ []) x_is_ten
+
+abbrev summing : Env
+summing = with_functions (of_one (codes "late") (calls 14 (codes "early") (calls 15 (codes "early") n)) ∷ of_one (codes "early") (tree.binary (at 16) mark.Plus n one) ∷ []) x_is_ten
+
+calls_earlier : eval_of (calls 20 (codes "late") two) summing ≡ Ok (int (pos 4))
+unfolding digits
+calls_earlier = refl
+
+calls_no_later : eval_of (calls 20 (codes "late") two) two_functions ≡ fault NoMethod (at 17)
+unfolding digits
+calls_no_later = refl
+
+sees_parameters : eval_of (calls 20 (codes "f") two) (with_functions (of_one (codes "f") x ∷ []) x_is_ten) ≡ Ok null
+unfolding digits
+sees_parameters = refl
+
+faults_within : eval_of (tree.binary (at 19) mark.Plus one (calls 20 (codes "f") two)) (with_functions (of_one (codes "f") (zero_div 8) ∷ []) x_is_ten) ≡ fault DivZero (at 8)
+unfolding digits
+faults_within = refl
+
+as_many_arguments : eval_of (tree.call (at 21) (tree.name (at 20) (codes "late")) empty) summing ≡ fault Arity (at 20)
+unfolding digits
+as_many_arguments = refl
+
+no_block : eval_of (tree.call_with (tree.name (at 20) (codes "late")) (block_of it)) summing ≡ fault WrongKind (at 20)
+unfolding digits
+no_block = refl

@@ -1,17 +1,20 @@
 //! What is seen from within a body.
 
-ghost use Rattle.std.specs.Prelude.{◌≡◌, ℕ, List, Option, IfOk, if◌then◌else◌};
+ghost use Rattle.std.specs.Prelude.{◌≡◌, ◌≤◌, ◌+◌, suc, ℕ, List, Option, None, Some, IfOk, IfSome, MatchOption, if◌then◌else◌};
 ghost use Rattle.nf_value.specs.Plain.{Plain};
 ghost use Rattle.nf_value.specs.View.{plain_of};
 ghost use Rattle.nf_value.specs.declared.fault.EvalKind.TheVariants.{WrongKind};
 ghost use Rattle.nf_builtins.specs.Natives.{is_among};
 ghost use Rattle.nf_marks.specs.Compare.{matches};
 ghost use Rattle.nf_calls.specs.Placed.{Evaluates, made, fault};
-ghost use Rattle.nf_calls.specs.Scope.{value_of};
-ghost use Rattle.nf_eval.specs.Memory.{seen, IsBare};
+ghost use Rattle.nf_calls.specs.Scope.{value_of, function_in};
+ghost use Rattle.nf_eval.specs.Functions.{definition_of, definitions_in, function_of, depth, depths};
+ghost use Rattle.nf_eval.specs.Memory.{seen, held, IsHandedIn};
 
 use crate::environment::{Env, matched};
+use crate::functions::function_named;
 use crate::scope::Scope;
+use nf_ast::Function;
 use nf_value::{EvalRefusal, Mem, Place, Value};
 use std::alloc::Global;
 
@@ -22,6 +25,8 @@ pub(crate) enum Around<'a> {
     Whole(&'a Env),
     /// The names of a body, and what is seen around it.
     Body(&'a Scope, &'a Around<'a>),
+    /// The body of a function: the functions that were added before it, and what is seen where it is called.
+    Called(&'a [Function], &'a Around<'a>),
 }
 
 /// The value of a name, null where it has none. Takes time by the number of names.
@@ -41,6 +46,7 @@ pub(crate) fn value_seen(name: &str, around: &Around<'_>) -> Result<Value, Mem>
             Some(value) => value.copy(),
             None => value_seen(name, outer),
         },
+        Around::Called(_, _) => Ok(Value::Null),
     }
 }
 
@@ -61,6 +67,7 @@ pub(crate) fn match_seen(
     match around {
         Around::Whole(env) => matched(alloc, place, value, text, &env.patterns),
         Around::Body(_, outer) => match_seen(alloc, place, text, outer, value),
+        Around::Called(_, outer) => match_seen(alloc, place, text, outer, value),
     }
 }
 
@@ -71,15 +78,32 @@ pub(crate) fn in_process(around: &Around<'_>) -> bool
     match around {
         Around::Whole(env) => env.in_process,
         Around::Body(_, outer) => in_process(outer),
+        Around::Called(_, _) => false,
     }
 }
 
-/// No script's functions are known, and the program's are those that it hands in.
-pub(crate) fn bare(around: &Around<'_>)
-    ensures { (titles : List (List ℕ)) (answer : ℕ → List Plain → Option Plain) → IsBare (seen around.now titles answer) titles answer }
+/// The function of a name that is called there, with those that it may call itself.
+pub(crate) fn function_seen<'a>(
+    name: &str,
+    around: &Around<'a>,
+) -> Option<(&'a Function, &'a [Function])>
+    ensures found { (titles : List (List ℕ)) (answer : ℕ → List Plain → Option Plain) → MatchOption result (function_in name.now (seen around.now titles answer).functions ≡ None) (λ f. function_in name.now (seen around.now titles answer).functions ≡ Some (function_of (definition_of f.0.now) (definitions_in f.1.now) (seen around.now titles answer).patterns titles answer)) }
+    ensures lighter { IfSome result (λ f. suc (depth f.0.now.body.items) + depths f.1.now ≤ depths (held around.now)) }
+{
+    match around {
+        Around::Whole(env) => function_named(name, &env.functions),
+        Around::Body(_, outer) => function_seen(name, outer),
+        Around::Called(earlier, _) => function_named(name, earlier),
+    }
+}
+
+/// The program's functions are those that it hands in.
+pub(crate) fn handed_in(around: &Around<'_>)
+    ensures { (titles : List (List ℕ)) (answer : ℕ → List Plain → Option Plain) → IsHandedIn (seen around.now titles answer) titles answer }
 {
     match around {
         Around::Whole(_) => {}
-        Around::Body(_, outer) => bare(outer),
+        Around::Body(_, outer) => handed_in(outer),
+        Around::Called(_, _) => {}
     }
 }

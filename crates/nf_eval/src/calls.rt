@@ -14,7 +14,7 @@ ghost use Rattle.nf_eval.specs.Gives.{Passes, IsPassed};
 ghost use Rattle.nf_eval.specs.Chains.{callee_of, and_more};
 
 use crate::around::Around;
-use crate::reading::{listed, of_values};
+use crate::reading::listed;
 use crate::shapes::is_block;
 use crate::subjects::Called;
 use nf_ast::{Arg, Closure, Expr};
@@ -97,7 +97,7 @@ pub(crate) fn performed<N: Natives>(
     ensures { (xs : List Argument) → (meaning_of (trees (map view_arg args.now))).arguments (seen around.now (N.titles natives.now) (N.answer natives.now)) ≡ Ok xs → values_in xs ≡ given → Evaluates (called_of (callee_of callee.now) (λ e. Ok xs) (seen around.now (N.titles natives.now) (N.answer natives.now))) result }
 {
     match given {
-        Some(values) => of_values(alloc, callee, &values, around, natives),
+        Some(values) => crate::value_calls::of_values(alloc, callee, &values, around, natives),
         None => of_blocks(alloc, args, callee, around, natives),
     }
 }

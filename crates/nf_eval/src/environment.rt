@@ -11,29 +11,34 @@ ghost use Rattle.nf_eval.specs.Memory.{texts_of};
 
 use crate::patterns::Pattern;
 use crate::scope::Scope;
+use nf_ast::Function;
 use nf_calls::{fault_at, matches_value};
 use nf_pattern::WholeRe;
 use nf_value::{EvalKind, EvalRefusal, Mem, Place, Txt, Value};
 use std::alloc::Global;
 
-/// What an expression is evaluated in: names with their values, patterns that are built, and whether it is a process's (own). Contracts see its
-/// `env_of`.
+/// What an expression is evaluated in: names with their values, functions of a script, patterns that are built, and whether it is a process's
+/// (own). Contracts see its `env_of`, and its functions as `definitions_of`, the latest first.
 #[derive(Drop)]
 pub struct Env {
     pub(crate) names: Scope,
+    pub(crate) functions: Vec<Function>,
     pub(crate) patterns: Vec<Pattern>,
     pub(crate) in_process: bool,
 }
 
 impl Env {
-    ghost use Rattle.nf_eval.specs.Memory.{env_of};
+    ghost use Rattle.nf_eval.specs.Functions.{definition_of};
+    ghost use Rattle.nf_eval.specs.Memory.{env_of, definitions_of, with_functions, with_pattern};
 
-    /// No names and no patterns, and no process's. Takes no memory.
+    /// No names, functions and patterns, and no process's. Takes no memory.
     pub fn new(alloc: Global) -> Env
-        ensures { (titles : List (List ℕ)) (answer : ℕ → List Plain → Option Plain) → env_of result titles answer ≡ record { names = []; captured = []; functions = []; patterns = []; titles = titles; answer = answer; in_process = false } }
+        ensures functions { definitions_of result ≡ [] }
+        ensures sees { (titles : List (List ℕ)) (answer : ℕ → List Plain → Option Plain) → env_of result titles answer ≡ record { names = []; captured = []; functions = []; patterns = []; titles = titles; answer = answer; in_process = false } }
     {
         Env {
             names: Scope::new(alloc),
+            functions: Vec::new(alloc),
             patterns: Vec::new(alloc),
             in_process: false,
         }
@@ -45,19 +50,34 @@ impl Env {
     ///
     /// `Mem` where there is no memory for it.
     pub fn define(&mut self, name: Txt, value: Value) -> Result<(), Mem>
-        ensures { OnOk result ((titles : List (List ℕ)) (answer : ℕ → List Plain → Option Plain) → env_of self.new titles answer ≡ record (env_of self.old titles answer) { captured = (name, plain_of value) ∷ (env_of self.old titles answer).captured }) }
+        ensures functions { OnOk result (definitions_of self.new ≡ definitions_of self.old) }
+        ensures sees { OnOk result ((titles : List (List ℕ)) (answer : ℕ → List Plain → Option Plain) → env_of self.new titles answer ≡ record (env_of self.old titles answer) { captured = (name, plain_of value) ∷ (env_of self.old titles answer).captured }) }
     {
         self.names.define(name, value)
     }
 
-    /// Adds a pattern that was built of a text.
+    /// Adds a function, which may call those that were added before. Of several of one name the latest is called.
+    ///
+    /// # Errors
+    ///
+    /// `Mem` where there is no memory for it.
+    pub fn add_function(&mut self, function: Function) -> Result<(), Mem>
+        ensures functions { OnOk result (definitions_of self.new ≡ definition_of function ∷ definitions_of self.old) }
+        ensures sees { OnOk result ((titles : List (List ℕ)) (answer : ℕ → List Plain → Option Plain) → env_of self.new titles answer ≡ with_functions (definition_of function ∷ definitions_of self.old) (env_of self.old titles answer)) }
+    {
+        self.functions.push(function)?;
+        Ok(())
+    }
+
+    /// Adds a pattern that was built of a text. The functions see it too.
     ///
     /// # Errors
     ///
     /// `Mem` where there is no memory for it.
     pub fn add_pattern(&mut self, text: Txt, re: WholeRe) -> Result<(), Mem>
         requires { text ≡ re }
-        ensures { OnOk result ((titles : List (List ℕ)) (answer : ℕ → List Plain → Option Plain) → env_of self.new titles answer ≡ record (env_of self.old titles answer) { patterns = (env_of self.old titles answer).patterns ++ text ∷ [] }) }
+        ensures functions { OnOk result (definitions_of self.new ≡ definitions_of self.old) }
+        ensures sees { OnOk result ((titles : List (List ℕ)) (answer : ℕ → List Plain → Option Plain) → env_of self.new titles answer ≡ with_pattern text (definitions_of self.old) (env_of self.old titles answer)) }
     {
         self.patterns.push(Pattern { text, re })?;
         Ok(())
@@ -66,7 +86,8 @@ impl Env {
     /// From here on it is a process's: there a hole whose value is a list of at least one file, and of files alone, prints their names with blanks
     /// between them (own). Takes no memory.
     pub fn for_process(&mut self)
-        ensures { (titles : List (List ℕ)) (answer : ℕ → List Plain → Option Plain) → env_of self.new titles answer ≡ record (env_of self.old titles answer) { in_process = true } }
+        ensures functions { definitions_of self.new ≡ definitions_of self.old }
+        ensures sees { (titles : List (List ℕ)) (answer : ℕ → List Plain → Option Plain) → env_of self.new titles answer ≡ record (env_of self.old titles answer) { in_process = true } }
     {
         self.in_process = true;
     }

@@ -11,8 +11,7 @@ mod conditionals;
 mod environment;
 mod evaluator;
 mod flow;
-#[cfg(test)]
-mod leaf_tests;
+mod functions;
 mod levels;
 mod patterns;
 mod reading;
@@ -20,6 +19,7 @@ mod scope;
 mod shapes;
 mod subjects;
 mod turns;
+mod value_calls;
 mod values;
 
 pub use closures::Closure;

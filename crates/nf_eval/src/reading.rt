@@ -1,6 +1,6 @@
 //! What is read of a subject, and what is called of it.
 
-ghost use Rattle.std.specs.Prelude.{◌≡◌, ℕ, List, Option, map, not, Some, Ok};
+ghost use Rattle.std.specs.Prelude.{◌≡◌, ℕ, List, Option, map, not};
 ghost use Rattle.nf_value.specs.Plain.{Plain};
 ghost use Rattle.nf_value.specs.View.{plain_of};
 ghost use Rattle.nf_marks.specs.Template.{listed as listed_of};
@@ -8,16 +8,14 @@ ghost use Rattle.nf_ast.specs.Tree as tree;
 ghost use Rattle.nf_ast.specs.Tree.{Tree};
 ghost use Rattle.nf_calls.specs.Placed.{Evaluates, Placed};
 ghost use Rattle.nf_calls.specs.Scope.{Env};
-ghost use Rattle.nf_calls.specs.Calls.{Argument, values_in, called};
 ghost use Rattle.nf_eval.specs.Evaluation.{read_safe, safe_method};
 ghost use Rattle.nf_eval.specs.Memory.{seen};
 ghost use Rattle.nf_eval.specs.Chains.{value_at, is_math_at, callee_of, takes, Stands, Comes, Calls, Waits, IsCall};
 
-use crate::around::{Around, bare, value_seen};
+use crate::around::{Around, value_seen};
 use crate::subjects::{Called, Subject, Waiting};
-use nf_builtins::Natives;
-use nf_calls::{fault_at, math_value, method_value, native_value, property_value};
-use nf_value::{EvalKind, EvalRefusal, Place, Txt, Vals, Value};
+use nf_calls::{fault_at, property_value};
+use nf_value::{EvalKind, EvalRefusal, Place, Txt, Value};
 use std::alloc::Global;
 
 /// The value of a subject.
@@ -184,30 +182,6 @@ pub(crate) fn finished(
         Ok(value) => Ok(Subject::Call(callee, count, Ok(value))),
         Err(EvalRefusal::Fault(fault)) => Ok(Subject::Call(callee, count, Err(fault))),
         Err(EvalRefusal::Mem) => Err(EvalRefusal::Mem),
-    }
-}
-
-/// What a call gives of values.
-pub(crate) fn of_values<N: Natives>(
-    alloc: Global,
-    callee: &Called,
-    values: &Vals,
-    around: &Around<'_>,
-    natives: &N,
-) -> Result<Value, EvalRefusal>
-    requires { N.keeps natives.now }
-    ensures { (xs : List Argument) → values_in xs ≡ Some values.now → Evaluates (called (callee_of callee.now) (λ e. Ok xs) (seen around.now (N.titles natives.now) (N.answer natives.now))) result }
-{
-    match callee {
-        Called::Nothing => Ok(Value::Null),
-        Called::Method(value, place, name) => {
-            method_value(alloc, *place, name.as_str(), value, values)
-        }
-        Called::Function(place, name) => {
-            bare(around);
-            native_value(alloc, *place, name.as_str(), values, natives)
-        }
-        Called::Math(place, name) => math_value(alloc, *place, name.as_str(), values),
     }
 }
 

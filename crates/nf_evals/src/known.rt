@@ -1,5 +1,6 @@
 //! The names that all rows know.
 
+use crate::functions::add_functions;
 use crate::parsed::parsed;
 use anyhow::{Result, bail};
 use nf_builtins::Natives;
@@ -22,11 +23,12 @@ const NAMES: &[(&str, &str)] = &[
     ),
 ];
 
-/// An environment with the names, and with the file `reads`.
+/// An environment with the names and the functions, and with the file `reads`.
 pub(crate) fn known<N: Natives>(alloc: Global, natives: &N) -> Result<Env>
     requires { N.keeps natives.now }
 {
     let mut env = Env::new(alloc);
+    add_functions(alloc, &mut env)?;
     env.define(
         text(alloc, "reads")?,
         Value::File(file(alloc, "reads.fastq.gz")?),

@@ -3,6 +3,7 @@
 //! with its fault and the fault's place. Empty lines and lines that begin with `#` are printed as they are.
 #![tactic(auto)]
 
+mod functions;
 mod known;
 mod parsed;
 mod patterns;

@@ -1,13 +1,13 @@
-use Rattle.std.proofs.Common.{◌≡◌, ◌∙◌, ℕ, List, [], map, Ok, Err, refl, sym, ap, subst, rules, ◌∷◌, ◌+◌, ◌++◌, suc, drop, Bool, arith, length, Result, true, ◌<◌, ◌-◌, take}
-use Rattle.nf_value.specs.Plain.{Plain, null}
+use Rattle.std.proofs.Common.{◌*◌, ◌≡◌, ◌∙◌, ℕ, List, [], map, Ok, Err, refl, sym, ap, subst, rules, ◌∷◌, ◌+◌, ◌++◌, suc, drop, Bool, arith, length, Result, true, ◌<◌, ◌-◌}
+use Rattle.nf_value.specs.Plain.{Plain}
 use Rattle.nf_value.specs.View.{plain_of, pair_of}
 use Rattle.nf_ast.specs.declared.expr.Expr.{the_lemmas as expr_lemmas, Expr}
 use Rattle.nf_ast.specs.Tree.{Tree}
 use Rattle.nf_ast.specs.View.{view, view_operand, view_branch, view_postfix, prefixes, operands, conditional, postfix, view_piece, trees, framed, ended, applied, view_closure, view_arg, with_name, view_body, params_tree, view_stmt, view_stmts, view_arm, choice, names}
 use Rattle.nf_calls.specs.Placed.{Evaluates, Placed, ◌>>=◌, made}
-use Rattle.nf_calls.specs.Scope.{value_of, inside, with_names}
+use Rattle.nf_calls.specs.Scope.{Env, Function, value_of, inside, with_names}
 use Rattle.nf_eval.specs.Evaluation.{eval_of, meaning_of, matched, opening, body_of}
-use Rattle.nf_eval.specs.Memory.{seen}
+use Rattle.nf_eval.specs.Memory.{seen, held}
 use Rattle.nf_eval.specs.Chains.{prefixed, going_on, Stands, Comes, value_at, applied_at, callee_of, and_more}
 use Rattle.nf_eval.specs.Turns.{nothing_waits}
 use Rattle.nf_eval.proofs.Chaining.{prefixes_value, operands_value, chain_refused, name_stands, flat_stands, flat_refused, parts_refused, index_refused, place_refused, item_refused, item_stands, call_refused, nothing_stands, arguments_refused, call_comes, with_value, with_refused, that_block, called_at}
@@ -19,7 +19,7 @@ use Rattle.nf_marks.specs.Template.{IsWritten, hole_text}
 use Rattle.nf_eval.proofs.Lefts.{left_here, none_left}
 use Rattle.nf_eval.proofs.Writing.{writes_on}
 use Rattle.nf_eval.proofs.+value.Goals.{values::text-in-Plain+in_ok-push-in-Plain, values::text-in-Hole+in_ok-value-in-Hole+in_ok-put_hole-in-Hole, calls::arguments-in-Some+in_ok-push-in-Some, calls::arguments-in-None}
-use Rattle.std.specs.Prelude.{Option, Some, not, None, option_map}
+use Rattle.std.specs.Prelude.{Option, Some, not, option_map}
 use Rattle.nf_calls.specs.Body.{pattern_in, names_in, split, paired}
 use Rattle.nf_ast.specs.declared.marks.BranchMark.{BranchMark}
 use Rattle.nf_ast.specs.declared.expr.Branch.{Branch, the_lemmas as branch_lemmas}
@@ -30,7 +30,7 @@ use Rattle.nf_ast.specs.declared.expr.Postfix.{Postfix, the_lemmas as postfix_le
 use Rattle.nf_eval.specs.declared.subjects.Subject.{Subject}
 use Rattle.nf_marks.specs.Read.{index}
 use Rattle.std.proofs.lemmas.List.{length-map}
-use Rattle.nf_calls.specs.Calls.{called, Argument, plain, block, method, math, over_items, function, by_function}
+use Rattle.nf_calls.specs.Calls.{called, plain, block, method, math, over_items, function, by_function}
 use Rattle.nf_eval.proofs.Passing.{as_many, passed_refused, alone, no_values, one_more, none_before}
 use Rattle.nf_ast.specs.declared.expr.Closure.{the_lemmas as closure_lemmas}
 use Rattle.nf_value.specs.declared.value.Value.{Value}
@@ -39,6 +39,11 @@ use Rattle.nf_eval.specs.Gives.{Collects, IsPassed, Flows, Takes}
 use Rattle.nf_eval.specs.Else.{else_of}
 use Rattle.nf_eval.proofs.Collecting.{nothing_before, one_passed, collects_value, collects_block, sole_evaluates}
 use Rattle.nf_eval.proofs.Blocking.{function_of_blocks, math_of_blocks, method_of_blocks, over_one, method_of_values, math_of_values, function_of_values}
+use Rattle.nf_eval.proofs.Scripted.{depth_is, wrong_count, right_count, body_given, handed_on}
+use Rattle.nf_eval.specs.Functions.{definitions_in, called_env, depth, depths}
+use Rattle.nf_eval.specs.declared.around.Around.TheVariants as around
+use Rattle.nf_ast.specs.declared.expr.Stmt.{size-Stmt}
+use denote.Param.Weighed.{most}
 use Rattle.nf_calls.specs.Blocks.{row_method}
 use Rattle.nf_eval.specs.Latest.{names_of}
 use Rattle.nf_eval.proofs.Running.{applied_is, goes_on, returns_from, stops_at, flows_refused, block_flows, block_refused}
@@ -876,3 +881,74 @@ bodies::arms-returns g t0 c last =
     let env = with_names (names_of c.loop-arm.names) around in
     let none : drop k list ≡ [] = none_left list k c.loop-arm-test.false in
     sym (c.loop-arm.invariant last) ∙ ap (λ (l : List Arm). (meaning_of (choice (map view_arm l) last)).done env) none
+
+pub value_calls::of_values-returns-in-Method : goal.value_calls::of_values-returns-in-Method
+value_calls::of_values-returns-in-Method g t0 c xs some =
+    let env = seen c.args.around.now (g.N.Natives.titles c.args.natives.now) (g.N.Natives.answer c.args.natives.now) in
+    let same : c.as_str.result.now ≡ c.in-Method.name = search rules in
+    method_of_values (callee_of c.args.callee.now) (plain_of c.in-Method.value) c.in-Method.place c.as_str.result.now xs c.args.values.now env c.method_value.result (ap callee_of c.in-Method.is ∙ ap (λ m. method (plain_of c.in-Method.value) c.in-Method.place m) (sym same)) some c.method_value.ensures
+
+pub value_calls::of_values-returns-in-Function : goal.value_calls::of_values-returns-in-Function
+value_calls::of_values-returns-in-Function g t0 c xs some =
+    let env = seen c.args.around.now (g.N.Natives.titles c.args.natives.now) (g.N.Natives.answer c.args.natives.now) in
+    let same : c.as_str-in-Function.result.now ≡ c.in-Function.name = search rules in
+    function_of_values (callee_of c.args.callee.now) c.in-Function.place c.as_str-in-Function.result.now xs c.args.values.now env c.by_name.result (ap callee_of c.in-Function.is ∙ ap (λ m. function c.in-Function.place m) (sym same)) some c.by_name.ensures
+
+pub value_calls::of_values-returns-in-Math : goal.value_calls::of_values-returns-in-Math
+value_calls::of_values-returns-in-Math g t0 c xs some =
+    let env = seen c.args.around.now (g.N.Natives.titles c.args.natives.now) (g.N.Natives.answer c.args.natives.now) in
+    let same : c.as_str-in-Math.result.now ≡ c.in-Math.name = search rules in
+    math_of_values (callee_of c.args.callee.now) c.in-Math.place c.as_str-in-Math.result.now xs c.args.values.now env c.math_value.result (ap callee_of c.in-Math.is ∙ ap (λ m. math c.in-Math.place m) (sym same)) some c.math_value.ensures
+
+pub value_calls::by_name-returns-in-Some : goal.value_calls::by_name-returns-in-Some
+value_calls::by_name-returns-in-Some g t0 c =
+    let titles = g.N.Natives.titles c.args.natives.now in
+    let answer = g.N.Natives.answer c.args.natives.now in
+    let env = seen c.args.around.now titles answer in
+    let n = c.args.name.now in
+    subst (λ (f : Option Function). Evaluates (by_function f c.args.place n env c.args.values.now) c.by_script.result) (sym (c.in-Some.ensures.found titles answer)) (c.by_script.ensures n)
+
+pub value_calls::by_name-returns-in-None : goal.value_calls::by_name-returns-in-None
+value_calls::by_name-returns-in-None g t0 c =
+    let titles = g.N.Natives.titles c.args.natives.now in
+    let answer = g.N.Natives.answer c.args.natives.now in
+    let env = seen c.args.around.now titles answer in
+    handed_on c.args.place c.args.name.now env titles answer c.args.values.now c.native_value.result (c.in-None.ensures.found titles answer) (c.handed_in.ensures titles answer) c.native_value.ensures
+
+pub value_calls::by_script-run-requires : goal.value_calls::by_script-run-requires
+value_calls::by_script-run-requires g t0 c κs within =
+    let inner = around.Called c.args.earlier c.args.around in
+    let seen_there : depths (held inner) ≡ depths c.args.earlier.now = ap depths (search (rules, around_lemmas)) in
+    let code : depth c.deref-2.result.now ≡ depth c.args.function.now.body.items = ap depth (search rules) in
+    let falls : (most size-Stmt c.deref-2.result.now + depths (held inner)) * 64 + 30 < t0 = omega (arith, seen_there, code, depth_is c.deref-2.result.now, c.requires.lighter, c.decreases) in
+    (falls, search rules)
+
+pub value_calls::by_script-returns-then-len : goal.value_calls::by_script-returns-then-len
+value_calls::by_script-returns-then-len g t0 c name =
+    let titles = g.N.Natives.titles c.args.natives.now in
+    let answer = g.N.Natives.answer c.args.natives.now in
+    let env = seen c.args.around.now titles answer in
+    let vs = c.args.values.now in
+    let other : length c.args.function.now.params.items ≡ length vs → ⊥ = λ e. omega (arith, e, c.if-len.true, c.len.ensures, c.len-2.ensures) in
+    wrong_count c.args.function.now c.args.earlier.now env.patterns titles answer c.args.place name env vs c.fault_at.result other c.fault_at.ensures
+
+pub value_calls::by_script-returns : goal.value_calls::by_script-returns
+value_calls::by_script-returns g t0 c name =
+    let titles = g.N.Natives.titles c.args.natives.now in
+    let answer = g.N.Natives.answer c.args.natives.now in
+    let env = seen c.args.around.now titles answer in
+    let vs = c.args.values.now in
+    let f = c.args.function.now in
+    let before = definitions_in c.args.earlier.now in
+    let inner = around.Called c.args.earlier c.args.around in
+    let ns = names_of c.of.result in
+    let bs = map pair_of c.in_ok-names.names.items in
+    let count : length f.params.items ≡ length vs = omega (arith, c.if-len.false, c.len.ensures, c.len-2.ensures) in
+    let params : c.deref.result.now ≡ f.params.items = search rules in
+    let code : c.deref-2.result.now ≡ f.body.items = search rules in
+    let seen_there : seen inner titles answer ≡ called_env before env.patterns titles answer = search (rules, around_lemmas) in
+    let these : bs ≡ paired (names_in (names f.params.items)) vs = c.in_ok-names.ensures ∙ ap (λ (xs : List (Place × List ℕ)). paired (names_in (names xs)) (map plain_of c.items.result.now)) params ∙ ap (paired (names_in (names f.params.items))) c.items.ensures in
+    let gives : Evaluates (body_of (view_stmts c.deref-2.result.now) (with_names ns (inside (seen inner titles answer)))) c.run.result = search rules in
+    let there : Evaluates (body_of (view_stmts c.deref-2.result.now) (with_names ns (called_env before env.patterns titles answer))) c.run.result = subst (λ (e : Env). Evaluates (body_of (view_stmts c.deref-2.result.now) (with_names ns (inside e))) c.run.result) seen_there gives in
+    let done : Evaluates (body_of (view_stmts f.body.items) (with_names ns (called_env before env.patterns titles answer))) c.run.result = subst (λ (ss : List Stmt). Evaluates (body_of (view_stmts ss) (with_names ns (called_env before env.patterns titles answer))) c.run.result) code there in
+    same _ (body_of (view_stmts f.body.items) (with_names ns (called_env before env.patterns titles answer))) c.run.result (right_count f c.args.earlier.now env.patterns titles answer c.args.place name env vs count ∙ body_given f c.args.earlier.now env.patterns titles answer vs bs ns these c.of.ensures) done

@@ -1,4 +1,4 @@
-use Rattle.std.proofs.Common.{◌+◌, ◌*◌, ◌≡◌, ◌++◌, map, drop, take, List, [], Ok, ◌≤◌, length, ℕ}
+use Rattle.std.proofs.Common.{◌+◌, ◌*◌, ◌≡◌, ◌++◌, map, drop, List, [], Ok, ◌≤◌, ℕ}
 use Rattle.nf_value.specs.View.{plain_of, pair_of}
 use Rattle.nf_ast.specs.View.{views, trees, view_pair, view_piece, view_operand, Frame, conditional, view_branch, postfix, view_postfix, view_arg, view_closure, view_stmts, choice, view_arm, view_label}
 use Rattle.nf_calls.specs.Placed.{◌>>=◌}
@@ -12,9 +12,140 @@ use Rattle.nf_eval.specs.Gives.{Collects}
 use Rattle.nf_eval.specs.Shapes.{block_of}
 use Rattle.nf_calls.specs.Scope.{with_names, inside}
 use Rattle.nf_eval.specs.Latest.{names_of}
-use Rattle.nf_eval.specs.Memory.{seen}
+use Rattle.nf_eval.specs.Memory.{seen, held}
+use Rattle.nf_eval.specs.Functions.{depths}
 use Rattle.nf_value.specs.Plain.{null}
 use Rattle.nf_eval.proofs.+value.Given as goal
+
+-- ---- that evaluation ends: a call of a function goes on with those before it, any other call goes down the tree or stays there, with a lower rank
+
+abbrev pub decreases-chains::with : goal.decreases-chains::with
+decreases-chains::with g l = (goal.size-chains::with g l + depths (held l.around.now)) * 64 + 44
+
+abbrev pub decreases-calls::over_call : goal.decreases-calls::over_call
+decreases-calls::over_call g l = (goal.size-calls::over_call g l + depths (held l.around.now)) * 64 + 43
+
+abbrev pub decreases-chains::call : goal.decreases-chains::call
+decreases-chains::call g l = (goal.size-chains::call g l + depths (held l.around.now)) * 64 + 42
+
+abbrev pub decreases-calls::performed : goal.decreases-calls::performed
+decreases-calls::performed g l = (goal.size-calls::performed g l + depths (held l.around.now)) * 64 + 41
+
+abbrev pub decreases-calls::of_blocks : goal.decreases-calls::of_blocks
+decreases-calls::of_blocks g l = (goal.size-calls::of_blocks g l + depths (held l.around.now)) * 64 + 40
+
+abbrev pub decreases-calls::over_sole : goal.decreases-calls::over_sole
+decreases-calls::over_sole g l = (goal.size-calls::over_sole g l + depths (held l.around.now)) * 64 + 39
+
+abbrev pub decreases-calls::over_expr : goal.decreases-calls::over_expr
+decreases-calls::over_expr g l = (goal.size-calls::over_expr g l + depths (held l.around.now)) * 64 + 38
+
+abbrev pub decreases-blocks::over : goal.decreases-blocks::over
+decreases-blocks::over g l = (goal.size-blocks::over g l + depths (held l.around.now)) * 64 + 37
+
+abbrev pub decreases-blocks::any : goal.decreases-blocks::any
+decreases-blocks::any g l = (goal.size-blocks::any g l + depths (held l.around.now)) * 64 + 36
+
+abbrev pub decreases-blocks::every : goal.decreases-blocks::every
+decreases-blocks::every g l = (goal.size-blocks::every g l + depths (held l.around.now)) * 64 + 36
+
+abbrev pub decreases-blocks::find : goal.decreases-blocks::find
+decreases-blocks::find g l = (goal.size-blocks::find g l + depths (held l.around.now)) * 64 + 36
+
+abbrev pub decreases-blocks::find_all : goal.decreases-blocks::find_all
+decreases-blocks::find_all g l = (goal.size-blocks::find_all g l + depths (held l.around.now)) * 64 + 36
+
+abbrev pub decreases-blocks::images : goal.decreases-blocks::images
+decreases-blocks::images g l = (goal.size-blocks::images g l + depths (held l.around.now)) * 64 + 36
+
+abbrev pub decreases-blocks::applied : goal.decreases-blocks::applied
+decreases-blocks::applied g l = (goal.size-blocks::applied g l + depths (held l.around.now)) * 64 + 35
+
+abbrev pub decreases-calls::arguments : goal.decreases-calls::arguments
+decreases-calls::arguments g l = (goal.size-calls::arguments g l + depths (held l.around.now)) * 64 + 34
+
+abbrev pub decreases-calls::argument : goal.decreases-calls::argument
+decreases-calls::argument g l = (goal.size-calls::argument g l + depths (held l.around.now)) * 64 + 33
+
+abbrev pub decreases-calls::unnamed : goal.decreases-calls::unnamed
+decreases-calls::unnamed g l = (goal.size-calls::unnamed g l + depths (held l.around.now)) * 64 + 32
+
+abbrev pub decreases-bodies::body : goal.decreases-bodies::body
+decreases-bodies::body g l = (goal.size-bodies::body g l + depths (held l.around.now)) * 64 + 31
+
+abbrev pub decreases-bodies::arms : goal.decreases-bodies::arms
+decreases-bodies::arms g l = (goal.size-bodies::arms g l + depths (held l.around.now)) * 64 + 31
+
+abbrev pub decreases-bodies::run : goal.decreases-bodies::run
+decreases-bodies::run g l = (goal.size-bodies::run g l + depths (held l.around.now)) * 64 + 30
+
+abbrev pub decreases-bodies::block : goal.decreases-bodies::block
+decreases-bodies::block g l = (goal.size-bodies::block g l + depths (held l.around.now)) * 64 + 30
+
+abbrev pub decreases-bodies::statements : goal.decreases-bodies::statements
+decreases-bodies::statements g l = (goal.size-bodies::statements g l + depths (held l.around.now)) * 64 + 29
+
+abbrev pub decreases-bodies::statement : goal.decreases-bodies::statement
+decreases-bodies::statement g l = (goal.size-bodies::statement g l + depths (held l.around.now)) * 64 + 28
+
+abbrev pub decreases-bodies::otherwise : goal.decreases-bodies::otherwise
+decreases-bodies::otherwise g l = (goal.size-bodies::otherwise g l + depths (held l.around.now)) * 64 + 27
+
+abbrev pub decreases-bodies::labels : goal.decreases-bodies::labels
+decreases-bodies::labels g l = (goal.size-bodies::labels g l + depths (held l.around.now)) * 64 + 26
+
+abbrev pub decreases-value_calls::of_values : goal.decreases-value_calls::of_values
+decreases-value_calls::of_values g l = depths (held l.around.now) * 64 + 25
+
+abbrev pub decreases-value_calls::by_name : goal.decreases-value_calls::by_name
+decreases-value_calls::by_name g l = depths (held l.around.now) * 64 + 24
+
+abbrev pub decreases-value_calls::by_script : goal.decreases-value_calls::by_script
+decreases-value_calls::by_script g l = depths (held l.around.now) * 64 + 23
+
+abbrev pub decreases-levels::operands : goal.decreases-levels::operands
+decreases-levels::operands g l = (goal.size-levels::operands g l + depths (held l.around.now)) * 64 + 22
+
+abbrev pub decreases-levels::joined : goal.decreases-levels::joined
+decreases-levels::joined g l = (goal.size-levels::joined g l + depths (held l.around.now)) * 64 + 21
+
+abbrev pub decreases-levels::matches : goal.decreases-levels::matches
+decreases-levels::matches g l = (goal.size-levels::matches g l + depths (held l.around.now)) * 64 + 20
+
+abbrev pub decreases-conditionals::conditional : goal.decreases-conditionals::conditional
+decreases-conditionals::conditional g l = (goal.size-conditionals::conditional g l + depths (held l.around.now)) * 64 + 22
+
+abbrev pub decreases-conditionals::step : goal.decreases-conditionals::step
+decreases-conditionals::step g l = (goal.size-conditionals::step g l + depths (held l.around.now)) * 64 + 21
+
+abbrev pub decreases-chains::parts : goal.decreases-chains::parts
+decreases-chains::parts g l = (goal.size-chains::parts g l + depths (held l.around.now)) * 64 + 22
+
+abbrev pub decreases-chains::part : goal.decreases-chains::part
+decreases-chains::part g l = (goal.size-chains::part g l + depths (held l.around.now)) * 64 + 21
+
+abbrev pub decreases-chains::indexed : goal.decreases-chains::indexed
+decreases-chains::indexed g l = (goal.size-chains::indexed g l + depths (held l.around.now)) * 64 + 20
+
+abbrev pub decreases-chains::subject : goal.decreases-chains::subject
+decreases-chains::subject g l = (goal.size-chains::subject g l + depths (held l.around.now)) * 64 + 19
+
+abbrev pub decreases-chains::flat : goal.decreases-chains::flat
+decreases-chains::flat g l = (goal.size-chains::flat g l + depths (held l.around.now)) * 64 + 18
+
+abbrev pub decreases-values::items : goal.decreases-values::items
+decreases-values::items g l = (goal.size-values::items g l + depths (held l.around.now)) * 64 + 17
+
+abbrev pub decreases-values::entries : goal.decreases-values::entries
+decreases-values::entries g l = (goal.size-values::entries g l + depths (held l.around.now)) * 64 + 17
+
+abbrev pub decreases-values::text : goal.decreases-values::text
+decreases-values::text g l = (goal.size-values::text g l + depths (held l.around.now)) * 64 + 17
+
+abbrev pub decreases-values::value : goal.decreases-values::value
+decreases-values::value g l = (goal.size-values::value g l + depths (held l.around.now)) * 64 + 16
+
+-- ---- what loops keep
 
 abbrev pub invariant-values::items-loop-item : goal.invariant-values::items-loop-item
 invariant-values::items-loop-item g l = ((meaning_of (views (drop l.item-index l.list))).items (seen l.around (g.N.Natives.titles l.natives) (g.N.Natives.answer l.natives)) >>= λ vs. Ok (map plain_of l.values.items ++ vs)) ≡ (meaning_of (views l.list)).items (seen l.around (g.N.Natives.titles l.natives) (g.N.Natives.answer l.natives))

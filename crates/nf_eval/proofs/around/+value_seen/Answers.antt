@@ -7,6 +7,7 @@ use Rattle.nf_value.specs.View.{plain_of}
 use Rattle.nf_calls.specs.Scope.{value_in, value_of, with_names, inside}
 use Rattle.nf_eval.specs.declared.around.Around.{the_lemmas}
 use Rattle.nf_eval.specs.Latest.{names_of}
+use Rattle.nf_eval.specs.Functions.{definitions_in, called_env}
 use Rattle.nf_eval.specs.Memory.{env_of, seen}
 use Rattle.nf_eval.proofs.around.+value_seen.Goals as goal
 
@@ -35,3 +36,8 @@ returns-in-None-value t c =
     let same : (titles : List (List ℕ)) (answer : ℕ → List Plain → Option Plain) → value_of n (seen c.args.around.now titles answer) ≡ value_of n (outer titles answer) = λ titles answer. ap (value_of n) (is titles answer) ∙ c.in-None-value.ensures ((outer titles answer).names ++ (outer titles answer).captured) in
     let found : IfOk c.value_seen.result (λ w. (titles : List (List ℕ)) (answer : ℕ → List Plain → Option Plain) → value_of n (outer titles answer) ≡ plain_of w) = c.value_seen.ensures in
     IfOk-weaker c.value_seen.result (λ w. (titles : List (List ℕ)) (answer : ℕ → List Plain → Option Plain) → value_of n (outer titles answer) ≡ plain_of w) _ (λ w h titles answer. same titles answer ∙ h titles answer) found
+
+pub returns-in-Called : goal.returns-in-Called
+returns-in-Called t c titles answer =
+    let is : seen c.args.around.now titles answer ≡ called_env (definitions_in c.in-Called.field-0.now) (seen c.in-Called.field-1.now titles answer).patterns titles answer = search (rules, the_lemmas) in
+    ap (value_of c.args.name.now) is

@@ -1,5 +1,4 @@
-use Rattle.std.proofs.Common.{◌≡◌, ◌∙◌, sym, Err, false, rules}
-use Rattle.nf_calls.specs.Body.{is_math}
+use Rattle.std.proofs.Common.{◌≡◌, ◌∙◌, sym, Err, rules}
 use Rattle.nf_eval.specs.Memory.{seen}
 use Rattle.nf_eval.specs.Chains.{value_at}
 use Rattle.nf_eval.proofs.Evaluating.{refused, refused_at}

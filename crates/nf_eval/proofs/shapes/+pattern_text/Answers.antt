@@ -1,10 +1,8 @@
-use Rattle.std.proofs.Common.{◌≡◌, ◌∙◌, [], map, true, false, ap, sym, subst, rules}
-use Rattle.std.specs.Prelude.{not, MatchOption, Some, None}
+use Rattle.std.proofs.Common.{◌≡◌, ◌∙◌, [], map, ap, sym, rules}
 use Rattle.nf_ast.specs.declared.expr.Expr.{the_lemmas}
-use Rattle.nf_ast.specs.Tree.{Tree}
 use Rattle.nf_ast.specs.View.{view, view_operand, view_branch, view_postfix, prefixes, operands, conditional, postfix}
 use Rattle.nf_calls.specs.Body.{pattern_in}
-use Rattle.nf_eval.specs.Shapes.{is_nil, is_closure, is_plain}
+use Rattle.nf_eval.specs.Shapes.{is_nil}
 use Rattle.nf_eval.proofs.Shaping.{prefixes_none, prefixes_some, operands_none, operands_some, conditional_none, conditional_some, postfix_none, postfix_some}
 use Rattle.nf_eval.proofs.shapes.+pattern_text.Goals as goal
 

@@ -1,4 +1,4 @@
-use Rattle.std.proofs.Common.{◌≡◌, ◌+◌, suc, sym, subst, arith}
+use Rattle.std.proofs.Common.{◌+◌, sym, subst, arith}
 use Rattle.std.specs.Prelude.{Some, None}
 use Rattle.nf_value.specs.View.{plain_of}
 use Rattle.nf_ast.specs.declared.marks.BranchMark.{BranchMark}

@@ -1,4 +1,4 @@
-use Rattle.std.proofs.Common.{◌≡◌, ◌∙◌, Err, sym, subst}
+use Rattle.std.proofs.Common.{◌∙◌, Err, sym, subst}
 use Rattle.std.specs.Prelude.{Some, None}
 use Rattle.nf_value.specs.View.{plain_of}
 use Rattle.nf_eval.specs.declared.turns.Turn.{Turn}

@@ -1,5 +1,5 @@
-use Rattle.std.proofs.Common.{◌≡◌, ◌++◌, map, drop, take, List, [], Ok, ◌≤◌, length, ℕ}
-use Rattle.nf_value.specs.View.{plain_of, pair_of}
+use Rattle.std.proofs.Common.{◌≡◌, take, ◌≤◌, length}
+use Rattle.nf_value.specs.View.{plain_of}
 use Rattle.nf_eval.specs.Chains.{prefixed}
 use Rattle.nf_eval.proofs.values.prefixed.Given as goal
 

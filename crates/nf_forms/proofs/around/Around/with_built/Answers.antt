@@ -8,7 +8,7 @@ invariant_of-result c =
     let qs = c.push.new.self.items in
     let held : c.in_ok-held.held ≡ c.args.text = search rules in
     let pushed : qs ≡ ps ++ c.args.text ∷ [] = search rules in
-    record { same = patterns_of c.add_pattern.new.self qs (bare_more c.args.self.env c.add_pattern.new.self ps qs c.in_ok-held.held c.args.text c.requires.bare c.in_ok-add_pattern.ensures held c.requires.pattern pushed) }
+    record { same = patterns_of c.add_pattern.new.self qs (bare_more c.args.self.env c.add_pattern.new.self ps qs c.in_ok-held.held c.args.text c.requires.bare c.in_ok-add_pattern.ensures.sees held c.requires.pattern pushed) }
 
 pub returns : goal.returns
 returns c =
@@ -16,4 +16,4 @@ returns c =
     let qs = c.push.new.self.items in
     let held : c.in_ok-held.held ≡ c.args.text = search rules in
     let pushed : qs ≡ ps ++ c.args.text ∷ [] = search rules in
-    bare_more c.args.self.env c.add_pattern.new.self ps qs c.in_ok-held.held c.args.text c.requires.bare c.in_ok-add_pattern.ensures held c.requires.pattern pushed
+    bare_more c.args.self.env c.add_pattern.new.self ps qs c.in_ok-held.held c.args.text c.requires.bare c.in_ok-add_pattern.ensures.sees held c.requires.pattern pushed

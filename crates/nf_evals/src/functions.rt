@@ -1,0 +1,65 @@
+//! The functions that all rows know.
+
+use crate::parsed::parsed;
+use anyhow::{Result, bail};
+use nf_ast::{Closure, ClosureBody, Expr, Function};
+use nf_eval::Env;
+use nf_value::Txt;
+use std::alloc::Global;
+
+/// Names, and closures with the parameters and bodies of the functions. Each is called by those after it alone.
+const FUNCTIONS: &[(&str, &str)] = &[
+    ("double", "{ n -> n * 2 }"),
+    ("quadruple", "{ n -> double(double(n)) }"),
+    ("early", "{ n -> late(n) }"),
+    ("late", "{ n -> n }"),
+    ("total", "{ a, b -> a + b }"),
+    ("broken", "{ n -> n % 0 }"),
+    ("alone", "{ -> x }"),
+    ("sign", "{ n -> if (n < 0) { return 'minus' }; 'plus' }"),
+    ("own", "{ n -> def y = n + 1; y * 10 }"),
+    ("bounded", "{ n -> clamp(n, 1, 9) }"),
+    ("again", "{ n -> n + 1 }"),
+    ("again", "{ n -> again(n) * 10 }"),
+    ("fits", "{ t -> t ==~ /a.c/ }"),
+    ("shown", "{ fs -> \"$fs\" }"),
+    ("doubles", "{ ns -> ns.collect { double(it) } }"),
+];
+
+/// Adds the functions.
+pub(crate) fn add_functions(alloc: Global, env: &mut Env) -> Result<()> {
+    for (name, code) in FUNCTIONS.iter().copied() {
+        let function = function(alloc, name, code)?;
+        env.add_function(function)?;
+    }
+    Ok(())
+}
+
+/// A function with the parameters and the body of a closure.
+fn function(alloc: Global, name: &str, code: &str) -> Result<Function> {
+    let closure = match parsed(alloc, code)? {
+        Expr::Closure(closure) => closure,
+        _ => bail!("{name}: no closure"),
+    };
+    let Closure {
+        place,
+        params,
+        body,
+    } = closure;
+    let body = match body {
+        ClosureBody::Statements(body) => body,
+        ClosureBody::Labels(_) => bail!("{name}: labels"),
+    };
+    let params = match params {
+        Some(params) => params,
+        None => bail!("{name}: no arrow"),
+    };
+    let name = Txt::of(String::from_str(alloc, name)?);
+    Ok(Function {
+        place,
+        name_place: place,
+        name,
+        params,
+        body,
+    })
+}
