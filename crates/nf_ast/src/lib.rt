@@ -7,8 +7,6 @@ mod list_copies;
 mod marks;
 mod name_copies;
 mod process_copies;
-#[cfg(test)]
-mod tests;
 mod top_copies;
 mod tops;
 

@@ -11,6 +11,3 @@ pub use bag::{count_of, same_bag};
 pub use fault::OpFault;
 pub use options::{OpOpts, Total};
 pub use sorting::{distinct, sorted};
-
-#[cfg(test)]
-mod tests;

@@ -6,8 +6,6 @@ mod exprs;
 mod leaves;
 mod seen;
 mod stmts;
-#[cfg(test)]
-mod tests;
 mod uses;
 
 pub use bound::{unbound, unbound_closure};

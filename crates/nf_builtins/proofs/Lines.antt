@@ -1,5 +1,5 @@
 -- Rows of the table, and what they give for a list.
-use Rattle.std.proofs.Common.{◌≡◌, ℕ, zero, suc, ◌<◌, Bool, true, false, ◌&&◌, ◌||◌, List, [], ◌∷◌, length, get_or, Option, IfSome, slice_get, Result, refl, sym, ◌∙◌, ap, subst, arith}
+use Rattle.std.proofs.Common.{◌≡◌, ℕ, zero, suc, ◌<◌, Bool, true, false, ◌&&◌, ◌||◌, List, [], ◌∷◌, length, get_or, Option, IfSome, slice_get, Result, refl, sym, subst, arith}
 use Rattle.std.specs.List.{list_all}
 use Rattle.std.proofs.lemmas.Option.{slice_get-get_or}
 use Rattle.std.proofs.lemmas.Bool.{false≢true}
@@ -10,7 +10,7 @@ use Rattle.nf_builtins.specs.declared.rows.Builtin.{Builtin}
 use Rattle.nf_texts.specs.Args.{items_of}
 use Rattle.nf_texts.specs.Outcome.{Outcome, Gives}
 use Rattle.nf_builtins.specs.Rows.{is_closure}
-use Rattle.nf_builtins.specs.Call.{is_plain, builtin_rows, IsPlainRow}
+use Rattle.nf_builtins.specs.Call.{is_plain, builtin_rows}
 use Rattle.nf_texts.proofs.Inside.{items_of-plains_of}
 
 pub list_gives : (vs : List Plain) (g : List Plain → Outcome) (r : Result Value CallFault) → Gives (g vs) r → Gives (g (items_of (plains_of vs))) r
@@ -42,9 +42,3 @@ plain_at i d h free = plain_of_fit builtin_rows i d all_fit h free
 
 pub at_row : (i : ℕ) (d : Builtin) (P : Builtin → Type 0) → i < 48 → P (get_or builtin_rows i d) → IfSome (slice_get builtin_rows i) P
 at_row i d P h p = subst (λ (o : Option Builtin). IfSome o P) (sym (slice_get-get_or builtin_rows i d h)) p
-
--- a row of the table that was found
-pub row_is_plain : (rows : List Builtin) (i : ℕ) (d : Builtin) (takes : Bool) → rows ≡ builtin_rows → i < length rows → takes ≡ is_closure (get_or rows i d).form → takes ≡ false → IsPlainRow i
-row_is_plain rows i d takes same h is free =
-    let there : i < length builtin_rows = subst (λ (l : List Builtin). i < length l) same h in
-    (there, at_row i d (λ r. is_closure r.form ≡ false) there (ap (λ l. is_closure (get_or l i d).form) (sym same) ∙ sym is ∙ free))

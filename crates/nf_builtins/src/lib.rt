@@ -12,8 +12,6 @@ mod natives;
 mod numbers;
 mod program;
 mod rows;
-#[cfg(test)]
-mod tests;
 mod totals;
 
 pub use calls::call;

@@ -9,8 +9,6 @@ mod params;
 mod parts;
 mod places;
 mod rows;
-#[cfg(test)]
-mod tests;
 
 pub use blocks::{BlockMethod, block_method, math_block};
 pub use marked::{infix_value, matches_value, prefix_value};

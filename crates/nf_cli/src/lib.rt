@@ -13,6 +13,3 @@ mod writes;
 pub use ends::{End, ItemCause, NfEnd};
 pub use scripts::SCRIPT_LIMIT;
 pub use top::{LANES, nf_main};
-
-#[cfg(test)]
-mod tests;

@@ -11,6 +11,3 @@ mod write;
 pub use fault::CodeFault;
 pub use read::decode;
 pub use write::{encode, encode_text};
-
-#[cfg(test)]
-mod tests;

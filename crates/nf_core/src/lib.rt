@@ -5,8 +5,6 @@ mod chains;
 mod event;
 mod runs;
 mod tasks;
-#[cfg(test)]
-mod tests;
 
 pub use chains::{ChainFault, Rules, chain};
 pub use event::{Cause, Event, Outside, Stop};

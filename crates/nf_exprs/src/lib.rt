@@ -11,8 +11,6 @@ pub mod posts;
 pub mod prims;
 mod reading;
 pub mod stmts;
-#[cfg(test)]
-mod tests;
 
 pub use band::Band;
 pub use expect::{MOST_OPEN, MOST_PARTS};

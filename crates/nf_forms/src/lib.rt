@@ -8,8 +8,6 @@ mod leaf;
 mod links;
 mod plan;
 mod processes;
-#[cfg(test)]
-mod tests;
 mod values;
 
 pub use fault::FormFault;

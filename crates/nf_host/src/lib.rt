@@ -16,6 +16,3 @@ pub use mem_sink::MemSink;
 pub use sink::{Sink, SinkFailed};
 pub use std_sink::StdSink;
 pub use whole::{Whole, read_whole};
-
-#[cfg(test)]
-mod tests;

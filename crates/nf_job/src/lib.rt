@@ -10,8 +10,6 @@ mod job;
 pub mod laws;
 mod parts;
 mod report;
-#[cfg(test)]
-mod tests;
 mod texts;
 mod work;
 

@@ -8,8 +8,6 @@ mod lane;
 mod refusal;
 mod table;
 mod table_lane;
-#[cfg(test)]
-mod tests;
 
 pub use child::{NO_CODE_STATUS, OUTPUT_LIMIT};
 pub use child_lane::ChildLane;

@@ -15,8 +15,6 @@ mod open;
 mod place;
 mod quoted;
 mod settler;
-#[cfg(test)]
-mod tests;
 mod token;
 mod word;
 

@@ -12,8 +12,6 @@ mod ranges;
 mod reading;
 mod sums;
 mod templates;
-#[cfg(test)]
-mod tests;
 
 pub use comparisons::{at_least, at_most, differs, greater, is_in, less, matches, same};
 pub use literals::{new_list, new_map};

@@ -25,6 +25,3 @@ pub use reduce::ReduceState;
 pub use sum::SumState;
 pub use to_list::ToListState;
 pub use value::ValueState;
-
-#[cfg(test)]
-mod tests;

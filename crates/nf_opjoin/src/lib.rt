@@ -15,6 +15,3 @@ mod tuples;
 pub use combine::CombineState;
 pub use group::GroupState;
 pub use join::JoinState;
-
-#[cfg(test)]
-mod tests;

@@ -24,6 +24,3 @@ pub use multi_map::MultiMapState;
 pub use pass::PassState;
 pub use transpose::TransposeState;
 pub use unique::UniqueState;
-
-#[cfg(test)]
-mod tests;

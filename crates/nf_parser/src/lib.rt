@@ -8,8 +8,6 @@ mod outputs;
 mod parser;
 mod processes;
 mod sections;
-#[cfg(test)]
-mod tests;
 mod tops;
 mod workflows;
 

@@ -8,8 +8,6 @@ pub mod laws;
 mod literal;
 mod parts;
 mod plain;
-#[cfg(test)]
-mod tests;
 mod whole;
 
 pub use fault::PatternFault;

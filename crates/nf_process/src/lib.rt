@@ -13,6 +13,3 @@ pub use outputs::emit_of;
 pub use process::ProcessSpec;
 pub use script::script_text;
 pub use template::{Piece, Pieces};
-
-#[cfg(test)]
-mod tests;

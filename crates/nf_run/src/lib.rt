@@ -6,6 +6,3 @@ mod rules;
 mod runs;
 
 pub use runs::{Ran, RunFault, run_plan, starts};
-
-#[cfg(test)]
-mod tests;

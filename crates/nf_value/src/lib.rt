@@ -12,8 +12,6 @@ mod mem;
 mod order;
 mod place;
 mod print;
-#[cfg(test)]
-mod tests;
 mod text;
 mod value;
 

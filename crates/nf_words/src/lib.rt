@@ -3,8 +3,6 @@
 
 mod command;
 mod fault;
-#[cfg(test)]
-mod tests;
 
 pub use command::{Command, FmtWords, RunWords, read_words};
 pub use fault::UsageFault;

@@ -1,0 +1,383 @@
+//! Copies of trees are made where there is memory: of an expression and of a script with every kind of node.
+
+use nf_ast::{
+    Arg, Arm, Branch, BranchMark, Closure, ClosureBody, Directive, Emit, Emits, Expr, Function,
+    InfixMark, Input, InputPart, Inputs, Key, Label, Operand, Output, OutputPart, OutputValue,
+    Outputs, Pair, Parameter, Parts, Piece, Postfix, Prefix, PrefixMark, Process, Script, Section,
+    Stmt, Take, Task, Top, Workflow, WorkflowBody,
+};
+use nf_lexer::{PlainKind, TemplateKind};
+use nf_value::{Mem, Place, Txt};
+use std::alloc::Global;
+use std::test::Fail;
+
+const AT: Place = Place { line: 1, col: 1 };
+
+/// A text that takes memory.
+fn word(alloc: Global) -> Result<Txt, Mem> {
+    Ok(Txt::of(String::from_str(alloc, "word")?))
+}
+
+fn txt(alloc: Global) -> Txt {
+    Txt::of(String::new(alloc))
+}
+
+fn name(alloc: Global) -> Expr {
+    Expr::name(AT, txt(alloc))
+}
+
+fn names(alloc: Global) -> Result<Vec<(Place, Txt)>, Mem> {
+    Ok(vec![in alloc; (AT, word(alloc)?)]?)
+}
+
+fn template(alloc: Global) -> Result<Expr, Mem> {
+    let hole = Piece::hole(AT, name(alloc));
+    let pieces = vec![in alloc; Piece::plain(AT, txt(alloc)), hole]?;
+    Ok(Expr::template(AT, TemplateKind::Double, pieces))
+}
+
+/// A map with a key of each kind.
+fn map(alloc: Global) -> Result<Expr, Mem> {
+    let kind = TemplateKind::Double;
+    let full = Key::Template(AT, kind, Some((AT, txt(alloc))));
+    let pairs = vec![in alloc;
+        Pair::new(Key::Name(AT, txt(alloc)), name(alloc)),
+        Pair::new(Key::Text(AT, PlainKind::Single, txt(alloc)), name(alloc)),
+        Pair::new(full, name(alloc)),
+        Pair::new(Key::Template(AT, kind, None), name(alloc)),
+    ]?;
+    Ok(Expr::map(AT, pairs))
+}
+
+fn stmts(alloc: Global) -> Result<Vec<Stmt>, Mem> {
+    Ok(vec![in alloc; Stmt::expr(name(alloc))]?)
+}
+
+fn choice(alloc: Global) -> Result<Stmt, Mem> {
+    let arm = Arm::new(AT, name(alloc), stmts(alloc)?);
+    let arms = vec![in alloc; arm]?;
+    Ok(Stmt::choice(arms, Some(stmts(alloc)?)))
+}
+
+fn define_all(alloc: Global) -> Result<Stmt, Mem> {
+    let names = names(alloc)?;
+    Ok(Stmt::define_all(AT, names, name(alloc)))
+}
+
+/// A statement of each kind.
+fn all_stmts(alloc: Global) -> Result<Vec<Stmt>, Mem> {
+    let mut all = vec![in alloc;
+        Stmt::define(AT, AT, txt(alloc), name(alloc)),
+        Stmt::assign(AT, txt(alloc), name(alloc)),
+        Stmt::returns(AT, name(alloc)),
+        Stmt::choice(Vec::new(alloc), None),
+        Stmt::println(AT, name(alloc)),
+        Stmt::log(AT, AT, txt(alloc), name(alloc)),
+        Stmt::expr(name(alloc)),
+    ]?;
+    all.push(define_all(alloc)?)?;
+    all.push(choice(alloc)?)?;
+    Ok(all)
+}
+
+fn labels(alloc: Global) -> Result<Vec<Label>, Mem> {
+    Ok(vec![in alloc; Label::new(AT, txt(alloc), name(alloc))]?)
+}
+
+fn args(alloc: Global) -> Result<Vec<Arg>, Mem> {
+    let named = Arg::new(Some((AT, txt(alloc))), name(alloc));
+    Ok(vec![in alloc; named, Arg::new(None, name(alloc))]?)
+}
+
+fn closure(alloc: Global) -> Result<Expr, Mem> {
+    let params = names(alloc)?;
+    let body = ClosureBody::statements(all_stmts(alloc)?);
+    Ok(Expr::closure(Closure::new(AT, Some(params), body)))
+}
+
+fn labelled(alloc: Global) -> Result<Closure, Mem> {
+    let labels = labels(alloc)?;
+    Ok(Closure::new(AT, None, ClosureBody::labels(labels)))
+}
+
+fn prefix(alloc: Global) -> Result<Expr, Mem> {
+    let mark = Prefix {
+        place: AT,
+        mark: PrefixMark::Not,
+    };
+    let marks = vec![in alloc; mark]?;
+    Expr::prefix(alloc, marks, name(alloc))
+}
+
+fn infix(alloc: Global) -> Result<Expr, Mem> {
+    let rest = vec![in alloc; Operand::new(AT, InfixMark::Minus, name(alloc))]?;
+    Expr::infix(alloc, name(alloc), rest)
+}
+
+fn conditional(alloc: Global) -> Result<Expr, Mem> {
+    let rest = vec![in alloc; Branch::new(AT, BranchMark::Elvis, name(alloc))]?;
+    Expr::conditional(alloc, name(alloc), rest)
+}
+
+fn postfix(alloc: Global) -> Result<Expr, Mem> {
+    let mut rest = vec![in alloc;
+        Postfix::property(AT, txt(alloc)),
+        Postfix::safe_property(AT, txt(alloc)),
+        Postfix::index(AT, name(alloc)),
+    ]?;
+    rest.push(Postfix::call(AT, args(alloc)?))?;
+    rest.push(Postfix::with(labelled(alloc)?))?;
+    Expr::postfix(alloc, name(alloc), rest)
+}
+
+/// A list with an item of each kind, in the order of `Expr`.
+fn items(alloc: Global) -> Result<Vec<Expr>, Mem> {
+    let mut items = Vec::new(alloc);
+    items.push(Expr::number(AT, 7))?;
+    items.push(Expr::text(AT, PlainKind::Single, word(alloc)?))?;
+    items.push(Expr::pattern(AT, txt(alloc)))?;
+    items.push(template(alloc)?)?;
+    items.push(Expr::truth(AT, true))?;
+    items.push(Expr::null(AT))?;
+    items.push(name(alloc))?;
+    add_open_items(alloc, &mut items)?;
+    Ok(items)
+}
+
+fn add_open_items(alloc: Global, items: &mut Vec<Expr>) -> Result<(), Mem> {
+    items.push(Expr::list(AT, Vec::new(alloc)))?;
+    items.push(map(alloc)?)?;
+    items.push(closure(alloc)?)?;
+    items.push(prefix(alloc)?)?;
+    items.push(infix(alloc)?)?;
+    items.push(conditional(alloc)?)?;
+    items.push(postfix(alloc)?)?;
+    Ok(())
+}
+
+fn kind(expr: &Expr) -> &'static str {
+    match expr {
+        Expr::Number(_, _) => "number",
+        Expr::Text(_, _, _) => "text",
+        Expr::Pattern(_, _) => "pattern",
+        Expr::Template(_, _, _) => "template",
+        Expr::Truth(_, _) => "truth",
+        Expr::Null(_) => "null",
+        Expr::Name(_, _) => "name",
+        Expr::List(_, _) => "list",
+        Expr::Map(_, _) => "map",
+        Expr::Closure(_) => "closure",
+        Expr::Prefix(_, _) => "prefix",
+        Expr::Infix(_, _) => "infix",
+        Expr::Conditional(_, _) => "conditional",
+        Expr::Postfix(_, _) => "postfix",
+    }
+}
+
+/// The items of a list; none of anything else.
+fn items_of(expr: &Expr) -> &[Expr] {
+    match expr {
+        Expr::List(_, items) => items,
+        _ => &[],
+    }
+}
+
+const KINDS: &[&str] = &[
+    "number",
+    "text",
+    "pattern",
+    "template",
+    "truth",
+    "null",
+    "name",
+    "list",
+    "map",
+    "closure",
+    "prefix",
+    "infix",
+    "conditional",
+    "postfix",
+];
+
+#[test]
+fn copies_an_expression_of_every_kind(rt: HostRuntime) -> Result<(), Fail> {
+    let alloc = rt.alloc();
+    let expr = Expr::list(AT, items(alloc)?);
+    let copy = expr.copy(alloc)?;
+    let items = items_of(&copy);
+    assert_eq!(rt; items.len(), KINDS.len());
+    for (item, want) in items.iter().zip(KINDS.iter().copied()) {
+        assert_eq!(rt; kind(item), want);
+    }
+    Ok(())
+}
+
+fn section(alloc: Global) -> Result<Section, Mem> {
+    let body = stmts(alloc)?;
+    Ok(Section { place: AT, body })
+}
+
+fn inputs(alloc: Global) -> Result<Inputs, Mem> {
+    let parts = vec![in alloc;
+        InputPart::Val(AT, AT, txt(alloc)),
+        InputPart::Path(AT, AT, txt(alloc)),
+    ]?;
+    let inputs = vec![in alloc; Input::One(InputPart::Stdin(AT)), Input::Tuple(AT, parts)]?;
+    Ok(Inputs { place: AT, inputs })
+}
+
+fn outputs(alloc: Global) -> Result<Outputs, Mem> {
+    let parts = vec![in alloc;
+        OutputPart::Val(AT, name(alloc)),
+        OutputPart::Path(AT, name(alloc)),
+    ]?;
+    let one = Output {
+        value: OutputValue::One(OutputPart::Stdout(AT)),
+        options: labels(alloc)?,
+    };
+    let tuple = Output {
+        value: OutputValue::Tuple(AT, parts),
+        options: Vec::new(alloc),
+    };
+    let outputs = vec![in alloc; one, tuple]?;
+    Ok(Outputs { place: AT, outputs })
+}
+
+fn directives(alloc: Global) -> Result<Vec<Directive>, Mem> {
+    let directive = Directive {
+        place: AT,
+        name: txt(alloc),
+        args: args(alloc)?,
+    };
+    Ok(vec![in alloc; directive]?)
+}
+
+fn process(alloc: Global) -> Result<Process, Mem> {
+    let directives = directives(alloc)?;
+    let inputs = inputs(alloc)?;
+    let outputs = outputs(alloc)?;
+    let stub = section(alloc)?;
+    Ok(Process {
+        place: AT,
+        name_place: AT,
+        name: txt(alloc),
+        directives,
+        inputs: Some(inputs),
+        outputs: Some(outputs),
+        task: Task::Text(name(alloc)),
+        stub: Some(stub),
+    })
+}
+
+fn short_process(alloc: Global) -> Result<Process, Mem> {
+    let script = section(alloc)?;
+    Ok(Process {
+        place: AT,
+        name_place: AT,
+        name: txt(alloc),
+        directives: Vec::new(alloc),
+        inputs: None,
+        outputs: None,
+        task: Task::Script(script),
+        stub: None,
+    })
+}
+
+fn emits(alloc: Global) -> Result<Emits, Mem> {
+    let named = Emit::Named(AT, txt(alloc), name(alloc));
+    let emits = vec![in alloc; named, Emit::Alone(name(alloc))]?;
+    Ok(Emits { place: AT, emits })
+}
+
+fn workflow(alloc: Global) -> Result<Workflow, Mem> {
+    let names = names(alloc)?;
+    let main = section(alloc)?;
+    let emit = Some(emits(alloc)?);
+    let take = Some(Take { place: AT, names });
+    Ok(Workflow {
+        place: AT,
+        name: Some((AT, txt(alloc))),
+        body: WorkflowBody::Parts(Parts { take, main, emit }),
+    })
+}
+
+fn short_workflow(alloc: Global) -> Result<Workflow, Mem> {
+    let body = stmts(alloc)?;
+    Ok(Workflow {
+        place: AT,
+        name: None,
+        body: WorkflowBody::Statements(body),
+    })
+}
+
+fn function(alloc: Global) -> Result<Function, Mem> {
+    let params = names(alloc)?;
+    let body = stmts(alloc)?;
+    Ok(Function {
+        place: AT,
+        name_place: AT,
+        name: txt(alloc),
+        params,
+        body,
+    })
+}
+
+fn parameter(alloc: Global) -> Parameter {
+    Parameter {
+        place: AT,
+        name_place: AT,
+        name: txt(alloc),
+        value: name(alloc),
+    }
+}
+
+/// A script with a top of each kind.
+fn script(alloc: Global) -> Result<Script, Mem> {
+    let mut tops = Vec::new(alloc);
+    tops.push(Top::Process(process(alloc)?))?;
+    tops.push(Top::Process(short_process(alloc)?))?;
+    tops.push(Top::Workflow(workflow(alloc)?))?;
+    tops.push(Top::Workflow(short_workflow(alloc)?))?;
+    tops.push(Top::Function(function(alloc)?))?;
+    tops.push(Top::Parameter(parameter(alloc)))?;
+    tops.push(Top::Println(AT, name(alloc)))?;
+    tops.push(Top::Log(AT, AT, txt(alloc), name(alloc)))?;
+    tops.push(Top::Dsl(AT))?;
+    Ok(Script { tops })
+}
+
+fn top_kind(top: &Top) -> &'static str {
+    match top {
+        Top::Process(_) => "process",
+        Top::Workflow(_) => "workflow",
+        Top::Function(_) => "function",
+        Top::Parameter(_) => "parameter",
+        Top::Println(_, _) => "println",
+        Top::Log(_, _, _, _) => "log",
+        Top::Dsl(_) => "dsl",
+    }
+}
+
+const TOP_KINDS: &[&str] = &[
+    "process",
+    "process",
+    "workflow",
+    "workflow",
+    "function",
+    "parameter",
+    "println",
+    "log",
+    "dsl",
+];
+
+#[test]
+fn copies_a_script_of_every_kind(rt: HostRuntime) -> Result<(), Fail> {
+    let alloc = rt.alloc();
+    let script = script(alloc)?;
+    let copy = script.copy(alloc)?;
+    assert_eq!(rt; copy.tops.len(), TOP_KINDS.len());
+    for (top, want) in copy.tops.iter().zip(TOP_KINDS.iter().copied()) {
+        assert_eq!(rt; top_kind(top), want);
+    }
+    Ok(())
+}
