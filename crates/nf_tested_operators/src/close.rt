@@ -46,43 +46,45 @@ fn shown(alloc: Global, answer: Result<Vec<(u32, Value)>, OpFault>) -> Result<Tx
     }
 }
 
+/// That a push emitted nothing.
+fn quiet(answer: &Result<Vec<(u32, Value)>, OpFault>) -> Result<(), Mem> {
+    match answer {
+        Ok(emits) => { if emits.is_empty() { Ok(()) } else { Err(Mem) } }
+        Err(_) => Err(Mem),
+    }
+}
+
+/// What `toList` answers for the items in that order.
+fn listed(alloc: Global, order: &[usize]) -> Result<Txt, Mem> {
+    let mut state = ToListState::begin(alloc, &plain_options())?;
+    for place in order {
+        quiet(&state.push(0, item(alloc, *place)?, Value::Null))?;
+    }
+    shown(alloc, state.close())
+}
+
+/// What `collect` answers for the items in that order, whose lists it opens where it is `flat`.
+fn collected(alloc: Global, flat: bool, order: &[usize]) -> Result<Txt, Mem> {
+    let mut state = CollectState::begin(alloc, &options(flat, None, Total::Sum))?;
+    for place in order {
+        quiet(&state.push(0, Value::Null, item(alloc, *place)?))?;
+    }
+    shown(alloc, state.close())
+}
+
 #[test]
 fn lists_hold_all_items(rt: HostRuntime) -> Result<(), Fail> {
     let alloc = rt.alloc();
-    let unopened = options(false, None, Total::Sum);
     for order in ORDERS {
-        let mut emits = Vec::new(alloc);
-        let mut listed = ToListState::begin(alloc, &plain_options())?;
-        let mut opened = CollectState::begin(alloc, &plain_options())?;
-        let mut collected = CollectState::begin(alloc, &unopened)?;
-        for place in order {
-            add(
-                &mut emits,
-                listed.push(0, item(alloc, *place)?, Value::Null),
-            )?;
-            add(
-                &mut emits,
-                opened.push(0, Value::Null, item(alloc, *place)?),
-            )?;
-            add(
-                &mut emits,
-                collected.push(0, Value::Null, item(alloc, *place)?),
-            )?;
-        }
-        assert_eq!(rt; emits.len(), 0);
-        let found = shown(alloc, listed.close())?;
+        let found = listed(alloc, order)?;
         assert_eq!(rt; found.as_str(), "[[3, [1, [3, 2]], [k:4]]]");
-        let found = shown(alloc, opened.close())?;
+        let found = collected(alloc, true, order)?;
         assert_eq!(rt; found.as_str(), "[[1, 3, [3, 2], [k:4]]]");
-        let found = shown(alloc, collected.close())?;
+        let found = collected(alloc, false, order)?;
         assert_eq!(rt; found.as_str(), "[[3, [1, [3, 2]], [k:4]]]");
     }
-    let mut none = ToListState::begin(alloc, &plain_options())?;
-    let found = shown(alloc, none.close())?;
-    assert_eq!(rt; found.as_str(), "[[]]");
-    let mut none = CollectState::begin(alloc, &plain_options())?;
-    let found = shown(alloc, none.close())?;
-    assert_eq!(rt; found.as_str(), "[]");
+    assert_eq!(rt; listed(alloc, &[])?.as_str(), "[[]]");
+    assert_eq!(rt; collected(alloc, true, &[])?.as_str(), "[]");
     Ok(())
 }
 
@@ -100,38 +102,46 @@ fn lists_are_at_most_64_deep(rt: HostRuntime) -> Result<(), Fail> {
     Ok(())
 }
 
+/// What `count` answers for so many items.
+fn counted(alloc: Global, items: u32) -> Result<Txt, Mem> {
+    let mut state = CountState::begin(alloc, &plain_options())?;
+    for _ in 0..items {
+        if state.has_room() {
+            quiet(&state.push(0, Value::Int(1), Value::Null))?;
+        }
+    }
+    shown(alloc, state.close())
+}
+
+/// What `min` answers for the items in that order.
+fn least(alloc: Global, order: &[usize]) -> Result<Txt, Mem> {
+    let mut state = MinState::begin(alloc, &plain_options())?;
+    for place in order {
+        quiet(&state.push(0, item(alloc, *place)?, Value::Null))?;
+    }
+    shown(alloc, state.close())
+}
+
+/// What `max` answers for the items in that order.
+fn greatest(alloc: Global, order: &[usize]) -> Result<Txt, Mem> {
+    let mut state = MaxState::begin(alloc, &plain_options())?;
+    for place in order {
+        quiet(&state.push(0, item(alloc, *place)?, Value::Null))?;
+    }
+    shown(alloc, state.close())
+}
+
 #[test]
 fn one_value_of_all_items(rt: HostRuntime) -> Result<(), Fail> {
     let alloc = rt.alloc();
+    assert_eq!(rt; counted(alloc, 3)?.as_str(), "[3]");
     for order in ORDERS {
-        let mut emits = Vec::new(alloc);
-        let mut count = CountState::begin(alloc, &plain_options())?;
-        let mut min = MinState::begin(alloc, &plain_options())?;
-        let mut max = MaxState::begin(alloc, &plain_options())?;
-        for place in order {
-            if count.has_room() {
-                add(&mut emits, count.push(0, Value::Int(1), Value::Null))?;
-            }
-            add(&mut emits, min.push(0, item(alloc, *place)?, Value::Null))?;
-            add(&mut emits, max.push(0, item(alloc, *place)?, Value::Null))?;
-        }
-        assert_eq!(rt; emits.len(), 0);
-        let found = shown(alloc, count.close())?;
-        assert_eq!(rt; found.as_str(), "[3]");
-        let found = shown(alloc, min.close())?;
-        assert_eq!(rt; found.as_str(), "[3]");
-        let found = shown(alloc, max.close())?;
-        assert_eq!(rt; found.as_str(), "[[k:4]]");
+        assert_eq!(rt; least(alloc, order)?.as_str(), "[3]");
+        assert_eq!(rt; greatest(alloc, order)?.as_str(), "[[k:4]]");
     }
-    let mut none = CountState::begin(alloc, &plain_options())?;
-    let found = shown(alloc, none.close())?;
-    assert_eq!(rt; found.as_str(), "[0]");
-    let mut none = MinState::begin(alloc, &plain_options())?;
-    let found = shown(alloc, none.close())?;
-    assert_eq!(rt; found.as_str(), "[]");
-    let mut none = MaxState::begin(alloc, &plain_options())?;
-    let found = shown(alloc, none.close())?;
-    assert_eq!(rt; found.as_str(), "[]");
+    assert_eq!(rt; counted(alloc, 0)?.as_str(), "[0]");
+    assert_eq!(rt; least(alloc, &[])?.as_str(), "[]");
+    assert_eq!(rt; greatest(alloc, &[])?.as_str(), "[]");
     Ok(())
 }
 
