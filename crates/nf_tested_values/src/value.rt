@@ -42,71 +42,103 @@ fn map(rt: &impl Abort, alloc: Global, keys: &[&str], values: Vec<Value>) -> Res
     Ok(Value::Map(Pairs::of(items)))
 }
 
-#[test]
-fn values_have_their_texts_and_measures(rt: HostRuntime) -> Result<(), Fail> {
-    let alloc = rt.alloc();
-    let two = vec![in alloc; Value::Int(1), list(alloc, &[])?]?;
-    let table = vec![in alloc;
-        (Value::Null, "null", 1, 0, false),
-        (Value::Truth(true), "true", 1, 0, true),
-        (Value::Truth(false), "false", 1, 0, false),
-        (Value::Int(0), "0", 3, 0, false),
-        (Value::Int(i64::MIN), "-9223372036854775808", 22, 0, true),
-        (Value::Int(i64::MAX), "9223372036854775807", 21, 0, true),
-        (text(alloc, "")?, "", 3, 0, false),
-        (text(alloc, "é✓")?, "é✓", 8, 0, true),
-        (file(alloc, "a.fq", 10)?, "a.fq", 74, 0, true),
-        (list(alloc, &[])?, "[]", 3, 1, false),
-        (list(alloc, &[1, 2])?, "[1, 2]", 9, 1, true),
-        (nested(alloc, 3)?, "[[[null]]]", 10, 3, true),
-        (map(&rt, alloc, &[], Vec::new(alloc))?, "[:]", 3, 1, false),
-        (
-            map(&rt, alloc, &["a", "b"], two)?,
-            "[a:1, b:[]]",
-            17,
-            2,
-            true
-        ),
-    ]?;
-    for (value, shown, bytes, deep, holds) in &table {
-        let printed = text_of(alloc, value)?;
-        assert_eq!(rt; printed.as_str(), *shown);
-        assert_eq!(rt; weight(value), *bytes, "at {shown}");
-        assert_eq!(rt; depth(value), *deep, "at {shown}");
-        assert_eq!(rt; truth(value), *holds, "at {shown}");
-    }
+/// That a value has this text, weight, depth and truth.
+fn measured(
+    rt: &impl Abort,
+    alloc: Global,
+    value: &Value,
+    shown: &str,
+    bytes: u64,
+    deep: u64,
+    holds: bool,
+) -> Result<(), Mem> {
+    let printed = text_of(alloc, value)?;
+    assert_eq!(rt; printed.as_str(), shown);
+    assert_eq!(rt; weight(value), bytes, "at {shown}");
+    assert_eq!(rt; depth(value), deep, "at {shown}");
+    assert_eq!(rt; truth(value), holds, "at {shown}");
     Ok(())
+}
+
+#[test]
+fn numbers_and_truths_have_their_texts_and_measures(rt: HostRuntime) -> Result<(), Fail> {
+    let alloc = rt.alloc();
+    let least = "-9223372036854775808";
+    let greatest = "9223372036854775807";
+    measured(&rt, alloc, &Value::Null, "null", 1, 0, false)?;
+    measured(&rt, alloc, &Value::Truth(true), "true", 1, 0, true)?;
+    measured(&rt, alloc, &Value::Truth(false), "false", 1, 0, false)?;
+    measured(&rt, alloc, &Value::Int(0), "0", 3, 0, false)?;
+    measured(&rt, alloc, &Value::Int(i64::MIN), least, 22, 0, true)?;
+    measured(&rt, alloc, &Value::Int(i64::MAX), greatest, 21, 0, true)?;
+    Ok(())
+}
+
+#[test]
+fn texts_and_lists_have_their_texts_and_measures(rt: HostRuntime) -> Result<(), Fail> {
+    let alloc = rt.alloc();
+    measured(&rt, alloc, &text(alloc, "")?, "", 3, 0, false)?;
+    measured(&rt, alloc, &text(alloc, "é✓")?, "é✓", 8, 0, true)?;
+    measured(&rt, alloc, &file(alloc, "a.fq", 10)?, "a.fq", 74, 0, true)?;
+    measured(&rt, alloc, &list(alloc, &[])?, "[]", 3, 1, false)?;
+    measured(&rt, alloc, &list(alloc, &[1, 2])?, "[1, 2]", 9, 1, true)?;
+    measured(&rt, alloc, &nested(alloc, 3)?, "[[[null]]]", 10, 3, true)?;
+    Ok(())
+}
+
+#[test]
+fn maps_have_their_texts_and_measures(rt: HostRuntime) -> Result<(), Fail> {
+    let alloc = rt.alloc();
+    let none = map(&rt, alloc, &[], Vec::new(alloc))?;
+    measured(&rt, alloc, &none, "[:]", 3, 1, false)?;
+    let mut values = Vec::new(alloc);
+    values.push(Value::Int(1))?;
+    values.push(list(alloc, &[])?)?;
+    let two = map(&rt, alloc, &["a", "b"], values)?;
+    measured(&rt, alloc, &two, "[a:1, b:[]]", 17, 2, true)?;
+    Ok(())
+}
+
+/// A map of one key to a number.
+fn of_one(rt: &impl Abort, alloc: Global, key: &str, number: i64) -> Result<Value, Mem> {
+    let mut values = Vec::new(alloc);
+    values.push(Value::Int(number))?;
+    map(rt, alloc, &[key], values)
+}
+
+/// A value at a place of the order.
+fn rising(rt: &impl Abort, alloc: Global, place: usize) -> Result<Value, Mem> {
+    match place {
+        0 => Ok(Value::Null),
+        1 => Ok(Value::Truth(false)),
+        2 => Ok(Value::Truth(true)),
+        3 => Ok(Value::Int(-1)),
+        4 => Ok(Value::Int(3)),
+        5 => text(alloc, ""),
+        6 => text(alloc, "B"),
+        7 => text(alloc, "a"),
+        8 => file(alloc, "a", 1),
+        9 => file(alloc, "a", 2),
+        10 => list(alloc, &[]),
+        11 => list(alloc, &[1]),
+        12 => list(alloc, &[1, 0]),
+        13 => list(alloc, &[2]),
+        14 => map(rt, alloc, &[], Vec::new(alloc)),
+        15 => of_one(rt, alloc, "a", 2),
+        _ => of_one(rt, alloc, "b", 1),
+    }
 }
 
 #[test]
 fn values_are_in_order(rt: HostRuntime) -> Result<(), Fail> {
     let alloc = rt.alloc();
-    let one = vec![in alloc; Value::Int(2)]?;
-    let other = vec![in alloc; Value::Int(1)]?;
-    let rising = vec![in alloc;
-        Value::Null,
-        Value::Truth(false),
-        Value::Truth(true),
-        Value::Int(-1),
-        Value::Int(3),
-        text(alloc, "")?,
-        text(alloc, "B")?,
-        text(alloc, "a")?,
-        file(alloc, "a", 1)?,
-        file(alloc, "a", 2)?,
-        list(alloc, &[])?,
-        list(alloc, &[1])?,
-        list(alloc, &[1, 0])?,
-        list(alloc, &[2])?,
-        map(&rt, alloc, &[], Vec::new(alloc))?,
-        map(&rt, alloc, &["a"], one)?,
-        map(&rt, alloc, &["b"], other)?,
-    ]?;
-    for (i, a) in rising.iter().enumerate() {
-        for (j, b) in rising.iter().enumerate() {
-            let copy = a.copy()?;
-            assert_eq!(rt; copy.cmp(b), i.cmp(&j), "at {i} and {j}");
-            assert_eq!(rt; copy == *b, i == j, "at {i} and {j}");
+    for i in 0..17usize {
+        for j in 0..17usize {
+            let first = rising(&rt, alloc, i)?;
+            let other = rising(&rt, alloc, j)?;
+            let copy = first.copy()?;
+            assert_eq!(rt; copy.cmp(&other), i.cmp(&j), "at {i} and {j}");
+            assert_eq!(rt; copy == other, i == j, "at {i} and {j}");
         }
     }
     Ok(())
