@@ -18,6 +18,7 @@ use crate::around::Around;
 use crate::flow::Step;
 use crate::scope::Scope;
 use crate::shapes::is_block;
+use crate::values::value;
 use nf_ast::{Arm, ClosureBody, Label, Stmt};
 use nf_builtins::Natives;
 use nf_calls::split;
@@ -104,43 +105,23 @@ pub(crate) fn statement<N: Natives>(
 {
     match stmt {
         Stmt::Define(_, _, name, expr) => {
-            let value = crate::values::value(
-                alloc,
-                expr,
-                &Around::Body(&*names, &*around),
-                natives,
-            )?;
+            let value = value(alloc, expr, &Around::Body(&*names, &*around), natives)?;
             names.define(name.copy()?, value)?;
             Ok(Step::Going(Value::Null))
         }
         Stmt::DefineAll(place, list, expr) => {
-            let value = crate::values::value(
-                alloc,
-                expr,
-                &Around::Body(&*names, &*around),
-                natives,
-            )?;
+            let value = value(alloc, expr, &Around::Body(&*names, &*around), natives)?;
             let parts = split(alloc, *place, list, &value)?;
             names.define_all(parts)?;
             Ok(Step::Going(Value::Null))
         }
         Stmt::Assign(_, name, expr) => {
-            let value = crate::values::value(
-                alloc,
-                expr,
-                &Around::Body(&*names, &*around),
-                natives,
-            )?;
+            let value = value(alloc, expr, &Around::Body(&*names, &*around), natives)?;
             names.rebind(name.as_str(), value);
             Ok(Step::Going(Value::Null))
         }
         Stmt::Return(_, expr) => {
-            let value = crate::values::value(
-                alloc,
-                expr,
-                &Around::Body(&*names, &*around),
-                natives,
-            )?;
+            let value = value(alloc, expr, &Around::Body(&*names, &*around), natives)?;
             Ok(Step::Returned(value))
         }
         Stmt::Choice(list, None) => match arms(alloc, list, names, around, natives)? {
@@ -156,12 +137,7 @@ pub(crate) fn statement<N: Natives>(
         Stmt::Expr(expr) => {
             // By its contract the tree is that of an expression.
             is_block(expr);
-            let value = crate::values::value(
-                alloc,
-                expr,
-                &Around::Body(&*names, &*around),
-                natives,
-            )?;
+            let value = value(alloc, expr, &Around::Body(&*names, &*around), natives)?;
             Ok(Step::Going(value))
         }
     }
