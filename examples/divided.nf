@@ -1,1 +1,3 @@
-workflow { channel.of(1, 0).map { 10.intdiv(it) }.view() }
+workflow {
+    channel.of(1, 0).map { 10.intdiv(it) }.view()
+}
