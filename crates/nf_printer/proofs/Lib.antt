@@ -6,3 +6,4 @@ pub mod Operands
 pub mod Conditions
 pub mod Postfixes
 pub mod Firsts
+pub mod Lasts

@@ -3,7 +3,7 @@
 ghost use Rattle.std.specs.Prelude.{◌≡◌, ◌&&◌, not, nat_lt, map};
 ghost use Rattle.nf_ast.specs.View.{view, view_operand, view_branch, view_postfix};
 ghost use Rattle.nf_printer.specs.Levels.{mark_level as level_of_mark, left_level as left_level_of, right_level as right_level_of, level as level_of};
-ghost use Rattle.nf_printer.specs.Chains.{is_nil, last_level as last_level_of, is_bare as is_bare_of};
+ghost use Rattle.nf_printer.specs.Chains.{is_nil, is_bare as is_bare_of};
 
 use nf_ast::{Branch, Expr, InfixMark, Operand, Postfix, Prefix};
 
@@ -59,13 +59,16 @@ pub fn right_level(mark: InfixMark) -> u8
     mark_level(mark) + 1
 }
 
-/// The level of an expression: that of its outermost mark.
+/// The level of an expression: that of its outermost mark. Only where a node has an empty list does it go down to the first operand.
 pub fn level(expr: &Expr) -> u8
     ensures { result ≡ level_of (view expr.now) }
 {
     match expr {
         Expr::Prefix(marks, of) => { if no_marks(marks) { level(of) } else { PREFIX } }
-        Expr::Infix(first, rest) => last_level(rest, level(first)),
+        Expr::Infix(first, rest) => match rest.last() {
+            None => level(first),
+            Some(operand) => mark_level(operand.mark),
+        },
         Expr::Conditional(first, rest) => { if no_branches(rest) { level(first) } else { 0 } }
         Expr::Postfix(first, rest) => {
             if no_parts(rest) {
@@ -127,17 +130,6 @@ pub fn no_parts(rest: &[Postfix]) -> bool
         [] => true,
         _ => false,
     }
-}
-
-/// The level of operands, after what has this level.
-fn last_level(rest: &[Operand], first: u8) -> u8
-    ensures { result ≡ last_level_of (map view_operand rest.now) first }
-{
-    let mut last = first;
-    for operand in rest {
-        last = mark_level(operand.mark);
-    }
-    last
 }
 
 /// No brackets open before operands, after what has this level.

@@ -1,21 +1,26 @@
-use Rattle.std.proofs.Common.{◌≡◌, [], map, true, false, ap, ◌∙◌, sym, rules}
+use Rattle.std.proofs.Common.{◌≡◌, ◌<◌, ◌-◌, Some, length, arith, [], map, true, false, ap, ◌∙◌, sym, rules}
 use Rattle.std.specs.Prelude.{if◌then◌else◌}
+use Rattle.std.specs.List.{slice_get}
+use Rattle.std.proofs.lemmas.Option.{slice_get_within}
 use Rattle.nf_ast.specs.declared.expr.Expr.{the_lemmas}
 use Rattle.nf_ast.specs.View.{view, view_operand, view_branch, view_postfix, operands, conditional, postfix}
 use Rattle.nf_printer.specs.Levels.{level}
-use Rattle.nf_printer.specs.Chains.{is_nil, last_level}
+use Rattle.nf_printer.specs.Chains.{is_nil}
 use Rattle.nf_printer.proofs.Operands.{operands_level}
+use Rattle.nf_printer.proofs.Lasts.{last_mark}
 use Rattle.nf_printer.proofs.Firsts.{branches_level}
 use Rattle.nf_printer.proofs.Postfixes.{parts_level}
 use Rattle.nf_printer.proofs.levels.+level.Goals as goal
 
-pub returns-in-Infix : goal.returns-in-Infix
-returns-in-Infix t c =
+pub returns-in-Some : goal.returns-in-Some
+returns-in-Some t c =
     let a = view c.in-Infix.first.value in
-    let xs = map view_operand c.in-Infix.rest.items in
-    let is : view c.args.expr.now ≡ operands a xs = search (rules, the_lemmas) in
-    let led : c.last_level.result ≡ last_level xs (level a) = search rules in
-    led ∙ sym (ap level is ∙ operands_level a xs)
+    let ys = c.in-Infix.rest.items in
+    let y = c.in-Some.operand.now in
+    let is : view c.args.expr.now ≡ operands a (map view_operand ys) = search (rules, the_lemmas) in
+    let at : slice_get ys (length ys - 1) ≡ Some y = search rules in
+    let some : length ys - 1 < length ys = slice_get_within ys (length ys - 1) y at in
+    c.mark_level.ensures ∙ sym (ap level is ∙ operands_level a (map view_operand ys) ∙ last_mark ys y (level a) (length ys - 1) (omega arith) at)
 
 pub returns-then-no_branches : goal.returns-then-no_branches
 returns-then-no_branches t c =
