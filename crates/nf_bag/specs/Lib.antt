@@ -1,3 +1,4 @@
 pub mod Bag
 pub mod Sorted
 pub mod Fault
+pub mod Options

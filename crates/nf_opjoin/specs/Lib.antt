@@ -9,4 +9,3 @@ pub mod Held
 pub mod Joined
 pub mod Kept
 pub mod Listed
-pub mod Options

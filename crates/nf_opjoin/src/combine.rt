@@ -5,7 +5,7 @@ ghost use Rattle.nf_value.specs.View.{plain_of};
 ghost use Rattle.nf_opstream.specs.Push.{Push, push_of};
 ghost use Rattle.nf_opstream.specs.Promise.{emits_of, HasEmitted, HasEnded, PushRefused, CloseRefused};
 ghost use Rattle.nf_opjoin.specs.Combined.{combine_row};
-ghost use Rattle.nf_opjoin.specs.Options.{IsCombineOptions};
+ghost use Rattle.nf_bag.specs.Options.{combine, Allows};
 
 use crate::laws;
 use crate::meeting::{meet, paired_by};
@@ -37,7 +37,7 @@ impl CombineState {
     ///
     /// `Mem`, which this operator doesn't answer.
     pub fn begin(alloc: Global, opts: &OpOpts) -> Result<CombineState, Mem>
-        requires { IsCombineOptions opts.now }
+        requires { Allows combine opts.now }
         ensures after { IfOk result (λ s. IsCombineAfter (is_some opts.now.by) [] s) }
         ensures begun { IsOk result }
     {
