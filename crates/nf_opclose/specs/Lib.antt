@@ -1,7 +1,6 @@
 pub mod Closing
 pub mod Gathered
 pub mod Numbers
-pub mod Options
 pub mod Reduce
 pub mod Rows
 pub mod Running
