@@ -8,3 +8,4 @@ pub mod Read
 pub mod Literal
 pub mod Property
 pub mod Template
+pub mod Gathering

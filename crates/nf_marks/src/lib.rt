@@ -2,6 +2,7 @@
 #![tactic(auto)]
 
 mod comparisons;
+mod gathered;
 mod kinds;
 mod limits;
 mod literals;
@@ -14,6 +15,7 @@ mod sums;
 mod templates;
 
 pub use comparisons::{at_least, at_most, differs, greater, is_in, less, matches, same};
+pub use gathered::Gathered;
 pub use literals::{new_list, new_map};
 pub use products::{negative, remainder, times};
 pub use properties::property;
