@@ -1,8 +1,9 @@
 //! Parts of expressions at their places.
 
 ghost use Rattle.std.specs.Prelude.{ℕ, List, Ok, map};
-ghost use Rattle.nf_value.specs.Plain.{text as text_plain};
+ghost use Rattle.nf_value.specs.Plain.{Plain, text as text_plain};
 ghost use Rattle.nf_value.specs.View.{plain_of, pair_of};
+ghost use Rattle.nf_marks.specs.Gathering.{IsGathered};
 ghost use Rattle.nf_marks.specs.Literal.{new_list as new_list_of, new_map as new_map_of};
 ghost use Rattle.nf_marks.specs.Property.{property as property_of};
 ghost use Rattle.nf_marks.specs.Read.{index as index_of};
@@ -10,7 +11,7 @@ ghost use Rattle.nf_marks.specs.Template.{IsWritten};
 ghost use Rattle.nf_calls.specs.Placed.{Evaluates, made};
 
 use crate::places::placed;
-use nf_marks::{Written, index, new_list, new_map, property};
+use nf_marks::{Gathered, Written, index, new_list, new_map, property};
 use nf_texts::limits::copied;
 use nf_value::{EvalRefusal, Place, Txt, Value};
 use std::alloc::Global;
@@ -53,6 +54,18 @@ pub fn list_value(place: Place, items: Vec<Value>) -> Result<Value, EvalRefusal>
     ensures { Evaluates (made place (new_list_of (map plain_of items.items))) result }
 {
     placed(place, new_list(items))
+}
+
+/// The list of the values that were gathered, at the place of its bracket or of the method that made them (Nextflow reference documentation,
+/// "Syntax", "List"). Takes no memory.
+///
+/// # Errors
+///
+/// `TooLarge` and `TooDeep` at its place where the list passes a limit (own).
+pub fn gathered_value(place: Place, values: Gathered) -> Result<Value, EvalRefusal>
+    ensures { (vs : List Plain) → IsGathered vs values → Evaluates (made place (new_list_of vs)) result }
+{
+    placed(place, values.end())
 }
 
 /// `[k: a, l: b]` at the place of the bracket, where of equal keys the last counts (Nextflow reference documentation, "Syntax", "Map"). Takes time by
