@@ -10,18 +10,23 @@ use Rattle.nf_value.specs.declared.fault.EvalRefusal.{EvalRefusal}
 use Rattle.nf_texts.specs.declared.fault.CallFault.{CallFault}
 use Rattle.nf_texts.specs.declared.fault.CallFault.TheVariants as call
 use Rattle.nf_builtins.specs.Natives.{AnswersNative}
-use Rattle.nf_calls.specs.Placed.{Placed, Evaluates, fault, placed_of}
-use Rattle.nf_calls.specs.Calls.{id_from, answered, by_title, native_call}
+use Rattle.nf_texts.specs.Outcome.{Gives}
+use Rattle.nf_value.specs.View.{plain_of}
+use Rattle.nf_calls.specs.Placed.{Placed, Evaluates, placed_of}
+use Rattle.nf_calls.specs.Calls.{id_from, native_outcome, by_title, native_call}
+use Rattle.nf_calls.proofs.Placing.{evaluates}
 
-of_answer : (p : Place) (o : Option Plain) (r : Result Value CallFault) → AnswersNative o r → Evaluates (answered p o) (placed_of p r)
-of_answer p o (Ok v) h = ap (answered p) h
-of_answer p o (Err (call.Kind k)) h = ap (answered p) h.1 ∙ sym (ap (λ l. fault l p) h.0)
-of_answer p o (Err call.Mem) h = tt
+-- a value is judged by itself, and no answer is a fault
+pub judged_answer : (o : Option Plain) (v : Value) (r : Result Value CallFault) → AnswersNative o (Ok v) → Gives (Ok (plain_of v)) r → Gives (native_outcome o) r
+judged_answer o v r h g = subst (λ (x : Option Plain). Gives (native_outcome x) r) (sym h) g
 
-pub native_answers : (p : Place) (n : List ℕ) (titles : List (List ℕ)) (answer : ℕ → List Plain → Option Plain) (vs : List Plain) (id : ℕ) (r : Result Value CallFault) (s : Result Value EvalRefusal) → id_from 0 n titles ≡ Some id → AnswersNative (answer id vs) r → s ≡ placed_of p r → Evaluates (native_call p n titles answer vs) s
+pub no_answer : (o : Option Plain) (f : CallFault) → AnswersNative o (Err f) → Gives (native_outcome o) (Err f)
+no_answer o (call.Kind k) h = subst (λ (x : Option Plain). Gives (native_outcome x) (Err (call.Kind k))) (sym h.1) (ap Err (sym h.0))
+no_answer o call.Mem h = tt
+
+pub native_answers : (p : Place) (n : List ℕ) (titles : List (List ℕ)) (answer : ℕ → List Plain → Option Plain) (vs : List Plain) (id : ℕ) (r : Result Value CallFault) (s : Result Value EvalRefusal) → id_from 0 n titles ≡ Some id → Gives (native_outcome (answer id vs)) r → s ≡ placed_of p r → Evaluates (native_call p n titles answer vs) s
 native_answers p n titles answer vs id r s found h e =
-    subst (λ (t : Result Value EvalRefusal). Evaluates (native_call p n titles answer vs) t) (sym e)
-    (subst (λ (o : Placed Plain). Evaluates o (placed_of p r)) (sym (ap (λ i. by_title i p answer vs) found)) (of_answer p (answer id vs) r h))
+    subst (λ (o : Placed Plain). Evaluates o s) (sym (ap (λ i. by_title i p answer vs) found)) (evaluates p (native_outcome (answer id vs)) r s e h)
 
 at_title : (n t : List ℕ) (ts : List (List ℕ)) (i : ℕ) → slice_get ts i ≡ Some t → drop i ts ≡ t ∷ drop (suc i) ts
 at_title n t [] i h = absurd (none-some t h)

@@ -3,3 +3,4 @@ pub mod Finding
 pub mod Arguments
 pub mod Answering
 pub mod Naming
+pub mod Unfitting

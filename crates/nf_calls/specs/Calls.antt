@@ -1,9 +1,10 @@
 -- What calls give.
-use Rattle.std.specs.Prelude.{ℕ, ◌+◌, ◌==◌, true, false, List, [], ◌∷◌, ◌++◌, length, codes, if◌then◌else◌, Option, Some, None, option_map, Ok}
+use Rattle.std.specs.Prelude.{ℕ, ◌+◌, ◌==◌, true, false, List, [], ◌∷◌, ◌++◌, length, replicate, codes, if◌then◌else◌, Option, Some, None, option_map, Ok, Err}
 use Rattle.std.specs.Str.{bytes_eq}
 use Rattle.nf_value.specs.Plain.{Plain, null, truth, int, text, file, list, table}
 use Rattle.nf_value.specs.Truth.{truth_of}
 use Rattle.nf_value.specs.declared.place.Place.{Place}
+use Rattle.nf_value.specs.declared.fault.EvalKind.{EvalKind}
 use Rattle.nf_value.specs.declared.fault.EvalKind.TheVariants.{WrongKind, NoMethod, Arity, Native}
 use Rattle.nf_builtins.specs.declared.method.Method.{Method}
 use Rattle.nf_builtins.specs.declared.method.Method.TheVariants as m
@@ -11,6 +12,7 @@ use Rattle.nf_builtins.specs.declared.rows.Builtin.{Builtin}
 use Rattle.nf_builtins.specs.declared.rows.Form.{Form}
 use Rattle.nf_builtins.specs.declared.rows.Form.TheVariants as form
 use Rattle.nf_texts.specs.Args.{items_of}
+use Rattle.nf_texts.specs.Outcome.{Outcome}
 use Rattle.nf_builtins.specs.Call.{builtin_rows, answer_of}
 use Rattle.nf_builtins.specs.Lists.{list_of}
 use Rattle.nf_builtins.specs.Method.{method_name}
@@ -30,6 +32,8 @@ pub data Callee : Type 0 where
   method : Plain → Place → List ℕ → Callee
   function : Place → List ℕ → Callee
   math : Place → List ℕ → Callee
+  -- a value, which can't be called, with the place at which its arguments begin
+  no_function : Place → Callee
 
 -- ---- arguments
 
@@ -42,10 +46,25 @@ values_in [] = Some []
 values_in (plain v ∷ more) = with_one v (values_in more)
 values_in (block f ∷ more) = None
 
--- what comes of values; a closure among them is of the wrong kind
-abbrev pub by_values : Place → Option (List Plain) → (List Plain → Placed Plain) → Placed Plain
-by_values p None f = fault WrongKind p
-by_values p (Some vs) f = f vs
+-- what comes of values; a closure among them is this fault
+abbrev pub by_values : Place → EvalKind → Option (List Plain) → (List Plain → Placed Plain) → Placed Plain
+by_values p k None f = fault k p
+by_values p k (Some vs) f = f vs
+
+-- ---- a closure where none is taken: it is of the wrong kind, unless there is no such call, or none of so many arguments
+
+abbrev pub before_kinds : EvalKind → EvalKind
+before_kinds NoMethod = NoMethod
+before_kinds Arity = Arity
+before_kinds _ = WrongKind
+
+abbrev pub closure_kind : Outcome → EvalKind
+closure_kind (Ok v) = WrongKind
+closure_kind (Err k) = before_kinds k
+
+-- a row looks at its receiver and at the number of its arguments before their kinds, so it is told by as many nulls
+abbrev pub unfit : Method → Plain → ℕ → EvalKind
+unfit k recv n = closure_kind (answer_of k recv (replicate n null))
 
 -- ---- methods that take a closure
 
@@ -108,7 +127,7 @@ row_of n [] = None
 row_of n (b ∷ bs) = if bytes_eq (method_name b.method) n then Some b else row_of n bs
 
 abbrev pub by_form : Form → Place → Method → Plain → List Argument → Placed Plain
-by_form form.Call p k recv args = by_values p (values_in args) (λ vs. made p (answer_of k recv vs))
+by_form form.Call p k recv args = by_values p (unfit k recv (length args)) (values_in args) (λ vs. made p (answer_of k recv vs))
 by_form form.Closure p k recv args = on_items p k recv args
 by_form form.Property p k recv args = fault NoMethod p
 
@@ -130,14 +149,14 @@ abbrev pub id_from : ℕ → List ℕ → List (List ℕ) → Option ℕ
 id_from k n [] = None
 id_from k n (t ∷ ts) = if bytes_eq t n then Some k else id_from (k + 1) n ts
 
-abbrev pub answered : Place → Option Plain → Placed Plain
-answered p (Some v) = Ok v
-answered p None = fault Native p
+abbrev pub native_outcome : Option Plain → Outcome
+native_outcome (Some v) = Ok v
+native_outcome None = Err Native
 
 -- a function of the program, by its number
 abbrev pub by_title : Option ℕ → Place → (ℕ → List Plain → Option Plain) → List Plain → Placed Plain
 by_title None p answer vs = fault NoMethod p
-by_title (Some id) p answer vs = answered p (answer id vs)
+by_title (Some id) p answer vs = made p (native_outcome (answer id vs))
 
 -- a function of the program, by its name
 abbrev pub native_call : Place → List ℕ → List (List ℕ) → (ℕ → List Plain → Option Plain) → List Plain → Placed Plain
@@ -147,9 +166,18 @@ abbrev pub by_function : Option Function → Place → List ℕ → Env → List
 by_function (Some f) p n env vs = if length vs == f.arity then f.gives vs else fault Arity p
 by_function None p n env vs = native_call p n env.titles env.answer vs
 
+-- a closure among so many arguments; a function of the program takes any number
+abbrev pub unfit_title : Option ℕ → EvalKind
+unfit_title None = NoMethod
+unfit_title (Some id) = WrongKind
+
+abbrev pub unfit_function : Option Function → List ℕ → Env → ℕ → EvalKind
+unfit_function (Some f) n env k = if k == f.arity then WrongKind else Arity
+unfit_function None n env k = unfit_title (id_from 0 n env.titles)
+
 -- a function of the script, or else one of the program's
 abbrev pub function_call : Place → List ℕ → Env → List Argument → Placed Plain
-function_call p n env args = by_values p (values_in args) (λ vs. by_function (function_in n env.functions) p n env vs)
+function_call p n env args = by_values p (unfit_function (function_in n env.functions) n env (length args)) (values_in args) (λ vs. by_function (function_in n env.functions) p n env vs)
 
 -- what is called gets its arguments, which aren't evaluated where nothing is called
 abbrev pub called : Callee → (Env → Placed (List Argument)) → Env → Placed Plain
@@ -157,3 +185,4 @@ called nothing args env = Ok null
 called (method v p n) args env = args env >>= λ xs. method_call p n v xs
 called (function p n) args env = args env >>= λ xs. function_call p n env xs
 called (math p n) args env = args env >>= λ xs. math_call p n xs
+called (no_function p) args env = args env >>= λ xs. fault WrongKind p

@@ -13,7 +13,7 @@ mod rows;
 pub use blocks::{BlockMethod, block_method, math_block};
 pub use marked::{infix_value, matches_value, prefix_value};
 pub use methods::{math_value, method_value};
-pub use natives::native_value;
+pub use natives::{native_block, native_value};
 pub use params::{bound, paired, split};
 pub use parts::{
     copy_value, gathered_value, index_value, list_value, map_value, property_value, text_value,

@@ -1,27 +1,46 @@
 -- Calls of values, and calls where a closure is among the arguments.
 use Rattle.std.proofs.Common.{◌≡◌, ◌∙◌, ℕ, List, [], ◌∷◌, length, map, Ok, Err, refl, sym, ap, subst}
-use Rattle.std.specs.Prelude.{Option, Some, None, option_map, Result}
+use Rattle.std.specs.Prelude.{◌==◌, if◌then◌else◌, Option, Some, None, option_map, Result}
 use Rattle.nf_value.specs.Plain.{Plain}
 use Rattle.nf_value.specs.declared.value.Value.{Value}
 use Rattle.nf_value.specs.declared.place.Place.{Place}
-use Rattle.nf_value.specs.declared.fault.EvalKind.TheVariants.{WrongKind}
+use Rattle.nf_value.specs.declared.fault.EvalKind.{EvalKind}
+use Rattle.nf_value.specs.declared.fault.EvalKind.TheVariants.{WrongKind, Arity}
 use Rattle.nf_value.specs.declared.fault.EvalRefusal.{EvalRefusal}
 use Rattle.nf_value.specs.declared.fault.EvalRefusal.TheVariants as refusal
+use Rattle.nf_ast.specs.declared.tops.Function.{Function as Code}
 use Rattle.nf_marks.specs.Template.{listed}
 use Rattle.nf_calls.specs.declared.blocks.BlockMethod.{BlockMethod}
-use Rattle.nf_calls.specs.Placed.{Placed, Evaluates}
+use Rattle.nf_calls.specs.Placed.{Placed, Evaluates, fault}
 use Rattle.nf_calls.specs.Scope.{Env, function_in}
-use Rattle.nf_calls.specs.Calls.{Argument, plain, block, values_in, by_values, by_function, over_items, method_call, math_call, Callee, method, function, math, called}
+use Rattle.nf_calls.specs.Calls.{Argument, plain, block, values_in, by_values, by_function, id_from, unfit_title, unfit_function, over_items, method_call, math_call, function_call, Callee, method, function, math, called}
 use Rattle.nf_calls.specs.Blocks.{row_method, IsFaultOfBlocks}
+use Rattle.nf_eval.specs.Functions.{definition_of, definitions_in, function_of}
+use Rattle.nf_eval.specs.Memory.{IsHandedIn}
+use Rattle.nf_eval.proofs.Scripted.{as_many_names}
 
-pub function_of_blocks : (k : Callee) (p : Place) (n : List ℕ) (xs : List Argument) (env : Env) (r : EvalRefusal) → k ≡ function p n → values_in xs ≡ None → r ≡ refusal.Fault (record { kind = WrongKind; place = p }) → Evaluates (called k (λ e. Ok xs) env) (Err r)
-function_of_blocks k p n xs env r is none e =
-    let gives : called k (λ e. Ok xs) env ≡ Err (record { kind = WrongKind; place = p }) = ap (λ c. called c (λ e. Ok xs) env) is ∙ ap (λ (vs : Option (List Plain)). by_values p vs (λ ws. by_function (function_in n env.functions) p n env ws)) none in
-    subst (λ (q : EvalRefusal). Evaluates (called k (λ e. Ok xs) env) (Err q)) (sym e) gives
+-- a closure is no argument of a function
+unfit_due : (p : Place) (n : List ℕ) (env : Env) (m : ℕ) (l : EvalKind) (args : List Argument) → l ≡ unfit_function (function_in n env.functions) n env m → length args ≡ m → values_in args ≡ None → function_call p n env args ≡ fault l p
+unfit_due p n env m l args e len none =
+    let f = function_in n env.functions in
+    ap (λ (vs : Option (List Plain)). by_values p (unfit_function f n env (length args)) vs (λ ws. by_function f p n env ws)) none ∙ ap (λ k. fault {A = Plain} (unfit_function f n env k) p) len ∙ ap (λ k. fault {A = Plain} k p) (sym e)
 
-pub math_of_blocks : (k : Callee) (p : Place) (n : List ℕ) (xs : List Argument) (env : Env) (r : EvalRefusal) → k ≡ math p n → values_in xs ≡ None → IsFaultOfBlocks (math_call p n) (length xs) r → Evaluates (called k (λ e. Ok xs) env) (Err r)
-math_of_blocks k p n xs env (refusal.Fault e) is none h = ap (λ c. called c (λ e. Ok xs) env) is ∙ h xs refl none
-math_of_blocks k p n xs env refusal.Mem is none h = tt
+unfit_at : (p : Place) (n : List ℕ) (env : Env) (m : ℕ) (l : EvalKind) (r : EvalRefusal) → l ≡ unfit_function (function_in n env.functions) n env m → r ≡ refusal.Fault (record { kind = l; place = p }) → IsFaultOfBlocks (function_call p n env) m r
+unfit_at p n env m l r e is = subst (IsFaultOfBlocks (function_call p n env) m) (sym is) (λ args len none. unfit_due p n env m l args e len none)
+
+pub unfit_script : (p : Place) (n : List ℕ) (env : Env) (m : ℕ) (f : Code) (earlier : List Code) (patterns titles : List (List ℕ)) (answer : ℕ → List Plain → Option Plain) (l : EvalKind) (r : EvalRefusal) → function_in n env.functions ≡ Some (function_of (definition_of f) (definitions_in earlier) patterns titles answer) → l ≡ (if m == length f.params.items then WrongKind else Arity) → r ≡ refusal.Fault (record { kind = l; place = p }) → IsFaultOfBlocks (function_call p n env) m r
+unfit_script p n env m f earlier patterns titles answer l r found e is = unfit_at p n env m l r (e ∙ ap (λ k. if m == k then WrongKind else Arity) (sym (as_many_names f.params.items)) ∙ sym (ap (λ g. unfit_function g n env m) found)) is
+
+pub unfit_native : (p : Place) (n : List ℕ) (env : Env) (m : ℕ) (titles : List (List ℕ)) (answer : ℕ → List Plain → Option Plain) (r : EvalRefusal) → function_in n env.functions ≡ None → IsHandedIn env titles answer → r ≡ refusal.Fault (record { kind = unfit_title (id_from 0 n titles); place = p }) → IsFaultOfBlocks (function_call p n env) m r
+unfit_native p n env m titles answer r none given is = unfit_at p n env m (unfit_title (id_from 0 n titles)) r (ap (λ ts. unfit_title (id_from 0 n ts)) (sym given.has_titles) ∙ sym (ap (λ g. unfit_function g n env m) none)) is
+
+pub function_of_blocks : (k : Callee) (p : Place) (n : List ℕ) (xs : List Argument) (env : Env) (m : ℕ) (r : EvalRefusal) → k ≡ function p n → values_in xs ≡ None → length xs ≡ m → IsFaultOfBlocks (function_call p n env) m r → Evaluates (called k (λ e. Ok xs) env) (Err r)
+function_of_blocks k p n xs env m (refusal.Fault e) is none len h = ap (λ c. called c (λ e. Ok xs) env) is ∙ h xs len none
+function_of_blocks k p n xs env m refusal.Mem is none len h = tt
+
+pub math_of_blocks : (k : Callee) (p : Place) (n : List ℕ) (xs : List Argument) (env : Env) (m : ℕ) (r : EvalRefusal) → k ≡ math p n → values_in xs ≡ None → length xs ≡ m → IsFaultOfBlocks (math_call p n) m r → Evaluates (called k (λ e. Ok xs) env) (Err r)
+math_of_blocks k p n xs env m (refusal.Fault e) is none len h = ap (λ c. called c (λ e. Ok xs) env) is ∙ h xs len none
+math_of_blocks k p n xs env m refusal.Mem is none len h = tt
 
 pub method_of_blocks : (k : Callee) (v : Plain) (p : Place) (n : List ℕ) (xs : List Argument) (env : Env) (m : ℕ) (r : EvalRefusal) → k ≡ method v p n → values_in xs ≡ None → length xs ≡ m → IsFaultOfBlocks (method_call p n v) m r → Evaluates (called k (λ e. Ok xs) env) (Err r)
 method_of_blocks k v p n xs env m (refusal.Fault e) is none len h = ap (λ c. called c (λ e. Ok xs) env) is ∙ h xs len none
@@ -52,5 +71,6 @@ math_of_values k p n xs vs env s is some done = subst (λ (o : Placed Plain). Ev
 
 pub function_of_values : (k : Callee) (p : Place) (n : List ℕ) (xs : List Argument) (vs : List Plain) (env : Env) (s : Result Value EvalRefusal) → k ≡ function p n → values_in xs ≡ Some vs → Evaluates (by_function (function_in n env.functions) p n env vs) s → Evaluates (called k (λ e. Ok xs) env) s
 function_of_values k p n xs vs env s is some done =
-    let known : called k (λ e. Ok xs) env ≡ by_function (function_in n env.functions) p n env vs = ap (λ c. called c (λ e. Ok xs) env) is ∙ ap (λ (o : Option (List Plain)). by_values p o (λ ws. by_function (function_in n env.functions) p n env ws)) some in
+    let f = function_in n env.functions in
+    let known : called k (λ e. Ok xs) env ≡ by_function f p n env vs = ap (λ c. called c (λ e. Ok xs) env) is ∙ ap (λ (o : Option (List Plain)). by_values p (unfit_function f n env (length xs)) o (λ ws. by_function f p n env ws)) some in
     subst (λ (o : Placed Plain). Evaluates o s) (sym known) done

@@ -12,6 +12,7 @@ pub mod Collecting
 pub mod Stating
 pub mod Arms
 pub mod Writing
+pub mod Gathering
 pub mod Innermost
 pub mod Reached
 pub mod Scripted

@@ -1,5 +1,5 @@
 -- What comes of the parts that stand in one list: marks before an operand, operands with marks, and what is read or called.
-use Rattle.std.specs.Prelude.{◌≡◌, ℕ, suc, Bool, true, false, List, [], ◌∷◌, ◌++◌, length, codes, Result, Ok, Err}
+use Rattle.std.specs.Prelude.{◌≡◌, ℕ, suc, Bool, true, false, List, [], ◌∷◌, ◌++◌, length, codes, Option, Some, None, Result, Ok, Err}
 use Rattle.std.specs.Str.{bytes_eq}
 use Rattle.nf_value.specs.Plain.{Plain}
 use Rattle.nf_value.specs.View.{plain_of}
@@ -17,10 +17,10 @@ use Rattle.nf_ast.specs.Tree.{Tree}
 use Rattle.nf_calls.specs.Placed.{Placed, ◌>>=◌, fault, made}
 use Rattle.nf_calls.specs.Marked.{prefix_of}
 use Rattle.nf_calls.specs.Scope.{Env, value_of}
-use Rattle.nf_calls.specs.Calls.{Argument, Callee, nothing, method, function, math, called}
+use Rattle.nf_calls.specs.Calls.{Argument, Callee, nothing, method, function, math, no_function, called}
 use Rattle.nf_calls.specs.Body.{pattern_in}
 use Rattle.nf_calls.specs.Body.{is_math}
-use Rattle.nf_eval.specs.Evaluation.{Arguments, meaning_of, binary, read_safe, safe_method}
+use Rattle.nf_eval.specs.Evaluation.{Arguments, nowhere, meaning_of, binary, read_safe, safe_method}
 use Rattle.nf_eval.specs.declared.subjects.Subject.{Subject}
 use Rattle.nf_eval.specs.declared.subjects.Subject.TheVariants as s
 use Rattle.nf_eval.specs.declared.subjects.Waiting.{Waiting}
@@ -52,16 +52,33 @@ callee_of c.Nothing = nothing
 callee_of (c.Method v p n) = method (plain_of v) p n
 callee_of (c.Function p n) = function p n
 callee_of (c.Math p n) = math p n
+callee_of (c.Value p) = no_function p
 
 abbrev pub takes : Callee → Bool
 takes nothing = false
 takes (method v p n) = true
 takes (function p n) = true
 takes (math p n) = true
+takes (no_function p) = true
 
 abbrev pub placed_value : Result Value EvalFault → Placed Plain
 placed_value (Ok v) = Ok (plain_of v)
 placed_value (Err e) = Err e
+
+-- what a call gave, if it was performed
+abbrev pub given_at : Option (Result Value EvalFault) → Placed Plain
+given_at (Some r) = placed_value r
+given_at None = fault WrongKind nowhere
+
+-- whether it has its value: a call that waits for a closure has none yet
+abbrev pub has_value : Subject → Bool
+has_value (s.Call c k None) = false
+has_value (s.Call c k (Some r)) = true
+has_value (s.Value v) = true
+has_value (s.Name p n) = true
+has_value (s.Property v p n) = true
+has_value (s.Safe v p n) = true
+has_value (s.Math p n) = true
 
 -- the value that was come to
 abbrev pub value_at : Subject → Env → Placed Plain
@@ -70,16 +87,16 @@ value_at (s.Name p n) env = Ok (value_of n env)
 value_at (s.Property v p n) env = made p (property (plain_of v) n)
 value_at (s.Safe v p n) env = read_safe p n (plain_of v)
 value_at (s.Math p n) env = made p (property (value_of (codes "Math") env) n)
-value_at (s.Call c k r) env = placed_value r
+value_at (s.Call c k r) env = given_at r
 
 -- what is called where arguments come next
 abbrev pub applied_at : Subject → Place → Arguments → Env → Placed Plain
-applied_at (s.Value v) p args env = fault WrongKind p
+applied_at (s.Value v) p args env = called (no_function p) args env
 applied_at (s.Name q n) p args env = called (function q n) args env
 applied_at (s.Property v q n) p args env = called (method (plain_of v) q n) args env
 applied_at (s.Safe v q n) p args env = called (safe_method q n (plain_of v)) args env
 applied_at (s.Math q n) p args env = called (math q n) args env
-applied_at (s.Call c k r) p args env = placed_value r >>= λ v. fault WrongKind p
+applied_at (s.Call c k r) p args env = given_at r >>= λ v. called (no_function p) args env
 
 abbrev pub is_math_at : Subject → Bool
 is_math_at (s.Name p n) = bytes_eq n (codes "Math")
@@ -96,16 +113,16 @@ and_more xs more inner = more inner >>= λ ys. Ok (xs ++ ys)
 -- what is called where a closure comes next; a call that has its arguments gets one more
 abbrev pub IsClosed : Tree → Env → Subject → Type 0
 IsClosed t env (s.Call c k r) = (xs : List Argument) × (suc (length xs) ≡ k) × ((q : Place) (more : Arguments) → (meaning_of t).closed q more env ≡ called (callee_of c) (and_more xs more) env)
-IsClosed t env (s.Value v) = (q : Place) (more : Arguments) → (meaning_of t).closed q more env ≡ fault WrongKind q
+IsClosed t env (s.Value v) = (q : Place) (more : Arguments) → (meaning_of t).closed q more env ≡ called (no_function q) more env
 IsClosed t env (s.Name p n) = (q : Place) (more : Arguments) → (meaning_of t).closed q more env ≡ called (function p n) more env
 IsClosed t env (s.Property v p n) = (q : Place) (more : Arguments) → (meaning_of t).closed q more env ≡ called (method (plain_of v) p n) more env
 IsClosed t env (s.Safe v p n) = (q : Place) (more : Arguments) → (meaning_of t).closed q more env ≡ called (safe_method p n (plain_of v)) more env
 IsClosed t env (s.Math p n) = (q : Place) (more : Arguments) → (meaning_of t).closed q more env ≡ called (math p n) more env
 
--- all that a tree means in an environment is known of what was come to
+-- all that a tree means in an environment is known of what was come to, but for the value of a call that waits for a closure
 pub record Stands (t : Tree) (env : Env) (s : Subject) : Type 0 where
-  pub is_value : (meaning_of t).value env ≡ value_at s env
-  pub is_applied : (p : Place) (args : Arguments) → (meaning_of t).applied p args env ≡ applied_at s p args env
+  pub is_value : has_value s ≡ true → (meaning_of t).value env ≡ value_at s env
+  pub is_applied : has_value s ≡ true → (p : Place) (args : Arguments) → (meaning_of t).applied p args env ≡ applied_at s p args env
   pub is_closed : IsClosed t env s
   pub names_math : is_math t ≡ is_math_at s
 
@@ -115,11 +132,21 @@ pub record Fails (t : Tree) (env : Env) (e : EvalFault) : Type 0 where
   pub not_applied : (p : Place) (args : Arguments) → (meaning_of t).applied p args env ≡ Err e
   pub not_closed : (q : Place) (more : Arguments) → (meaning_of t).closed q more env ≡ Err e
 
+-- whether a closure comes next: the first of the parts that are left, or what comes after all of them
+abbrev pub closure_next : List Tree → Bool → Bool
+closure_next [] after = after
+closure_next (tree.call_with f c ∷ xs) after = true
+closure_next (_ ∷ xs) after = false
+
+-- what was come to has its value, unless a closure comes next
+abbrev pub IsReady : Bool → Subject → Type 0
+IsReady closure s = closure ≡ false → has_value s ≡ true
+
 -- the tree stands for what was come to, or has this fault; want of memory is free
-abbrev pub Comes : Tree → Env → Result Subject EvalRefusal → Type 0
-Comes t env (Ok x) = Stands t env x
-Comes t env (Err (refusal.Fault e)) = Fails t env e
-Comes t env (Err refusal.Mem) = Unit {0}
+abbrev pub Comes : Bool → Tree → Env → Result Subject EvalRefusal → Type 0
+Comes closure t env (Ok x) = Stands t env x × IsReady closure x
+Comes closure t env (Err (refusal.Fault e)) = Fails t env e
+Comes closure t env (Err refusal.Mem) = Unit {0}
 
 -- ---- calls
 
@@ -129,12 +156,11 @@ Calls s p env (Ok c) = (args : Arguments) → applied_at s p args env ≡ called
 Calls s p env (Err r) = (args : Arguments) → IsRefused (applied_at s p args env) r
 
 -- this is called where a closure comes next, with so many arguments
-abbrev pub Waits : Tree → Env → Place → Result Waiting EvalRefusal → Type 0
-Waits t env q (Ok w) = (xs : List Argument) × (suc (length xs) ≡ w.count) × ((more : Arguments) → (meaning_of t).closed q more env ≡ called (callee_of w.callee) (and_more xs more) env)
-Waits t env q (Err r) = (more : Arguments) → IsRefused ((meaning_of t).closed q more env) r
+abbrev pub Waits : Tree → Env → Place → Waiting → Type 0
+Waits t env q w = (xs : List Argument) × (suc (length xs) ≡ w.count) × ((more : Arguments) → (meaning_of t).closed q more env ≡ called (callee_of w.callee) (and_more xs more) env)
 
 -- a call that gives this
 abbrev pub IsCall : Called → ℕ → Placed Plain → Result Subject EvalRefusal → Type 0
-IsCall c k o (Ok x) = (r : Result Value EvalFault) × (x ≡ s.Call c k r) × (placed_value r ≡ o)
+IsCall c k o (Ok x) = (r : Result Value EvalFault) × (x ≡ s.Call c k (Some r)) × (placed_value r ≡ o)
 IsCall c k o (Err (refusal.Fault e)) = ⊥
 IsCall c k o (Err refusal.Mem) = Unit {0}

@@ -18,7 +18,7 @@ use Rattle.nf_marks.specs.Template.{hole_text}
 use Rattle.nf_calls.specs.Placed.{Placed, ◌>>=◌, fault, made}
 use Rattle.nf_calls.specs.Marked.{infix_of, prefix_of}
 use Rattle.nf_calls.specs.Scope.{Env, Function, value_of, defined, rebound, left_by, inside}
-use Rattle.nf_calls.specs.Calls.{Argument, plain, block, Callee, nothing, method, function, math, called}
+use Rattle.nf_calls.specs.Calls.{Argument, plain, block, Callee, nothing, method, function, math, no_function, called}
 use Rattle.nf_calls.specs.Body.{Flow, going, returned, value_of_body, name_in, key_text, pattern_in, is_math, names_in, bound, paired, split, with_all}
 
 -- what arguments give where they stand
@@ -67,12 +67,12 @@ nothing_there = record {
   first_true = λ env k. Ok null;
 }
 
--- a value that is called is of the wrong kind
+-- a value that is called is of the wrong kind, once its arguments have values
 abbrev pub expression : (Env → Placed Plain) → Meaning
 expression value = record nothing_there {
   value = value;
-  applied = λ p args env. value env >>= λ v. fault WrongKind p;
-  closed = λ p args env. value env >>= λ v. fault WrongKind p;
+  applied = λ p args env. value env >>= λ v. called (no_function p) args env;
+  closed = λ p args env. value env >>= λ v. called (no_function p) args env;
   argument = λ env. value env >>= λ v. Ok (plain v);
   done = λ env. value env >>= λ v. Ok (going env v);
 }

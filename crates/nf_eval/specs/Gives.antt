@@ -6,7 +6,9 @@ use Rattle.nf_value.specs.View.{plain_of}
 use Rattle.nf_value.specs.declared.value.Value.{Value}
 use Rattle.nf_value.specs.declared.fault.EvalRefusal.{EvalRefusal}
 use Rattle.nf_value.specs.declared.fault.EvalRefusal.TheVariants as refusal
+use Rattle.nf_marks.specs.declared.gathered.Gathered.{Gathered}
 use Rattle.nf_marks.specs.declared.templates.Written.{Written}
+use Rattle.nf_marks.specs.Gathering.{IsGathered}
 use Rattle.nf_marks.specs.Template.{IsWritten}
 use Rattle.nf_calls.specs.Placed.{Placed}
 use Rattle.nf_calls.specs.Scope.{Env}
@@ -24,6 +26,11 @@ IsRefused o refusal.Mem = Unit {0}
 abbrev pub Lists : Placed (List Plain) → Result (Vec Value) EvalRefusal → Type 0
 Lists o (Ok vs) = o ≡ Ok (map plain_of vs.items)
 Lists o (Err r) = IsRefused o r
+
+-- these values, as far as a list within the limits goes
+abbrev pub Gathers : Placed (List Plain) → Result Gathered EvalRefusal → Type 0
+Gathers o (Ok g) = (vs : List Plain) × (o ≡ Ok vs) × IsGathered vs g
+Gathers o (Err r) = IsRefused o r
 
 -- this text
 abbrev pub Writes : Placed (List ℕ) → Result Written EvalRefusal → Type 0

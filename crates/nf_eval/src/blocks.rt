@@ -8,13 +8,14 @@ ghost use Rattle.nf_calls.specs.Calls.{over_items, limited_at, any_of, every_of,
 ghost use Rattle.nf_calls.specs.Blocks.{row_method};
 ghost use Rattle.nf_eval.specs.Memory.{seen};
 ghost use Rattle.nf_eval.specs.Shapes.{block_of};
-ghost use Rattle.nf_eval.specs.Gives.{Lists};
+ghost use Rattle.nf_eval.specs.Gives.{Gathers, Lists};
 
 use crate::around::Around;
 use crate::scope::Scope;
 use nf_ast::Closure;
 use nf_builtins::Natives;
-use nf_calls::{BlockMethod, bound, copy_value, list_value};
+use nf_calls::{BlockMethod, bound, copy_value, gathered_value, list_value};
+use nf_marks::Gathered;
 use nf_value::{EvalRefusal, Place, Value, truth};
 use std::alloc::Global;
 use std::slice;
@@ -43,7 +44,7 @@ pub(crate) fn over<N: Natives>(
         }
         BlockMethod::Collect => {
             let values = images(alloc, closure, items, around, natives)?;
-            list_value(place, values)
+            gathered_value(place, values)
         }
     }
 }
@@ -134,7 +135,7 @@ pub(crate) fn find_all<N: Natives>(
     Ok(found)
 }
 
-/// What a closure gives for each of the items.
+/// What a closure gives for each of the items, as far as a list within the limits goes.
 #[cycle(value)]
 pub(crate) fn images<N: Natives>(
     alloc: Global,
@@ -142,11 +143,11 @@ pub(crate) fn images<N: Natives>(
     items: &[Value],
     around: &Around<'_>,
     natives: &N,
-) -> Result<Vec<Value>, EvalRefusal>
+) -> Result<Gathered, EvalRefusal>
     requires { N.keeps natives.now }
-    ensures { Lists (images_of (block_of (view_closure closure.now) (seen around.now (N.titles natives.now) (N.answer natives.now))) (map plain_of items.now)) result }
+    ensures { Gathers (images_of (block_of (view_closure closure.now) (seen around.now (N.titles natives.now) (N.answer natives.now))) (map plain_of items.now)) result }
 {
-    let mut images = Vec::new(alloc);
+    let mut images = Gathered::new(alloc);
     for item in items {
         let image = applied(alloc, closure, slice::from_ref(item), around, natives)?;
         images.push(image)?;

@@ -1,25 +1,26 @@
 //! Calls with their arguments.
 
-ghost use Rattle.std.specs.Prelude.{◌≡◌, List, [], ◌∷◌, map, length, suc, true, Ok, None};
+ghost use Rattle.std.specs.Prelude.{◌≡◌, ◌==◌, List, [], ◌∷◌, map, length, suc, true, if◌then◌else◌, Ok, None};
 ghost use Rattle.nf_value.specs.Plain.{Plain};
 ghost use Rattle.nf_value.specs.View.{plain_of};
+ghost use Rattle.nf_value.specs.declared.fault.EvalKind.TheVariants.{WrongKind, Arity};
 ghost use Rattle.nf_ast.specs.View.{view, view_closure, view_arg, trees};
 ghost use Rattle.nf_calls.specs.Placed.{Evaluates, Placed};
-ghost use Rattle.nf_calls.specs.Calls.{Argument, block, values_in, over_items, called as called_of};
-ghost use Rattle.nf_calls.specs.Blocks.{row_method};
+ghost use Rattle.nf_calls.specs.Calls.{Argument, block, values_in, over_items, function_call, called as called_of};
+ghost use Rattle.nf_calls.specs.Blocks.{row_method, IsFaultOfBlocks};
 ghost use Rattle.nf_eval.specs.Evaluation.{meaning_of};
 ghost use Rattle.nf_eval.specs.Memory.{seen};
 ghost use Rattle.nf_eval.specs.Shapes.{is_closure, block_of};
 ghost use Rattle.nf_eval.specs.Gives.{Passes, IsPassed};
 ghost use Rattle.nf_eval.specs.Chains.{callee_of, and_more};
 
-use crate::around::Around;
+use crate::around::{Around, function_seen, handed_in};
 use crate::reading::listed;
 use crate::shapes::is_block;
 use crate::subjects::Called;
 use nf_ast::{Arg, Closure, Expr};
 use nf_builtins::Natives;
-use nf_calls::{BlockMethod, block_method, fault_at, math_block};
+use nf_calls::{BlockMethod, block_method, fault_at, math_block, native_block};
 use nf_value::{EvalKind, EvalRefusal, Place, Vals, Value};
 use std::alloc::Global;
 
@@ -116,8 +117,15 @@ pub(crate) fn of_blocks<N: Natives>(
 {
     match callee {
         Called::Nothing => Ok(Value::Null),
-        Called::Function(place, _) => Err(fault_at(*place, EvalKind::WrongKind)),
-        Called::Math(place, name) => Err(math_block(alloc, *place, name.as_str())),
+        Called::Function(place, name) => Err(function_block(
+            *place,
+            name.as_str(),
+            args.len(),
+            around,
+            natives,
+        )),
+        Called::Math(place, name) => Err(math_block(alloc, *place, name.as_str(), args.len())),
+        Called::Value(place) => Err(fault_at(*place, EvalKind::WrongKind)),
         Called::Method(value, place, name) => {
             let kind = block_method(alloc, *place, name.as_str(), value, args.len())?;
             over_sole(alloc, args, kind, *place, listed(value), around, natives)
@@ -188,11 +196,48 @@ pub(crate) fn over_call<N: Natives>(
 {
     match callee {
         Called::Nothing => Ok(Value::Null),
-        Called::Function(place, _) => Err(fault_at(*place, EvalKind::WrongKind)),
-        Called::Math(place, name) => Err(math_block(alloc, *place, name.as_str())),
+        Called::Function(place, name) => Err(function_block(
+            *place,
+            name.as_str(),
+            count,
+            around,
+            natives,
+        )),
+        Called::Math(place, name) => Err(math_block(alloc, *place, name.as_str(), count)),
+        Called::Value(place) => Err(fault_at(*place, EvalKind::WrongKind)),
         Called::Method(value, place, name) => {
             let kind = block_method(alloc, *place, name.as_str(), value, count)?;
             crate::blocks::over(alloc, closure, kind, *place, listed(value), around, natives)
         }
+    }
+}
+
+/// What a call of a function comes to where a closure is among so many arguments, which no function takes.
+fn function_block<N: Natives>(
+    place: Place,
+    name: &str,
+    count: usize,
+    around: &Around<'_>,
+    natives: &N,
+) -> EvalRefusal
+    ensures { IsFaultOfBlocks (function_call place name.now (seen around.now (N.titles natives.now) (N.answer natives.now))) count result }
+{
+    match function_seen(name, around) {
+        Some((function, _)) => fault_at(place, kind_among(function.params.len(), count)),
+        None => {
+            handed_in(around);
+            native_block(place, name, natives)
+        }
+    }
+}
+
+/// What is wrong with a closure among so many arguments of a function of the script that has so many parameters.
+fn kind_among(params: usize, count: usize) -> EvalKind
+    ensures { result ≡ (if count == params then WrongKind else Arity) }
+{
+    if count == params {
+        EvalKind::WrongKind
+    } else {
+        EvalKind::Arity
     }
 }

@@ -1,16 +1,16 @@
 //! What is read of an expression or called on it, one after another.
 
-ghost use Rattle.std.specs.Prelude.{◌≡◌, map, true};
+ghost use Rattle.std.specs.Prelude.{◌≡◌, Bool, true, [], ◌∷◌, map};
 ghost use Rattle.nf_ast.specs.Tree as tree;
 ghost use Rattle.nf_ast.specs.Tree.{Tree};
 ghost use Rattle.nf_ast.specs.View.{view, view_postfix, view_closure, view_arg, trees, postfix, applied as applied_tree};
 ghost use Rattle.nf_eval.specs.Memory.{seen};
 ghost use Rattle.nf_eval.specs.Shapes.{is_flat};
-ghost use Rattle.nf_eval.specs.Chains.{Stands, Comes};
+ghost use Rattle.nf_eval.specs.Chains.{has_value, closure_next as is_closure_next, IsReady, Stands, Comes};
 
 use crate::around::Around;
 use crate::reading::{callee, calls_nothing, finished, property, read, safe_property, waiting};
-use crate::shapes::{no_branches, no_marks, no_operands};
+use crate::shapes::{after_first, closure_next, no_branches, no_marks, no_operands};
 use crate::subjects::Subject;
 use nf_ast::{Arg, Closure, Expr, Postfix};
 use nf_builtins::Natives;
@@ -18,40 +18,42 @@ use nf_calls::index_value;
 use nf_value::{EvalRefusal, Place, Value};
 use std::alloc::Global;
 
-/// What an expression comes to that parts may follow.
+/// What an expression comes to that parts may follow, a closure first or not.
 #[cycle(value)]
 pub(crate) fn subject<N: Natives>(
     alloc: Global,
     expr: &Expr,
+    closure: bool,
     around: &Around<'_>,
     natives: &N,
 ) -> Result<Subject, EvalRefusal>
     requires { N.keeps natives.now }
-    ensures { Comes (view expr.now) (seen around.now (N.titles natives.now) (N.answer natives.now)) result }
+    ensures { Comes closure (view expr.now) (seen around.now (N.titles natives.now) (N.answer natives.now)) result }
 {
     match expr {
         Expr::Name(place, name) => Ok(Subject::Name(*place, name.copy()?)),
         Expr::Postfix(first, rest) => {
-            let first = subject(alloc, first, around, natives)?;
-            parts(alloc, rest, first, around, natives)
+            let next = closure_next(rest, closure);
+            let first = subject(alloc, first, next, around, natives)?;
+            parts(alloc, rest, first, closure, around, natives)
         }
         Expr::Prefix(marks, of) => {
             if no_marks(marks) {
-                subject(alloc, of, around, natives)
+                subject(alloc, of, closure, around, natives)
             } else {
                 flat(alloc, expr, around, natives)
             }
         }
         Expr::Infix(first, rest) => {
             if no_operands(rest) {
-                subject(alloc, first, around, natives)
+                subject(alloc, first, closure, around, natives)
             } else {
                 flat(alloc, expr, around, natives)
             }
         }
         Expr::Conditional(first, rest) => {
             if no_branches(rest) {
-                subject(alloc, first, around, natives)
+                subject(alloc, first, closure, around, natives)
             } else {
                 flat(alloc, expr, around, natives)
             }
@@ -69,42 +71,47 @@ pub(crate) fn flat<N: Natives>(
     natives: &N,
 ) -> Result<Subject, EvalRefusal>
     requires { N.keeps natives.now }
-    ensures { is_flat (view expr.now) ≡ true → Comes (view expr.now) (seen around.now (N.titles natives.now) (N.answer natives.now)) result }
+    ensures { (closure : Bool) → is_flat (view expr.now) ≡ true → Comes closure (view expr.now) (seen around.now (N.titles natives.now) (N.answer natives.now)) result }
 {
     let value = crate::values::value(alloc, expr, around, natives)?;
     Ok(Subject::Value(value))
 }
 
-/// What parts after an expression come to.
+/// What parts after an expression come to, which a closure follows or not. A call that a closure follows is performed with it alone.
 #[cycle(value)]
 pub(crate) fn parts<N: Natives>(
     alloc: Global,
     rest: &[Postfix],
     first: Subject,
+    closure: bool,
     around: &Around<'_>,
     natives: &N,
 ) -> Result<Subject, EvalRefusal>
     requires { N.keeps natives.now }
-    ensures { (t : Tree) → Stands t (seen around.now (N.titles natives.now) (N.answer natives.now)) first → Comes (postfix t (map view_postfix rest.now)) (seen around.now (N.titles natives.now) (N.answer natives.now)) result }
+    ensures { (t : Tree) → Stands t (seen around.now (N.titles natives.now) (N.answer natives.now)) first → IsReady (is_closure_next (map view_postfix rest.now) closure) first → Comes closure (postfix t (map view_postfix rest.now)) (seen around.now (N.titles natives.now) (N.answer natives.now)) result }
 {
     let mut subject = first;
+    let mut ahead = rest;
     for next in rest {
-        subject = part(alloc, next, subject, around, natives)?;
+        ahead = after_first(ahead);
+        let followed = closure_next(ahead, closure);
+        subject = part(alloc, next, subject, followed, around, natives)?;
     }
     Ok(subject)
 }
 
-/// What a part after an expression comes to.
+/// What a part after an expression comes to, which a closure follows or not.
 #[cycle(value)]
 pub(crate) fn part<N: Natives>(
     alloc: Global,
     next: &Postfix,
     before: Subject,
+    closure: bool,
     around: &Around<'_>,
     natives: &N,
 ) -> Result<Subject, EvalRefusal>
     requires { N.keeps natives.now }
-    ensures { (t : Tree) → Stands t (seen around.now (N.titles natives.now) (N.answer natives.now)) before → Comes (applied_tree t (view_postfix next.now)) (seen around.now (N.titles natives.now) (N.answer natives.now)) result }
+    ensures { (t : Tree) → Stands t (seen around.now (N.titles natives.now) (N.answer natives.now)) before → IsReady (is_closure_next (view_postfix next.now ∷ []) closure) before → Comes closure (applied_tree t (view_postfix next.now)) (seen around.now (N.titles natives.now) (N.answer natives.now)) result }
 {
     match next {
         Postfix::Property(place, name) => property(alloc, *place, name.copy()?, before, around),
@@ -112,8 +119,10 @@ pub(crate) fn part<N: Natives>(
             safe_property(alloc, *place, name.copy()?, before, around)
         }
         Postfix::Index(place, at) => indexed(alloc, at, *place, before, around, natives),
-        Postfix::Call(place, args) => call(alloc, args, *place, before, around, natives),
-        Postfix::With(closure) => with(alloc, closure, before, around, natives),
+        Postfix::Call(place, args) => {
+            call(alloc, args, *place, before, closure, around, natives)
+        }
+        Postfix::With(block) => with(alloc, block, before, around, natives),
     }
 }
 
@@ -128,7 +137,7 @@ pub(crate) fn indexed<N: Natives>(
     natives: &N,
 ) -> Result<Subject, EvalRefusal>
     requires { N.keeps natives.now }
-    ensures { (t : Tree) → Stands t (seen around.now (N.titles natives.now) (N.answer natives.now)) before → Comes (tree.index place t (view at.now)) (seen around.now (N.titles natives.now) (N.answer natives.now)) result }
+    ensures { (closure : Bool) (t : Tree) → Stands t (seen around.now (N.titles natives.now) (N.answer natives.now)) before → has_value before ≡ true → Comes closure (tree.index place t (view at.now)) (seen around.now (N.titles natives.now) (N.answer natives.now)) result }
 {
     let of = read(alloc, before, around)?;
     let at = crate::values::value(alloc, at, around, natives)?;
@@ -136,24 +145,28 @@ pub(crate) fn indexed<N: Natives>(
     Ok(Subject::Value(item))
 }
 
-/// A subject with arguments after it.
+/// A subject with arguments after it. Where a closure follows, which is one more, the call isn't performed yet.
 #[cycle(value)]
 pub(crate) fn call<N: Natives>(
     alloc: Global,
     args: &[Arg],
     place: Place,
     before: Subject,
+    closure: bool,
     around: &Around<'_>,
     natives: &N,
 ) -> Result<Subject, EvalRefusal>
     requires { N.keeps natives.now }
-    ensures { (t : Tree) → Stands t (seen around.now (N.titles natives.now) (N.answer natives.now)) before → Comes (tree.call place t (trees (map view_arg args.now))) (seen around.now (N.titles natives.now) (N.answer natives.now)) result }
+    ensures { (t : Tree) → Stands t (seen around.now (N.titles natives.now) (N.answer natives.now)) before → has_value before ≡ true → Comes closure (tree.call place t (trees (map view_arg args.now))) (seen around.now (N.titles natives.now) (N.answer natives.now)) result }
 {
     let callee = callee(before, place)?;
     if calls_nothing(&callee) {
-        return Ok(Subject::Call(callee, 1, Ok(Value::Null)));
+        return Ok(Subject::Call(callee, 1, Some(Ok(Value::Null))));
     }
     let given = crate::calls::arguments(alloc, args, around, natives)?;
+    if closure {
+        return Ok(Subject::Call(callee, args.len() + 1, None));
+    }
     let result = crate::calls::performed(alloc, args, &callee, given, around, natives);
     finished(callee, args.len() + 1, result)
 }
@@ -162,18 +175,18 @@ pub(crate) fn call<N: Natives>(
 #[cycle(value)]
 pub(crate) fn with<N: Natives>(
     alloc: Global,
-    closure: &Closure,
+    block: &Closure,
     before: Subject,
     around: &Around<'_>,
     natives: &N,
 ) -> Result<Subject, EvalRefusal>
     requires { N.keeps natives.now }
-    ensures { (t : Tree) → Stands t (seen around.now (N.titles natives.now) (N.answer natives.now)) before → Comes (tree.call_with t (view_closure closure.now)) (seen around.now (N.titles natives.now) (N.answer natives.now)) result }
+    ensures { (closure : Bool) (t : Tree) → Stands t (seen around.now (N.titles natives.now) (N.answer natives.now)) before → Comes closure (tree.call_with t (view_closure block.now)) (seen around.now (N.titles natives.now) (N.answer natives.now)) result }
 {
-    let waiting = waiting(before, closure.place)?;
+    let waiting = waiting(before, block.place);
     let value = crate::calls::over_call(
         alloc,
-        closure,
+        block,
         &waiting.callee,
         waiting.count,
         around,

@@ -1,6 +1,6 @@
 //! What is read of a subject, and what is called of it.
 
-ghost use Rattle.std.specs.Prelude.{◌≡◌, ℕ, List, Option, map, not};
+ghost use Rattle.std.specs.Prelude.{◌≡◌, ℕ, Bool, true, List, Option, map, not};
 ghost use Rattle.nf_value.specs.Plain.{Plain};
 ghost use Rattle.nf_value.specs.View.{plain_of};
 ghost use Rattle.nf_marks.specs.Template.{listed as listed_of};
@@ -10,15 +10,18 @@ ghost use Rattle.nf_calls.specs.Placed.{Evaluates, Placed};
 ghost use Rattle.nf_calls.specs.Scope.{Env};
 ghost use Rattle.nf_eval.specs.Evaluation.{read_safe, safe_method};
 ghost use Rattle.nf_eval.specs.Memory.{seen};
-ghost use Rattle.nf_eval.specs.Chains.{value_at, is_math_at, callee_of, takes, Stands, Comes, Calls, Waits, IsCall};
+ghost use Rattle.nf_eval.specs.Chains.{has_value, value_at, given_at, is_math_at, callee_of, takes, Stands, Comes, Calls, Waits, IsCall};
 
 use crate::around::{Around, value_seen};
 use crate::subjects::{Called, Subject, Waiting};
 use nf_calls::{fault_at, property_value};
-use nf_value::{EvalKind, EvalRefusal, Place, Txt, Value};
+use nf_value::{EvalFault, EvalKind, EvalRefusal, Place, Txt, Value};
 use std::alloc::Global;
 
-/// The value of a subject.
+/// The place of what no text spells.
+const NOWHERE: Place = Place { line: 0, col: 0 };
+
+/// The value of a subject. A call that waits for a closure has none, and isn't read.
 pub(crate) fn read(
     alloc: Global,
     subject: Subject,
@@ -40,10 +43,18 @@ pub(crate) fn read(
             let value = value_seen("Math", around)?;
             property_value(alloc, place, &value, name.as_str())
         }
-        Subject::Call(_, _, given) => match given {
-            Ok(value) => Ok(value),
-            Err(fault) => Err(EvalRefusal::Fault(fault)),
-        },
+        Subject::Call(_, _, given) => given_value(given),
+    }
+}
+
+/// What a call gave that was performed.
+fn given_value(given: Option<Result<Value, EvalFault>>) -> Result<Value, EvalRefusal>
+    ensures { Evaluates (given_at given) result }
+{
+    match given {
+        Some(Ok(value)) => Ok(value),
+        Some(Err(fault)) => Err(EvalRefusal::Fault(fault)),
+        None => Err(fault_at(NOWHERE, EvalKind::WrongKind)),
     }
 }
 
@@ -64,7 +75,7 @@ pub(crate) fn property(
     before: Subject,
     around: &Around<'_>,
 ) -> Result<Subject, EvalRefusal>
-    ensures { (titles : List (List ℕ)) (answer : ℕ → List Plain → Option Plain) (t : Tree) → Stands t (seen around.now titles answer) before → Comes (tree.property t (tree.name place name)) (seen around.now titles answer) result }
+    ensures { (titles : List (List ℕ)) (answer : ℕ → List Plain → Option Plain) (closure : Bool) (t : Tree) → Stands t (seen around.now titles answer) before → has_value before ≡ true → Comes closure (tree.property t (tree.name place name)) (seen around.now titles answer) result }
 {
     if is_math(&before) {
         return Ok(Subject::Math(place, name));
@@ -94,30 +105,30 @@ pub(crate) fn safe_property(
     before: Subject,
     around: &Around<'_>,
 ) -> Result<Subject, EvalRefusal>
-    ensures { (titles : List (List ℕ)) (answer : ℕ → List Plain → Option Plain) (t : Tree) → Stands t (seen around.now titles answer) before → Comes (tree.safe_property t (tree.name place name)) (seen around.now titles answer) result }
+    ensures { (titles : List (List ℕ)) (answer : ℕ → List Plain → Option Plain) (closure : Bool) (t : Tree) → Stands t (seen around.now titles answer) before → has_value before ≡ true → Comes closure (tree.safe_property t (tree.name place name)) (seen around.now titles answer) result }
 {
     let of = read(alloc, before, around)?;
     Ok(Subject::Safe(of, place, name))
 }
 
-/// What is called where arguments come next at a place.
+/// What is called of a subject, where arguments come next at a place.
 ///
 /// # Errors
 ///
-/// The fault of the subject, and `WrongKind` at the place where it is a value.
+/// The fault of the subject.
 pub(crate) fn callee(subject: Subject, place: Place) -> Result<Called, EvalRefusal>
     ensures { (env : Env) → Calls subject place env result }
 {
     match subject {
-        Subject::Value(_) => Err(fault_at(place, EvalKind::WrongKind)),
+        Subject::Value(_) => Ok(Called::Value(place)),
         Subject::Name(at, name) => Ok(Called::Function(at, name)),
         Subject::Property(value, at, name) => Ok(Called::Method(value, at, name)),
         Subject::Safe(value, at, name) => Ok(safe_callee(value, at, name)),
         Subject::Math(at, name) => Ok(Called::Math(at, name)),
-        Subject::Call(_, _, given) => match given {
-            Ok(_) => Err(fault_at(place, EvalKind::WrongKind)),
-            Err(fault) => Err(EvalRefusal::Fault(fault)),
-        },
+        Subject::Call(_, _, given) => {
+            given_value(given)?;
+            Ok(Called::Value(place))
+        }
     }
 }
 
@@ -139,24 +150,21 @@ pub(crate) fn calls_nothing(callee: &Called) -> bool
         Called::Method(_, _, _) => false,
         Called::Function(_, _) => false,
         Called::Math(_, _) => false,
+        Called::Value(_) => false,
     }
 }
 
 /// What is called where a closure comes next, whose brace stands at a place.
-///
-/// # Errors
-///
-/// The fault of the subject, and `WrongKind` at the place where it is a value.
-pub(crate) fn waiting(subject: Subject, place: Place) -> Result<Waiting, EvalRefusal>
+pub(crate) fn waiting(subject: Subject, place: Place) -> Waiting
     ensures { (t : Tree) (env : Env) → Stands t env subject → Waits t env place result }
 {
     match subject {
-        Subject::Value(_) => Err(fault_at(place, EvalKind::WrongKind)),
-        Subject::Name(at, name) => Ok(alone(Called::Function(at, name))),
-        Subject::Property(value, at, name) => Ok(alone(Called::Method(value, at, name))),
-        Subject::Safe(value, at, name) => Ok(alone(safe_callee(value, at, name))),
-        Subject::Math(at, name) => Ok(alone(Called::Math(at, name))),
-        Subject::Call(callee, count, _) => Ok(Waiting { callee, count }),
+        Subject::Value(_) => alone(Called::Value(place)),
+        Subject::Name(at, name) => alone(Called::Function(at, name)),
+        Subject::Property(value, at, name) => alone(Called::Method(value, at, name)),
+        Subject::Safe(value, at, name) => alone(safe_callee(value, at, name)),
+        Subject::Math(at, name) => alone(Called::Math(at, name)),
+        Subject::Call(callee, count, _) => Waiting { callee, count },
     }
 }
 
@@ -179,8 +187,8 @@ pub(crate) fn finished(
     ensures { (o : Placed Plain) → Evaluates o given → IsCall callee count o result }
 {
     match given {
-        Ok(value) => Ok(Subject::Call(callee, count, Ok(value))),
-        Err(EvalRefusal::Fault(fault)) => Ok(Subject::Call(callee, count, Err(fault))),
+        Ok(value) => Ok(Subject::Call(callee, count, Some(Ok(value)))),
+        Err(EvalRefusal::Fault(fault)) => Ok(Subject::Call(callee, count, Some(Err(fault)))),
         Err(EvalRefusal::Mem) => Err(EvalRefusal::Mem),
     }
 }

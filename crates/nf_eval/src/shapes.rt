@@ -1,8 +1,10 @@
 //! What stands where an expression stands.
 
-ghost use Rattle.std.specs.Prelude.{◌≡◌, map, not, MatchOption, Some, None};
+ghost use Rattle.std.specs.Prelude.{◌≡◌, ◌∷◌, drop, map, not, Bool, List, MatchOption, Some, None};
+ghost use Rattle.nf_ast.specs.Tree.{Tree};
 ghost use Rattle.nf_ast.specs.View.{view, view_operand, view_branch, view_postfix};
 ghost use Rattle.nf_calls.specs.Body.{pattern_in};
+ghost use Rattle.nf_eval.specs.Chains.{closure_next as is_closure_next};
 ghost use Rattle.nf_eval.specs.Shapes.{is_nil, is_closure, is_plain};
 
 use nf_ast::{Branch, Expr, Operand, Postfix, Prefix};
@@ -117,5 +119,37 @@ pub(crate) fn no_parts(list: &[Postfix]) -> bool
     match list {
         [] => true,
         [_first, ..] => false,
+    }
+}
+
+/// A closure comes next: the first of the parts, or what comes after all of them.
+pub(crate) fn closure_next(parts: &[Postfix], after: bool) -> bool
+    ensures { result ≡ is_closure_next (map view_postfix parts.now) after }
+{
+    match parts.first() {
+        Some(next) => is_with(next),
+        None => after,
+    }
+}
+
+fn is_with(next: &Postfix) -> bool
+    ensures { (more : List Tree) (after : Bool) → result ≡ is_closure_next (view_postfix next.now ∷ more) after }
+{
+    match next {
+        Postfix::With(_) => true,
+        Postfix::Property(_, _) => false,
+        Postfix::SafeProperty(_, _) => false,
+        Postfix::Index(_, _) => false,
+        Postfix::Call(_, _) => false,
+    }
+}
+
+/// All parts but the first.
+pub(crate) fn after_first(parts: &[Postfix]) -> &[Postfix]
+    ensures { result.now ≡ drop 1 parts.now }
+{
+    match parts.split_first() {
+        Some((_, more)) => more,
+        None => parts,
     }
 }

@@ -13,6 +13,8 @@ pub(crate) enum Called {
     Function(Place, Txt),
     /// A function of `Math`, with the place of its name.
     Math(Place, Txt),
+    /// A value, which can't be called, with the place at which its arguments begin.
+    Value(Place),
 }
 
 /// What an expression came to that more parts may follow.
@@ -28,8 +30,8 @@ pub(crate) enum Subject {
     Safe(Value, Place, Txt),
     /// A name after `Math.`, not yet read.
     Math(Place, Txt),
-    /// A call with what it gives; a closure that comes next is one argument more, and with it there are so many.
-    Call(Called, usize, Result<Value, EvalFault>),
+    /// A call with what it gives, or with nothing yet where a closure comes next, which is one argument more: with it there are so many.
+    Call(Called, usize, Option<Result<Value, EvalFault>>),
 }
 
 /// What is called where a closure comes next, and with how many arguments.

@@ -43,6 +43,7 @@ pub(crate) fn of_values<N: Natives>(
             natives,
         ),
         Called::Math(place, name) => math_value(alloc, *place, name.as_str(), values),
+        Called::Value(place) => Err(fault_at(*place, EvalKind::WrongKind)),
     }
 }
 

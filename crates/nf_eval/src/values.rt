@@ -8,15 +8,16 @@ ghost use Rattle.nf_calls.specs.Placed.{Evaluates};
 ghost use Rattle.nf_calls.specs.Body.{Binds, key_text};
 ghost use Rattle.nf_eval.specs.Evaluation.{meaning_of, eval_of};
 ghost use Rattle.nf_eval.specs.Memory.{seen};
-ghost use Rattle.nf_eval.specs.Gives.{Lists, Writes};
+ghost use Rattle.nf_eval.specs.Gives.{Gathers, Writes};
 ghost use Rattle.nf_eval.specs.Chains.{prefixed as prefixed_of};
 
 use crate::around::{Around, in_process, value_seen};
 use crate::reading::read;
+use crate::shapes::closure_next;
 use nf_ast::{Expr, Key, Pair, Piece, Prefix};
 use nf_builtins::Natives;
-use nf_calls::{fault_at, list_value, map_value, prefix_value, text_value};
-use nf_marks::Written;
+use nf_calls::{fault_at, gathered_value, map_value, prefix_value, text_value};
+use nf_marks::{Gathered, Written};
 use nf_value::{EvalKind, EvalRefusal, Mem, Txt, Value};
 use std::alloc::Global;
 
@@ -44,7 +45,7 @@ pub(crate) fn value<N: Natives>(
         Expr::Name(_, name) => Ok(value_seen(name.as_str(), around)?),
         Expr::List(place, list) => {
             let values = items(alloc, list, around, natives)?;
-            list_value(*place, values)
+            gathered_value(*place, values)
         }
         Expr::Map(place, pairs) => {
             let values = entries(alloc, pairs, around, natives)?;
@@ -64,8 +65,9 @@ pub(crate) fn value<N: Natives>(
             crate::conditionals::conditional(alloc, rest, first, around, natives)
         }
         Expr::Postfix(first, rest) => {
-            let first = crate::chains::subject(alloc, first, around, natives)?;
-            let last = crate::chains::parts(alloc, rest, first, around, natives)?;
+            let next = closure_next(rest, false);
+            let first = crate::chains::subject(alloc, first, next, around, natives)?;
+            let last = crate::chains::parts(alloc, rest, first, false, around, natives)?;
             read(alloc, last, around)
         }
     }
@@ -84,18 +86,18 @@ fn prefixed(marks: &[Prefix], of: Value) -> Result<Value, EvalRefusal>
     Ok(value)
 }
 
-/// The values of expressions in a row.
+/// The values of expressions in a row, as far as a list within the limits goes.
 #[cycle(value)]
 pub(crate) fn items<N: Natives>(
     alloc: Global,
     list: &[Expr],
     around: &Around<'_>,
     natives: &N,
-) -> Result<Vec<Value>, EvalRefusal>
+) -> Result<Gathered, EvalRefusal>
     requires { N.keeps natives.now }
-    ensures { Lists ((meaning_of (views list.now)).items (seen around.now (N.titles natives.now) (N.answer natives.now))) result }
+    ensures { Gathers ((meaning_of (views list.now)).items (seen around.now (N.titles natives.now) (N.answer natives.now))) result }
 {
-    let mut values = Vec::new(alloc);
+    let mut values = Gathered::new(alloc);
     for item in list {
         values.push(value(alloc, item, around, natives)?)?;
     }

@@ -1,18 +1,21 @@
 //! Calls, marks and parts at their places.
 
+ghost use Rattle.std.specs.Prelude.{slice_get};
 ghost use Rattle.nf_builtins.specs.Natives.{AnswersNative, program_answer};
 
 use crate::makers::txt;
 use nf_ast::{InfixMark, PrefixMark};
-use nf_builtins::{CallFault, ProgramBook, StoredNatives, program_names, program_native};
-use nf_calls::{
-    BlockMethod, block_method, bound, copy_value, index_value, infix_value, list_value, map_value,
-    matches_value, math_block, math_value, method_value, native_value, prefix_value,
-    property_value, split, text_value,
+use nf_builtins::{
+    CallFault, NativeBook, ProgramBook, StoredNatives, program_names, program_native,
 };
-use nf_marks::Written;
+use nf_calls::{
+    BlockMethod, block_method, bound, copy_value, gathered_value, index_value, infix_value,
+    list_value, map_value, matches_value, math_block, math_value, method_value, native_value,
+    prefix_value, property_value, split, text_value,
+};
+use nf_marks::{Gathered, Written};
 use nf_pattern::WholeRe;
-use nf_value::{EvalRefusal, Mem, Place, Txt, Vals, Value, text_of};
+use nf_value::{EvalKind, EvalRefusal, Mem, Place, Txt, Vals, Value, text_of};
 use std::alloc::Global;
 use std::test::Fail;
 
@@ -137,6 +140,16 @@ const MATH: &[(&str, &str, &str)] = &[
     ("any", "[1", "NoMethod at 1:9"),
 ];
 
+/// A function of `Math`, how many arguments where a closure is among them, and the fault.
+const MATH_BLOCKS: &[(&str, usize, &str)] = &[
+    ("max", 2, "WrongKind at 1:9"),
+    ("max", 1, "Arity at 1:9"),
+    ("abs", 1, "WrongKind at 1:9"),
+    ("abs", 2, "Arity at 1:9"),
+    ("any", 1, "NoMethod at 1:9"),
+    ("nothing", 1, "NoMethod at 1:9"),
+];
+
 #[test]
 fn math_gives_its_values(rt: HostRuntime) -> Result<(), Fail> {
     let alloc = rt.alloc();
@@ -145,8 +158,10 @@ fn math_gives_its_values(rt: HostRuntime) -> Result<(), Fail> {
         let answer = shown(alloc, math_value(alloc, PLACE, name, &args))?;
         assert_eq!(rt; answer.as_str(), expected, "{name}");
     }
-    let block = refused(alloc, math_block(alloc, PLACE, "max"))?;
-    assert_eq!(rt; block.as_str(), "WrongKind at 1:9");
+    for (name, count, expected) in MATH_BLOCKS.iter().copied() {
+        let answer = refused(alloc, math_block(alloc, PLACE, name, count))?;
+        assert_eq!(rt; answer.as_str(), expected, "{name}");
+    }
     Ok(())
 }
 
@@ -176,6 +191,53 @@ fn natives_give_their_values(rt: HostRuntime) -> Result<(), Fail> {
     Ok(())
 }
 
+/// Functions that answer their first argument.
+#[derive(Drop)]
+struct Firsts;
+
+impl NativeBook for Firsts {
+    ghost use Rattle.std.specs.Prelude.{slice_get};
+
+    ghost told = { λ _ id vs. slice_get vs 0 };
+}
+
+fn first(args: &Vals) -> Result<Value, CallFault>
+    ensures { AnswersNative (slice_get args.now 0) result }
+{
+    match args.items() {
+        [value, ..] => Ok(value.copy()?),
+        [] => Err(CallFault::Kind(EvalKind::Native)),
+    }
+}
+
+/// So many lists in each other, and one more.
+fn nested(alloc: Global, lists: u32) -> Result<Value, Mem> {
+    let mut value = list(alloc, "")?;
+    for _ in 0..lists {
+        value = Value::List(Vals::of(vec![in alloc; value]?));
+    }
+    Ok(value)
+}
+
+#[test]
+fn natives_are_limited(rt: HostRuntime) -> Result<(), Fail> {
+    let alloc = rt.alloc();
+    let natives = StoredNatives::new(
+        program_names(alloc)?,
+        Firsts,
+        |_alloc: Global, _id: u32, args: &Vals| -> Result<Value, CallFault>
+            ensures { AnswersNative (slice_get args.entry.now 0) result }
+        { first(args) },
+    );
+    let args = Vals::of(vec![in alloc; nested(alloc, 63)?]?);
+    let within = native_value(alloc, PLACE, "clamp", &args, &natives);
+    assert!(rt; within.is_ok());
+    let args = Vals::of(vec![in alloc; nested(alloc, 64)?]?);
+    let deep = shown(alloc, native_value(alloc, PLACE, "clamp", &args, &natives))?;
+    assert_eq!(rt; deep.as_str(), "TooDeep at 1:9");
+    Ok(())
+}
+
 /// A receiver, a method, how many arguments, and what is called or the fault.
 const BLOCKS: &[(&str, &str, usize, &str)] = &[
     ("[1", "any", 1, "Any"),
@@ -184,7 +246,14 @@ const BLOCKS: &[(&str, &str, usize, &str)] = &[
     ("[1", "findAll", 1, "FindAll"),
     ("[1", "collect", 1, "Collect"),
     ("[1", "collect", 2, "Arity at 1:9"),
-    ("[1", "size", 1, "WrongKind at 1:9"),
+    ("[1", "size", 1, "Arity at 1:9"),
+    ("[1", "contains", 1, "WrongKind at 1:9"),
+    ("[1", "contains", 2, "Arity at 1:9"),
+    ("abc", "substring", 2, "WrongKind at 1:9"),
+    ("abc", "substring", 3, "Arity at 1:9"),
+    ("1", "trim", 1, "NoMethod at 1:9"),
+    ("1", "contains", 2, "NoMethod at 1:9"),
+    ("1", "name", 1, "NoMethod at 1:9"),
     ("1", "collect", 2, "NoMethod at 1:9"),
     ("1", "nothing", 1, "NoMethod at 1:9"),
 ];
@@ -285,5 +354,9 @@ fn parts_fault_at_their_places(rt: HostRuntime) -> Result<(), Fail> {
     written.push("x")?;
     let text = shown(alloc, text_value(PLACE, written))?;
     assert_eq!(rt; text.as_str(), "x");
+    let mut gathered = Gathered::new(alloc);
+    gathered.push(Value::Int(6))?;
+    let list = shown(alloc, gathered_value(PLACE, gathered))?;
+    assert_eq!(rt; list.as_str(), "[6]");
     Ok(())
 }

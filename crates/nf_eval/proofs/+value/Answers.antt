@@ -1,16 +1,16 @@
-use Rattle.std.proofs.Common.{◌*◌, ◌≡◌, ◌∙◌, ℕ, List, [], map, Ok, Err, refl, sym, ap, subst, rules, ◌∷◌, ◌+◌, ◌++◌, suc, drop, Bool, arith, length, Result, true, ◌<◌, ◌-◌}
+use Rattle.std.proofs.Common.{◌*◌, ◌≡◌, ◌∙◌, ℕ, List, [], map, Ok, Err, refl, sym, ap, subst, rules, ◌∷◌, ◌+◌, ◌++◌, suc, drop, Bool, arith, length, Result, true, false, ◌<◌, ◌-◌}
 use Rattle.nf_value.specs.Plain.{Plain}
 use Rattle.nf_value.specs.View.{plain_of, pair_of}
 use Rattle.nf_ast.specs.declared.expr.Expr.{the_lemmas as expr_lemmas, Expr}
 use Rattle.nf_ast.specs.Tree.{Tree}
-use Rattle.nf_ast.specs.View.{view, view_operand, view_branch, view_postfix, prefixes, operands, conditional, postfix, view_piece, trees, framed, ended, applied, view_closure, view_arg, with_name, view_body, params_tree, view_stmt, view_stmts, view_arm, choice, names}
+use Rattle.nf_ast.specs.View.{view, views, view_operand, view_branch, view_postfix, prefixes, operands, conditional, postfix, view_piece, trees, framed, ended, applied, view_closure, view_arg, with_name, view_body, params_tree, view_stmt, view_stmts, view_arm, choice, names}
 use Rattle.nf_calls.specs.Placed.{Evaluates, Placed, ◌>>=◌, made}
 use Rattle.nf_calls.specs.Scope.{Env, Function, value_of, inside, with_names}
 use Rattle.nf_eval.specs.Evaluation.{eval_of, meaning_of, matched, opening, body_of}
 use Rattle.nf_eval.specs.Memory.{seen, held}
-use Rattle.nf_eval.specs.Chains.{prefixed, going_on, Stands, Comes, value_at, applied_at, callee_of, and_more}
+use Rattle.nf_eval.specs.Chains.{prefixed, going_on, closure_next, Stands, Comes, value_at, applied_at, callee_of, and_more}
 use Rattle.nf_eval.specs.Turns.{nothing_waits}
-use Rattle.nf_eval.proofs.Chaining.{prefixes_value, operands_value, chain_refused, name_stands, flat_stands, flat_refused, parts_refused, index_refused, place_refused, item_refused, item_stands, call_refused, nothing_stands, arguments_refused, call_comes, with_value, with_refused, that_block, called_at}
+use Rattle.nf_eval.proofs.Chaining.{prefixes_value, operands_value, chain_refused, name_stands, flat_stands, flat_refused, parts_refused, index_refused, place_refused, item_refused, item_stands, call_refused, nothing_stands, arguments_refused, call_waits, call_comes, ready, ready_first, with_value, that_block, called_at}
 use Rattle.nf_eval.proofs.Evaluating.{refused, fault_first, value_first, same, refused_at}
 use Rattle.nf_eval.proofs.Turning.{steps_refused, steps_fault}
 use Rattle.nf_eval.proofs.Reached.{comes_refused}
@@ -18,7 +18,9 @@ use Rattle.nf_ast.specs.declared.expr.Piece.{Piece, the_lemmas as piece_lemmas}
 use Rattle.nf_marks.specs.Template.{IsWritten, hole_text}
 use Rattle.nf_eval.proofs.Lefts.{left_here, none_left}
 use Rattle.nf_eval.proofs.Writing.{writes_on}
+use Rattle.nf_eval.proofs.Gathering.{none_gathered, gathers_one}
 use Rattle.nf_eval.proofs.+value.Goals.{values::text-in-Plain+in_ok-push-in-Plain, values::text-in-Hole+in_ok-value-in-Hole+in_ok-put_hole-in-Hole, calls::arguments-in-Some+in_ok-push-in-Some, calls::arguments-in-None}
+use Rattle.std.proofs.lemmas.Bool.{false≢true}
 use Rattle.std.specs.Prelude.{Option, Some, not, option_map}
 use Rattle.nf_calls.specs.Body.{pattern_in, names_in, split, paired}
 use Rattle.nf_ast.specs.declared.marks.BranchMark.{BranchMark}
@@ -30,7 +32,7 @@ use Rattle.nf_ast.specs.declared.expr.Postfix.{Postfix, the_lemmas as postfix_le
 use Rattle.nf_eval.specs.declared.subjects.Subject.{Subject}
 use Rattle.nf_marks.specs.Read.{index}
 use Rattle.std.proofs.lemmas.List.{length-map}
-use Rattle.nf_calls.specs.Calls.{called, plain, block, method, math, over_items, function, by_function}
+use Rattle.nf_calls.specs.Calls.{called, images_of, plain, block, method, math, over_items, function, by_function}
 use Rattle.nf_eval.proofs.Passing.{as_many, passed_refused, alone, no_values, one_more, none_before}
 use Rattle.nf_ast.specs.declared.expr.Closure.{the_lemmas as closure_lemmas}
 use Rattle.nf_value.specs.declared.value.Value.{Value}
@@ -124,8 +126,8 @@ values::value-returns-in_err-first-in-Postfix g t0 c =
     let a = view c.in-Postfix.first.value in
     let is : view c.args.expr.now ≡ postfix a (map view_postfix others) = search (rules, expr_lemmas) in
     let err : c.from_residual-in_err-first-in-Postfix.result ≡ Err c.in_err-first-in-Postfix.field-0.0 = search rules in
-    let first : Comes a env (Err c.in_err-first-in-Postfix.field-0.0) = search rules in
-    same (eval_of (view c.args.expr.now) env) (eval_of (postfix a (map view_postfix others)) env) c.from_residual-in_err-first-in-Postfix.result (ap (λ (t : Tree). eval_of t env) is) (comes_refused (postfix a (map view_postfix others)) env c.in_err-first-in-Postfix.field-0.0 c.from_residual-in_err-first-in-Postfix.result err (chain_refused others a env c.in_err-first-in-Postfix.field-0.0 (Err c.in_err-first-in-Postfix.field-0.0) refl first))
+    let first : Comes c.closure_next-next.result a env (Err c.in_err-first-in-Postfix.field-0.0) = search rules in
+    same (eval_of (view c.args.expr.now) env) (eval_of (postfix a (map view_postfix others)) env) c.from_residual-in_err-first-in-Postfix.result (ap (λ (t : Tree). eval_of t env) is) (comes_refused false (postfix a (map view_postfix others)) env c.in_err-first-in-Postfix.field-0.0 c.from_residual-in_err-first-in-Postfix.result err (chain_refused c.closure_next-next.result false others a env c.in_err-first-in-Postfix.field-0.0 (Err c.in_err-first-in-Postfix.field-0.0) refl first))
 
 pub values::value-returns-in_ok-last-in-Postfix : goal.values::value-returns-in_ok-last-in-Postfix
 values::value-returns-in_ok-last-in-Postfix g t0 c =
@@ -133,10 +135,12 @@ values::value-returns-in_ok-last-in-Postfix g t0 c =
     let others = c.in-Postfix.rest.items in
     let a = view c.in-Postfix.first.value in
     let is : view c.args.expr.now ≡ postfix a (map view_postfix others) = search (rules, expr_lemmas) in
-    let first : Stands a env c.in_ok-first-in-Postfix.first = search rules in
-    let last : Stands (postfix a (map view_postfix others)) env c.in_ok-last-in-Postfix.last = search (rules, c.in_ok-last-in-Postfix.ensures a first) in
+    let first : Comes c.closure_next-next.result a env (Ok c.in_ok-first-in-Postfix.first) = search rules in
+    let next : c.closure_next-next.result ≡ closure_next (map view_postfix others) false = search rules in
+    let slice : c.deref-in-Postfix-3.result.now ≡ others = search rules in
+    let last : Comes false (postfix a (map view_postfix others)) env (Ok c.in_ok-last-in-Postfix.last) = search (rules, c.in_ok-last-in-Postfix.ensures a first.0 (λ n. first.1 (next ∙ ap (λ (l : List Postfix). closure_next (map view_postfix l) false) (sym slice) ∙ n))) in
     let gives : Evaluates (value_at c.in_ok-last-in-Postfix.last env) c.read.result = c.read.ensures (g.N.Natives.titles c.args.natives.now) (g.N.Natives.answer c.args.natives.now) in
-    same (eval_of (view c.args.expr.now) env) (value_at c.in_ok-last-in-Postfix.last env) c.read.result (ap (λ (t : Tree). eval_of t env) is ∙ last.is_value) gives
+    same (eval_of (view c.args.expr.now) env) (value_at c.in_ok-last-in-Postfix.last env) c.read.result (ap (λ (t : Tree). eval_of t env) is ∙ last.0.is_value (last.1 refl)) gives
 
 pub values::text-loop-piece-preserved : goal.values::text-loop-piece-preserved
 values::text-loop-piece-preserved g t0 c =
@@ -162,6 +166,44 @@ values::text-loop-piece-preserved g t0 c =
           let wrote : IsWritten (so.0 ++ s) w.put_hole.new.out = subst (λ (b : Bool). IsWritten (so.0 ++ hole_text b v) w.put_hole.new.out) (w.in_process.ensures (g.N.Natives.titles c.args.natives.now) (g.N.Natives.answer c.args.natives.now)) (w.in_ok-put_hole-in-Hole.ensures so.0 so.1) in
           (so.0 ++ s, subst (IsWritten (so.0 ++ s)) (sym w.written-is) wrote, writes_on (view_piece x) (map view_piece (drop (k + 1) pieces)) env so.0 s all gives here))
     ]
+
+pub values::items-loop-item-init : goal.values::items-loop-item-init
+values::items-loop-item-init g t0 c = ([], search rules, none_gathered _)
+
+pub blocks::images-loop-item-init : goal.blocks::images-loop-item-init
+blocks::images-loop-item-init g t0 c = ([], search rules, none_gathered _)
+
+pub values::items-loop-item-preserved : goal.values::items-loop-item-preserved
+values::items-loop-item-preserved g t0 c =
+    let env = seen c.args.around.now (g.N.Natives.titles c.args.natives.now) (g.N.Natives.answer c.args.natives.now) in
+    let list = c.args.list.now in
+    let k = c.loop-item.item-index in
+    let x = c.item-item.result in
+    let next : k + 1 ≡ suc k = omega arith in
+    let left : drop k list ≡ x ∷ drop (k + 1) list = left_here list k (k + 1) x c.loop-item-test.true c.item-item.is next in
+    let so = c.loop-item.invariant in
+    let all = (meaning_of (views list)).items env in
+    let more = (meaning_of (views (drop (k + 1) list))).items env in
+    let here : ((meaning_of (views (x ∷ drop (k + 1) list))).items env >>= λ ws. Ok (so.0 ++ ws)) ≡ all = sym (ap (λ (l : List Expr). (meaning_of (views l)).items env >>= λ ws. Ok (so.0 ++ ws)) left) ∙ so.2 in
+    let v = plain_of c.in_ok-value.field-0 in
+    (so.0 ++ v ∷ [], c.in_ok-push.ensures so.0 so.1, gathers_one ((meaning_of (view x)).value env) more so.0 v all c.in_ok-value.ensures here)
+
+pub blocks::images-loop-item-preserved : goal.blocks::images-loop-item-preserved
+blocks::images-loop-item-preserved g t0 c =
+    let env = seen c.args.around.now (g.N.Natives.titles c.args.natives.now) (g.N.Natives.answer c.args.natives.now) in
+    let f = block_of (view_closure c.args.closure.now) env in
+    let items = c.args.items.now in
+    let k = c.loop-item.item-index in
+    let x = c.item-item.result in
+    let next : k + 1 ≡ suc k = omega arith in
+    let left : drop k items ≡ x ∷ drop (k + 1) items = left_here items k (k + 1) x c.loop-item-test.true c.item-item.is next in
+    let so = c.loop-item.invariant in
+    let all = images_of f (map plain_of items) in
+    let more = images_of f (map plain_of (drop (k + 1) items)) in
+    let here : (images_of f (map plain_of (x ∷ drop (k + 1) items)) >>= λ ws. Ok (so.0 ++ ws)) ≡ all = sym (ap (λ (l : List Value). images_of f (map plain_of l) >>= λ ws. Ok (so.0 ++ ws)) left) ∙ so.2 in
+    let w = plain_of c.in_ok-image.image in
+    let gives : f (plain_of x ∷ []) ≡ Ok w = search rules in
+    (so.0 ++ w ∷ [], c.in_ok-push.ensures so.0 so.1, gathers_one (f (plain_of x ∷ [])) more so.0 w all gives here)
 
 pub levels::matches-returns-in-Some : goal.levels::matches-returns-in-Some
 levels::matches-returns-in-Some g t0 c =
@@ -239,7 +281,7 @@ chains::subject-returns-in_ok-copy-in-Name g t0 c =
     let env = (seen c.args.around.now (g.N.Natives.titles c.args.natives.now) (g.N.Natives.answer c.args.natives.now)) in
     let is : view c.args.expr.now ≡ tree.name c.in-Name.place c.in-Name.name = search (rules, expr_lemmas) in
     let same : c.in_ok-copy-in-Name.field-0 ≡ c.in-Name.name = search rules in
-    subst (λ (t : Tree). Stands t env (subject.Name c.in-Name.place c.in_ok-copy-in-Name.field-0)) (sym is) (subst (λ (n : List ℕ). Stands (tree.name c.in-Name.place c.in-Name.name) env (subject.Name c.in-Name.place n)) (sym same) (name_stands c.in-Name.place c.in-Name.name env))
+    ready c.args.closure _ env _ (subst (λ (t : Tree). Stands t env (subject.Name c.in-Name.place c.in_ok-copy-in-Name.field-0)) (sym is) (subst (λ (n : List ℕ). Stands (tree.name c.in-Name.place c.in-Name.name) env (subject.Name c.in-Name.place n)) (sym same) (name_stands c.in-Name.place c.in-Name.name env))) refl
 
 pub chains::subject-returns-in_err-first-in-Postfix : goal.chains::subject-returns-in_err-first-in-Postfix
 chains::subject-returns-in_err-first-in-Postfix g t0 c =
@@ -247,22 +289,24 @@ chains::subject-returns-in_err-first-in-Postfix g t0 c =
     let a = view c.in-Postfix.first.value in
     let is : view c.args.expr.now ≡ postfix a (map view_postfix c.in-Postfix.rest.items) = search (rules, expr_lemmas) in
     let err : c.from_residual-in_err-first-in-Postfix.result ≡ Err c.in_err-first-in-Postfix.field-0.0 = search rules in
-    let first : Comes a env (Err c.in_err-first-in-Postfix.field-0.0) = search rules in
-    subst (λ (t : Tree). Comes t env c.from_residual-in_err-first-in-Postfix.result) (sym is) (chain_refused c.in-Postfix.rest.items a env c.in_err-first-in-Postfix.field-0.0 c.from_residual-in_err-first-in-Postfix.result err first)
+    let first : Comes c.closure_next-next.result a env (Err c.in_err-first-in-Postfix.field-0.0) = search rules in
+    subst (λ (t : Tree). Comes c.args.closure t env c.from_residual-in_err-first-in-Postfix.result) (sym is) (chain_refused c.closure_next-next.result c.args.closure c.in-Postfix.rest.items a env c.in_err-first-in-Postfix.field-0.0 c.from_residual-in_err-first-in-Postfix.result err first)
 
 pub chains::subject-returns-in_ok-first-in-Postfix : goal.chains::subject-returns-in_ok-first-in-Postfix
 chains::subject-returns-in_ok-first-in-Postfix g t0 c =
     let env = (seen c.args.around.now (g.N.Natives.titles c.args.natives.now) (g.N.Natives.answer c.args.natives.now)) in
     let a = view c.in-Postfix.first.value in
     let is : view c.args.expr.now ≡ postfix a (map view_postfix c.in-Postfix.rest.items) = search (rules, expr_lemmas) in
-    let first : Stands a env c.in_ok-first-in-Postfix.first = search rules in
-    let comes : Comes (postfix a (map view_postfix c.in-Postfix.rest.items)) env c.parts.result = search (rules, c.parts.ensures a first) in
-    subst (λ (t : Tree). Comes t env c.parts.result) (sym is) comes
+    let first : Comes c.closure_next-next.result a env (Ok c.in_ok-first-in-Postfix.first) = search rules in
+    let next : c.closure_next-next.result ≡ closure_next (map view_postfix c.in-Postfix.rest.items) c.args.closure = search rules in
+    let slice : c.deref-in-Postfix-2.result.now ≡ c.in-Postfix.rest.items = search rules in
+    let comes : Comes c.args.closure (postfix a (map view_postfix c.in-Postfix.rest.items)) env c.parts.result = search (rules, c.parts.ensures a first.0 (λ n. first.1 (next ∙ ap (λ (l : List Postfix). closure_next (map view_postfix l) c.args.closure) (sym slice) ∙ n))) in
+    subst (λ (t : Tree). Comes c.args.closure t env c.parts.result) (sym is) comes
 
 pub chains::subject-returns-in_default : goal.chains::subject-returns-in_default
 chains::subject-returns-in_default g t0 c =
     let f : is_flat (view c.args.expr.now) ≡ true = search (rules, expr_lemmas) in
-    c.flat-in_default.ensures f
+    c.flat-in_default.ensures c.args.closure f
 
 pub chains::subject-returns-then-no_marks : goal.chains::subject-returns-then-no_marks
 chains::subject-returns-then-no_marks g t0 c =
@@ -272,8 +316,8 @@ chains::subject-returns-then-no_marks g t0 c =
     let is : view c.args.expr.now ≡ prefixes ms a = search (rules, expr_lemmas) in
     let fact : c.no_marks.result ≡ is_nil ms = search rules in
     let same : view c.args.expr.now ≡ a = is ∙ prefixes_none ms a (sym fact ∙ c.if-no_marks.true) in
-    let comes : Comes a env c.subject-then-no_marks.result = search rules in
-    subst (λ (t : Tree). Comes t env c.subject-then-no_marks.result) (sym same) comes
+    let comes : Comes c.args.closure a env c.subject-then-no_marks.result = search rules in
+    subst (λ (t : Tree). Comes c.args.closure t env c.subject-then-no_marks.result) (sym same) comes
 
 pub chains::subject-returns-else-no_marks : goal.chains::subject-returns-else-no_marks
 chains::subject-returns-else-no_marks g t0 c =
@@ -281,7 +325,7 @@ chains::subject-returns-else-no_marks g t0 c =
     let a = view c.in-Prefix.of.value in
     let is : view c.args.expr.now ≡ prefixes ms a = search (rules, expr_lemmas) in
     let fact : c.no_marks.result ≡ is_nil ms = search rules in
-    c.flat.ensures (ap is_flat is ∙ (prefixes_some ms a (sym fact ∙ c.if-no_marks.false)).flat)
+    c.flat.ensures c.args.closure (ap is_flat is ∙ (prefixes_some ms a (sym fact ∙ c.if-no_marks.false)).flat)
 
 pub chains::subject-returns-then-no_operands : goal.chains::subject-returns-then-no_operands
 chains::subject-returns-then-no_operands g t0 c =
@@ -291,8 +335,8 @@ chains::subject-returns-then-no_operands g t0 c =
     let is : view c.args.expr.now ≡ operands a (map view_operand ms) = search (rules, expr_lemmas) in
     let fact : c.no_operands.result ≡ is_nil (map view_operand ms) = search rules in
     let same : view c.args.expr.now ≡ a = is ∙ operands_none ms a (sym fact ∙ c.if-no_operands.true) in
-    let comes : Comes a env c.subject-then-no_operands.result = search rules in
-    subst (λ (t : Tree). Comes t env c.subject-then-no_operands.result) (sym same) comes
+    let comes : Comes c.args.closure a env c.subject-then-no_operands.result = search rules in
+    subst (λ (t : Tree). Comes c.args.closure t env c.subject-then-no_operands.result) (sym same) comes
 
 pub chains::subject-returns-else-no_operands : goal.chains::subject-returns-else-no_operands
 chains::subject-returns-else-no_operands g t0 c =
@@ -300,7 +344,7 @@ chains::subject-returns-else-no_operands g t0 c =
     let a = view c.in-Infix.first.value in
     let is : view c.args.expr.now ≡ operands a (map view_operand ms) = search (rules, expr_lemmas) in
     let fact : c.no_operands.result ≡ is_nil (map view_operand ms) = search rules in
-    c.flat-else-no_operands.ensures (ap is_flat is ∙ (operands_some ms a (sym fact ∙ c.if-no_operands.false)).flat)
+    c.flat-else-no_operands.ensures c.args.closure (ap is_flat is ∙ (operands_some ms a (sym fact ∙ c.if-no_operands.false)).flat)
 
 pub chains::subject-returns-then-no_branches : goal.chains::subject-returns-then-no_branches
 chains::subject-returns-then-no_branches g t0 c =
@@ -310,8 +354,8 @@ chains::subject-returns-then-no_branches g t0 c =
     let is : view c.args.expr.now ≡ conditional [] a (map view_branch ms) = search (rules, expr_lemmas) in
     let fact : c.no_branches.result ≡ is_nil (map view_branch ms) = search rules in
     let same : view c.args.expr.now ≡ a = is ∙ conditional_none ms a (sym fact ∙ c.if-no_branches.true) in
-    let comes : Comes a env c.subject-then-no_branches.result = search rules in
-    subst (λ (t : Tree). Comes t env c.subject-then-no_branches.result) (sym same) comes
+    let comes : Comes c.args.closure a env c.subject-then-no_branches.result = search rules in
+    subst (λ (t : Tree). Comes c.args.closure t env c.subject-then-no_branches.result) (sym same) comes
 
 pub chains::subject-returns-else-no_branches : goal.chains::subject-returns-else-no_branches
 chains::subject-returns-else-no_branches g t0 c =
@@ -319,177 +363,188 @@ chains::subject-returns-else-no_branches g t0 c =
     let a = view c.in-Conditional.first.value in
     let is : view c.args.expr.now ≡ conditional [] a (map view_branch ms) = search (rules, expr_lemmas) in
     let fact : c.no_branches.result ≡ is_nil (map view_branch ms) = search rules in
-    c.flat-else-no_branches.ensures (ap is_flat is ∙ (conditional_some ms a (sym fact ∙ c.if-no_branches.false)).flat)
+    c.flat-else-no_branches.ensures c.args.closure (ap is_flat is ∙ (conditional_some ms a (sym fact ∙ c.if-no_branches.false)).flat)
 
 pub chains::flat-returns-in_err-value : goal.chains::flat-returns-in_err-value
-chains::flat-returns-in_err-value g t0 c f =
+chains::flat-returns-in_err-value g t0 c closure f =
     let env = seen c.args.around.now (g.N.Natives.titles c.args.natives.now) (g.N.Natives.answer c.args.natives.now) in
     let is : c.from_residual.result ≡ Err c.in_err-value.field-0.0 = search rules in
-    flat_refused (view c.args.expr.now) env c.in_err-value.field-0.0 c.from_residual.result f is (refused (eval_of (view c.args.expr.now) env) c.in_err-value.field-0.0 c.in_err-value.ensures)
+    flat_refused closure (view c.args.expr.now) env c.in_err-value.field-0.0 c.from_residual.result f is (refused (eval_of (view c.args.expr.now) env) c.in_err-value.field-0.0 c.in_err-value.ensures)
 
 pub chains::flat-returns : goal.chains::flat-returns
-chains::flat-returns g t0 c f = flat_stands (view c.args.expr.now) (seen c.args.around.now (g.N.Natives.titles c.args.natives.now) (g.N.Natives.answer c.args.natives.now)) c.in_ok-value.value f c.in_ok-value.ensures
+chains::flat-returns g t0 c closure f = ready closure _ _ _ (flat_stands (view c.args.expr.now) (seen c.args.around.now (g.N.Natives.titles c.args.natives.now) (g.N.Natives.answer c.args.natives.now)) c.in_ok-value.value f c.in_ok-value.ensures) refl
+
+pub chains::parts-loop-next-init : goal.chains::parts-loop-next-init
+chains::parts-loop-next-init g t0 c = record { ahead = refl; stands = λ t st has. (t, st, has, refl) }
 
 pub chains::parts-loop-next-preserved : goal.chains::parts-loop-next-preserved
-chains::parts-loop-next-preserved g t0 c t st =
-    let i = c.loop-next.invariant t st in
+chains::parts-loop-next-preserved g t0 c =
     let rest = c.args.rest.now in
     let k = c.loop-next.next-index in
     let x = c.next-item.result in
     let next : k + 1 ≡ suc k = omega arith in
     let left : drop k rest ≡ x ∷ drop (k + 1) rest = left_here rest k (k + 1) x c.loop-next-test.true c.next-item.is next in
-    (applied i.0 (view_postfix x), c.in_ok-subject.ensures i.0 i.1, sym (ap (λ (l : List Postfix). postfix i.0 (map view_postfix l)) left) ∙ i.2)
+    let ahead : c.after_first-ahead.result.now ≡ drop (k + 1) rest = c.after_first-ahead.ensures ∙ ap (drop 1) (c.loop-next.invariant.ahead ∙ left) in
+    let after : c.closure_next-followed.result ≡ closure_next (map view_postfix (drop (k + 1) rest)) c.args.closure = c.closure_next-followed.ensures ∙ ap (λ (l : List Postfix). closure_next (map view_postfix l) c.args.closure) ahead in
+    record {
+      ahead = ahead;
+      stands = λ t st has.
+          let i = c.loop-next.invariant.stands t st has in
+          let comes = c.in_ok-subject.ensures i.0 i.1 (ready_first x (drop k rest) (drop (k + 1) rest) c.closure_next-followed.result c.args.closure c.loop-next.subject left i.2) in
+          (applied i.0 (view_postfix x), comes.0, λ n. comes.1 (after ∙ n), sym (ap (λ (l : List Postfix). postfix i.0 (map view_postfix l)) left) ∙ i.3);
+    }
 
 pub chains::parts-returns-in_err-subject : goal.chains::parts-returns-in_err-subject
-chains::parts-returns-in_err-subject g t0 c t st =
+chains::parts-returns-in_err-subject g t0 c t st has =
     let env = (seen c.args.around.now (g.N.Natives.titles c.args.natives.now) (g.N.Natives.answer c.args.natives.now)) in
-    let i = c.loop-next.invariant t st in
+    let i = c.loop-next.invariant.stands t st has in
     let rest = c.args.rest.now in
     let k = c.loop-next.next-index in
     let x = c.next-item.result in
     let next : k + 1 ≡ suc k = omega arith in
     let left : drop k rest ≡ x ∷ drop (k + 1) rest = left_here rest k (k + 1) x c.loop-next-test.true c.next-item.is next in
     let err : c.from_residual.result ≡ Err c.in_err-subject.field-0.0 = search rules in
-    let whole : postfix i.0 (map view_postfix (x ∷ drop (k + 1) rest)) ≡ postfix t (map view_postfix rest) = sym (ap (λ (l : List Postfix). postfix i.0 (map view_postfix l)) left) ∙ i.2 in
-    subst (λ (r : Result Subject EvalRefusal). Comes (postfix t (map view_postfix rest)) env r) (sym err) (subst (λ (u : Tree). Comes u env (Err c.in_err-subject.field-0.0)) whole (parts_refused i.0 x (drop (k + 1) rest) env c.in_err-subject.field-0.0 (c.in_err-subject.ensures i.0 i.1)))
+    let whole : postfix i.0 (map view_postfix (x ∷ drop (k + 1) rest)) ≡ postfix t (map view_postfix rest) = sym (ap (λ (l : List Postfix). postfix i.0 (map view_postfix l)) left) ∙ i.3 in
+    let comes = c.in_err-subject.ensures i.0 i.1 (ready_first x (drop k rest) (drop (k + 1) rest) c.closure_next-followed.result c.args.closure c.loop-next.subject left i.2) in
+    subst (λ (r : Result Subject EvalRefusal). Comes c.args.closure (postfix t (map view_postfix rest)) env r) (sym err) (subst (λ (u : Tree). Comes c.args.closure u env (Err c.in_err-subject.field-0.0)) whole (parts_refused c.closure_next-followed.result c.args.closure i.0 x (drop (k + 1) rest) env c.in_err-subject.field-0.0 comes))
 
 pub chains::parts-returns : goal.chains::parts-returns
-chains::parts-returns g t0 c t st =
+chains::parts-returns g t0 c t st has =
     let env = (seen c.args.around.now (g.N.Natives.titles c.args.natives.now) (g.N.Natives.answer c.args.natives.now)) in
-    let i = c.loop-next.invariant t st in
+    let i = c.loop-next.invariant.stands t st has in
     let rest = c.args.rest.now in
     let k = c.loop-next.next-index in
     let none : drop k rest ≡ [] = none_left rest k c.loop-next-test.false in
-    subst (λ (u : Tree). Stands u env c.loop-next.subject) (sym (ap (λ (l : List Postfix). postfix i.0 (map view_postfix l)) none) ∙ i.2) i.1
+    (subst (λ (u : Tree). Stands u env c.loop-next.subject) (sym (ap (λ (l : List Postfix). postfix i.0 (map view_postfix l)) none) ∙ i.3) i.1, λ n. i.2 (ap (λ (l : List Postfix). closure_next (map view_postfix l) c.args.closure) none ∙ n))
 
 pub chains::part-returns-in-Index : goal.chains::part-returns-in-Index
-chains::part-returns-in-Index g t0 c t st =
+chains::part-returns-in-Index g t0 c t st has =
     let env = seen c.args.around.now (g.N.Natives.titles c.args.natives.now) (g.N.Natives.answer c.args.natives.now) in
     let is : view_postfix c.args.next.now ≡ tree.index c.in-Index.place tree.empty (view c.in-Index.at) = search (rules, postfix_lemmas) in
-    let comes : Comes (applied t (tree.index c.in-Index.place tree.empty (view c.in-Index.at))) env c.indexed.result = c.indexed.ensures t st in
-    subst (λ (v : Tree). Comes (applied t v) env c.indexed.result) (sym is) comes
+    let comes : Comes c.args.closure (applied t (tree.index c.in-Index.place tree.empty (view c.in-Index.at))) env c.indexed.result = c.indexed.ensures c.args.closure t st (has (ap (λ (v : Tree). closure_next (v ∷ []) c.args.closure) is)) in
+    subst (λ (v : Tree). Comes c.args.closure (applied t v) env c.indexed.result) (sym is) comes
 
 pub chains::part-returns-in-Call : goal.chains::part-returns-in-Call
-chains::part-returns-in-Call g t0 c t st =
+chains::part-returns-in-Call g t0 c t st has =
     let env = seen c.args.around.now (g.N.Natives.titles c.args.natives.now) (g.N.Natives.answer c.args.natives.now) in
     let is : view_postfix c.args.next.now ≡ tree.call c.in-Call.place tree.empty (trees (map view_arg c.in-Call.args.items)) = search (rules, postfix_lemmas) in
-    let comes : Comes (applied t (tree.call c.in-Call.place tree.empty (trees (map view_arg c.in-Call.args.items)))) env c.call.result = search (rules, c.call.ensures t st) in
-    subst (λ (v : Tree). Comes (applied t v) env c.call.result) (sym is) comes
+    let comes : Comes c.args.closure (applied t (tree.call c.in-Call.place tree.empty (trees (map view_arg c.in-Call.args.items)))) env c.call.result = search (rules, c.call.ensures t st (has (ap (λ (v : Tree). closure_next (v ∷ []) c.args.closure) is))) in
+    subst (λ (v : Tree). Comes c.args.closure (applied t v) env c.call.result) (sym is) comes
 
 pub chains::part-returns-in-With : goal.chains::part-returns-in-With
-chains::part-returns-in-With g t0 c t st =
+chains::part-returns-in-With g t0 c t st has =
     let env = seen c.args.around.now (g.N.Natives.titles c.args.natives.now) (g.N.Natives.answer c.args.natives.now) in
-    let is : view_postfix c.args.next.now ≡ tree.call_with tree.empty (view_closure c.in-With.closure) = search (rules, postfix_lemmas) in
-    let comes : Comes (applied t (tree.call_with tree.empty (view_closure c.in-With.closure))) env c.with.result = c.with.ensures t st in
-    subst (λ (v : Tree). Comes (applied t v) env c.with.result) (sym is) comes
+    let is : view_postfix c.args.next.now ≡ tree.call_with tree.empty (view_closure c.in-With.block) = search (rules, postfix_lemmas) in
+    let comes : Comes c.args.closure (applied t (tree.call_with tree.empty (view_closure c.in-With.block))) env c.with.result = c.with.ensures c.args.closure t st in
+    subst (λ (v : Tree). Comes c.args.closure (applied t v) env c.with.result) (sym is) comes
 
 pub chains::part-returns-in_ok-copy-in-Property : goal.chains::part-returns-in_ok-copy-in-Property
-chains::part-returns-in_ok-copy-in-Property g t0 c t st =
+chains::part-returns-in_ok-copy-in-Property g t0 c t st has =
     let titles = g.N.Natives.titles c.args.natives.now in
     let answer = g.N.Natives.answer c.args.natives.now in
     let env = seen c.args.around.now titles answer in
     let n = c.in_ok-copy-in-Property.field-0 in
     let same : n ≡ c.in-Property.name = search rules in
     let is : view_postfix c.args.next.now ≡ tree.property tree.empty (tree.name c.in-Property.place c.in-Property.name) = search (rules, postfix_lemmas) in
-    let comes : Comes (tree.property t (tree.name c.in-Property.place n)) env c.property.result = c.property.ensures titles answer t st in
-    subst (λ (v : Tree). Comes (applied t v) env c.property.result) (sym is) (subst (λ (m : List ℕ). Comes (tree.property t (tree.name c.in-Property.place m)) env c.property.result) same comes)
+    let comes : Comes c.args.closure (tree.property t (tree.name c.in-Property.place n)) env c.property.result = c.property.ensures titles answer c.args.closure t st (has (ap (λ (v : Tree). closure_next (v ∷ []) c.args.closure) is)) in
+    subst (λ (v : Tree). Comes c.args.closure (applied t v) env c.property.result) (sym is) (subst (λ (m : List ℕ). Comes c.args.closure (tree.property t (tree.name c.in-Property.place m)) env c.property.result) same comes)
 
 pub chains::part-returns-in_ok-copy-in-SafeProperty : goal.chains::part-returns-in_ok-copy-in-SafeProperty
-chains::part-returns-in_ok-copy-in-SafeProperty g t0 c t st =
+chains::part-returns-in_ok-copy-in-SafeProperty g t0 c t st has =
     let titles = g.N.Natives.titles c.args.natives.now in
     let answer = g.N.Natives.answer c.args.natives.now in
     let env = seen c.args.around.now titles answer in
     let n = c.in_ok-copy-in-SafeProperty.field-0 in
     let same : n ≡ c.in-SafeProperty.name = search rules in
     let is : view_postfix c.args.next.now ≡ tree.safe_property tree.empty (tree.name c.in-SafeProperty.place c.in-SafeProperty.name) = search (rules, postfix_lemmas) in
-    let comes : Comes (tree.safe_property t (tree.name c.in-SafeProperty.place n)) env c.safe_property.result = c.safe_property.ensures titles answer t st in
-    subst (λ (v : Tree). Comes (applied t v) env c.safe_property.result) (sym is) (subst (λ (m : List ℕ). Comes (tree.safe_property t (tree.name c.in-SafeProperty.place m)) env c.safe_property.result) same comes)
+    let comes : Comes c.args.closure (tree.safe_property t (tree.name c.in-SafeProperty.place n)) env c.safe_property.result = c.safe_property.ensures titles answer c.args.closure t st (has (ap (λ (v : Tree). closure_next (v ∷ []) c.args.closure) is)) in
+    subst (λ (v : Tree). Comes c.args.closure (applied t v) env c.safe_property.result) (sym is) (subst (λ (m : List ℕ). Comes c.args.closure (tree.safe_property t (tree.name c.in-SafeProperty.place m)) env c.safe_property.result) same comes)
 
 pub chains::indexed-returns-in_err-of : goal.chains::indexed-returns-in_err-of
-chains::indexed-returns-in_err-of g t0 c t st =
+chains::indexed-returns-in_err-of g t0 c closure t st has =
     let titles = g.N.Natives.titles c.args.natives.now in
     let answer = g.N.Natives.answer c.args.natives.now in
     let env = seen c.args.around.now titles answer in
     let is : c.from_residual.result ≡ Err c.in_err-of.field-0.0 = search rules in
-    index_refused t (view c.args.at.now) c.args.place env c.in_err-of.field-0.0 c.from_residual.result is (refused_at ((meaning_of t).value env) (value_at c.args.before env) c.in_err-of.field-0.0 st.is_value (refused (value_at c.args.before env) c.in_err-of.field-0.0 (c.in_err-of.ensures titles answer)))
+    index_refused t (view c.args.at.now) c.args.place env closure c.in_err-of.field-0.0 c.from_residual.result is (refused_at ((meaning_of t).value env) (value_at c.args.before env) c.in_err-of.field-0.0 (st.is_value has) (refused (value_at c.args.before env) c.in_err-of.field-0.0 (c.in_err-of.ensures titles answer)))
 
 pub chains::indexed-returns-in_err-at : goal.chains::indexed-returns-in_err-at
-chains::indexed-returns-in_err-at g t0 c t st =
+chains::indexed-returns-in_err-at g t0 c closure t st has =
     let titles = g.N.Natives.titles c.args.natives.now in
     let answer = g.N.Natives.answer c.args.natives.now in
     let env = seen c.args.around.now titles answer in
     let is : c.from_residual-in_err-at.result ≡ Err c.in_err-at.field-0.0 = search rules in
-    place_refused t (view c.args.at.now) c.args.place env (plain_of c.in_ok-of.of) c.in_err-at.field-0.0 c.from_residual-in_err-at.result is (st.is_value ∙ c.in_ok-of.ensures titles answer) (refused (eval_of (view c.args.at.now) env) c.in_err-at.field-0.0 c.in_err-at.ensures)
+    place_refused t (view c.args.at.now) c.args.place env closure (plain_of c.in_ok-of.of) c.in_err-at.field-0.0 c.from_residual-in_err-at.result is (st.is_value has ∙ c.in_ok-of.ensures titles answer) (refused (eval_of (view c.args.at.now) env) c.in_err-at.field-0.0 c.in_err-at.ensures)
 
 pub chains::indexed-returns-in_err-item : goal.chains::indexed-returns-in_err-item
-chains::indexed-returns-in_err-item g t0 c t st =
+chains::indexed-returns-in_err-item g t0 c closure t st has =
     let titles = g.N.Natives.titles c.args.natives.now in
     let answer = g.N.Natives.answer c.args.natives.now in
     let env = seen c.args.around.now titles answer in
     let is : c.from_residual-in_err-item.result ≡ Err c.in_err-item.field-0.0 = search rules in
-    item_refused t (view c.args.at.now) c.args.place env (plain_of c.in_ok-of.of) (plain_of c.in_ok-at.at) c.in_err-item.field-0.0 c.from_residual-in_err-item.result is (st.is_value ∙ c.in_ok-of.ensures titles answer) c.in_ok-at.ensures (refused (made c.args.place (index (plain_of c.in_ok-of.of) (plain_of c.in_ok-at.at))) c.in_err-item.field-0.0 c.in_err-item.ensures)
+    item_refused t (view c.args.at.now) c.args.place env closure (plain_of c.in_ok-of.of) (plain_of c.in_ok-at.at) c.in_err-item.field-0.0 c.from_residual-in_err-item.result is (st.is_value has ∙ c.in_ok-of.ensures titles answer) c.in_ok-at.ensures (refused (made c.args.place (index (plain_of c.in_ok-of.of) (plain_of c.in_ok-at.at))) c.in_err-item.field-0.0 c.in_err-item.ensures)
 
 pub chains::indexed-returns : goal.chains::indexed-returns
-chains::indexed-returns g t0 c t st =
+chains::indexed-returns g t0 c closure t st has =
     let titles = g.N.Natives.titles c.args.natives.now in
     let answer = g.N.Natives.answer c.args.natives.now in
     let env = seen c.args.around.now titles answer in
-    item_stands t (view c.args.at.now) c.args.place env (plain_of c.in_ok-of.of) (plain_of c.in_ok-at.at) c.in_ok-item.item (st.is_value ∙ c.in_ok-of.ensures titles answer) c.in_ok-at.ensures c.in_ok-item.ensures
+    ready closure _ env _ (item_stands t (view c.args.at.now) c.args.place env (plain_of c.in_ok-of.of) (plain_of c.in_ok-at.at) c.in_ok-item.item (st.is_value has ∙ c.in_ok-of.ensures titles answer) c.in_ok-at.ensures c.in_ok-item.ensures) refl
 
 pub chains::call-returns-in_err-callee : goal.chains::call-returns-in_err-callee
-chains::call-returns-in_err-callee g t0 c t st =
+chains::call-returns-in_err-callee g t0 c t st has =
     let env = seen c.args.around.now (g.N.Natives.titles c.args.natives.now) (g.N.Natives.answer c.args.natives.now) in
     let is : c.from_residual.result ≡ Err c.in_err-callee.field-0.0 = search rules in
-    call_refused t (trees (map view_arg c.args.args.now)) c.args.place env c.in_err-callee.field-0.0 c.from_residual.result is (λ a. refused_at _ (applied_at c.args.before c.args.place a env) c.in_err-callee.field-0.0 (st.is_applied c.args.place a) (c.in_err-callee.ensures env a))
+    call_refused c.args.closure t (trees (map view_arg c.args.args.now)) c.args.place env c.in_err-callee.field-0.0 c.from_residual.result is (λ a. refused_at _ (applied_at c.args.before c.args.place a env) c.in_err-callee.field-0.0 (st.is_applied has c.args.place a) (c.in_err-callee.ensures env a))
 
 pub chains::call-returns-then-calls_nothing : goal.chains::call-returns-then-calls_nothing
-chains::call-returns-then-calls_nothing g t0 c t st =
+chains::call-returns-then-calls_nothing g t0 c t st has =
     let env = seen c.args.around.now (g.N.Natives.titles c.args.natives.now) (g.N.Natives.answer c.args.natives.now) in
-    nothing_stands t (trees (map view_arg c.args.args.now)) c.args.place env c.args.before c.in_ok-callee.callee (Ok some_value.Null) st (c.in_ok-callee.ensures env) (sym c.calls_nothing.ensures ∙ ap not c.if-calls_nothing.true) refl
+    ready c.args.closure _ env _ (nothing_stands t (trees (map view_arg c.args.args.now)) c.args.place env c.args.before c.in_ok-callee.callee st has (c.in_ok-callee.ensures env) (Ok some_value.Null) (sym c.calls_nothing.ensures ∙ ap not c.if-calls_nothing.true) refl) refl
 
 pub chains::call-returns-in_err-given : goal.chains::call-returns-in_err-given
-chains::call-returns-in_err-given g t0 c t st =
+chains::call-returns-in_err-given g t0 c t st has =
     let env = seen c.args.around.now (g.N.Natives.titles c.args.natives.now) (g.N.Natives.answer c.args.natives.now) in
     let is : c.from_residual-in_err-given.result ≡ Err c.in_err-given.field-0.0 = search rules in
-    arguments_refused t (trees (map view_arg c.args.args.now)) c.args.place env c.args.before c.in_ok-callee.callee c.in_err-given.field-0.0 c.from_residual-in_err-given.result is st (c.in_ok-callee.ensures env) (sym c.calls_nothing.ensures ∙ ap not c.if-calls_nothing.false) c.in_err-given.ensures
+    arguments_refused t (trees (map view_arg c.args.args.now)) c.args.place env c.args.before c.in_ok-callee.callee st has (c.in_ok-callee.ensures env) c.args.closure c.in_err-given.field-0.0 c.from_residual-in_err-given.result is (sym c.calls_nothing.ensures ∙ ap not c.if-calls_nothing.false) c.in_err-given.ensures
+
+pub chains::call-returns-then-closure : goal.chains::call-returns-then-closure
+chains::call-returns-then-closure g t0 c t st has =
+    let env = seen c.args.around.now (g.N.Natives.titles c.args.natives.now) (g.N.Natives.answer c.args.natives.now) in
+    let args = trees (map view_arg c.args.args.now) in
+    let given = c.in_ok-given.ensures in
+    let len : suc (length given.0) ≡ length c.args.args.now + 1 = omega (arith, as_many (map view_arg c.args.args.now) env given.0 given.1, length-map c.args.args.now view_arg) in
+    (call_waits t args c.args.place env c.args.before c.in_ok-callee.callee st has (c.in_ok-callee.ensures env) given.0 (length c.args.args.now + 1) given.1 len, λ n. absurd (false≢true (sym n ∙ c.if-closure.true)))
 
 pub chains::call-returns : goal.chains::call-returns
-chains::call-returns g t0 c t st =
+chains::call-returns g t0 c t st has =
     let env = seen c.args.around.now (g.N.Natives.titles c.args.natives.now) (g.N.Natives.answer c.args.natives.now) in
     let args = trees (map view_arg c.args.args.now) in
     let given = c.in_ok-given.ensures in
     let callee = c.in_ok-callee.callee in
     let len : suc (length given.0) ≡ length c.args.args.now + 1 = omega (arith, as_many (map view_arg c.args.args.now) env given.0 given.1, length-map c.args.args.now view_arg) in
-    call_comes t args c.args.place env c.args.before callee given.0 (length c.args.args.now + 1) c.finished.result st (c.in_ok-callee.ensures env) given.1 len (c.finished.ensures (called (callee_of callee) (λ e. Ok given.0) env) (c.performed-result.ensures given.0 given.1 given.2))
-
-pub chains::with-returns-in_err-waiting : goal.chains::with-returns-in_err-waiting
-chains::with-returns-in_err-waiting g t0 c t st =
-    let env = seen c.args.around.now (g.N.Natives.titles c.args.natives.now) (g.N.Natives.answer c.args.natives.now) in
-    let vc = view_closure c.args.closure.now in
-    let is : c.from_residual.result ≡ Err c.in_err-waiting.field-0.0 = search rules in
-    let o : opening vc ≡ c.args.closure.now.place = search (rules, closure_lemmas) in
-    with_refused t vc env c.args.closure.now.place c.in_err-waiting.field-0.0 c.from_residual.result is o (c.in_err-waiting.ensures t env st)
+    call_comes t args c.args.place env c.args.before callee st has (c.in_ok-callee.ensures env) c.args.closure given.0 (length c.args.args.now + 1) c.finished.result given.1 len (c.finished.ensures (called (callee_of callee) (λ e. Ok given.0) env) (c.performed-result.ensures given.0 given.1 given.2))
 
 pub chains::with-returns-in_err-value : goal.chains::with-returns-in_err-value
-chains::with-returns-in_err-value g t0 c t st =
+chains::with-returns-in_err-value g t0 c closure t st =
     let env = seen c.args.around.now (g.N.Natives.titles c.args.natives.now) (g.N.Natives.answer c.args.natives.now) in
-    let vc = view_closure c.args.closure.now in
-    let w = c.in_ok-waiting.ensures t env st in
-    let k = callee_of c.in_ok-waiting.waiting.callee in
-    let is : c.from_residual-in_err-value.result ≡ Err c.in_err-value.field-0.0 = search rules in
-    let o : opening vc ≡ c.args.closure.now.place = search (rules, closure_lemmas) in
+    let vc = view_closure c.args.block.now in
+    let w = c.waiting-waiting.ensures t env st in
+    let k = callee_of c.waiting-waiting.result.callee in
+    let is : c.from_residual.result ≡ Err c.in_err-value.field-0.0 = search rules in
+    let o : opening vc ≡ c.args.block.now.place = search (rules, closure_lemmas) in
     let closes : is_closure vc ≡ true = search (rules, closure_lemmas) in
-    flat_refused (tree.call_with t vc) env c.in_err-value.field-0.0 c.from_residual-in_err-value.result refl is (refused_at _ (called k (and_more w.0 (that_block t vc env c.args.closure.now.place)) env) c.in_err-value.field-0.0 (with_value t vc env c.args.closure.now.place w.0 k o closes w.2) (refused (called k (and_more w.0 (that_block t vc env c.args.closure.now.place)) env) c.in_err-value.field-0.0 (c.in_err-value.ensures w.0 w.1)))
+    flat_refused closure (tree.call_with t vc) env c.in_err-value.field-0.0 c.from_residual.result refl is (refused_at _ (called k (and_more w.0 (that_block t vc env c.args.block.now.place)) env) c.in_err-value.field-0.0 (with_value t vc env c.args.block.now.place w.0 k o closes w.2) (refused (called k (and_more w.0 (that_block t vc env c.args.block.now.place)) env) c.in_err-value.field-0.0 (c.in_err-value.ensures w.0 w.1)))
 
 pub chains::with-returns : goal.chains::with-returns
-chains::with-returns g t0 c t st =
+chains::with-returns g t0 c closure t st =
     let env = seen c.args.around.now (g.N.Natives.titles c.args.natives.now) (g.N.Natives.answer c.args.natives.now) in
-    let vc = view_closure c.args.closure.now in
-    let w = c.in_ok-waiting.ensures t env st in
-    let k = callee_of c.in_ok-waiting.waiting.callee in
-    let o : opening vc ≡ c.args.closure.now.place = search (rules, closure_lemmas) in
+    let vc = view_closure c.args.block.now in
+    let w = c.waiting-waiting.ensures t env st in
+    let k = callee_of c.waiting-waiting.result.callee in
+    let o : opening vc ≡ c.args.block.now.place = search (rules, closure_lemmas) in
     let closes : is_closure vc ≡ true = search (rules, closure_lemmas) in
-    flat_stands (tree.call_with t vc) env c.in_ok-value.value refl (with_value t vc env c.args.closure.now.place w.0 k o closes w.2 ∙ c.in_ok-value.ensures w.0 w.1)
+    ready closure _ env _ (flat_stands (tree.call_with t vc) env c.in_ok-value.value refl (with_value t vc env c.args.block.now.place w.0 k o closes w.2 ∙ c.in_ok-value.ensures w.0 w.1)) refl
 
 pub calls::arguments-loop-arg-init : goal.calls::arguments-loop-arg-init
 calls::arguments-loop-arg-init g t0 c = ([], search rules, nothing_before _)
@@ -537,12 +592,19 @@ pub calls::unnamed-returns : goal.calls::unnamed-returns
 calls::unnamed-returns g t0 c = plain_argument (view c.args.expr.now) (seen c.args.around.now (g.N.Natives.titles c.args.natives.now) (g.N.Natives.answer c.args.natives.now)) (sym c.is_block.ensures.plain ∙ ap not c.if-is_block.false) ∙ ap (λ (r : Placed Plain). r >>= λ v. Ok (plain v)) c.in_ok-value.ensures
 
 pub calls::of_blocks-returns-in-Function : goal.calls::of_blocks-returns-in-Function
-calls::of_blocks-returns-in-Function g t0 c xs given none = function_of_blocks (callee_of c.args.callee.now) c.in-Function.place c.in-Function.field-1 xs (seen c.args.around.now (g.N.Natives.titles c.args.natives.now) (g.N.Natives.answer c.args.natives.now)) c.fault_at.result (ap callee_of c.in-Function.is) none c.fault_at.ensures
+calls::of_blocks-returns-in-Function g t0 c xs given none =
+    let env = (seen c.args.around.now (g.N.Natives.titles c.args.natives.now) (g.N.Natives.answer c.args.natives.now)) in
+    let same : c.as_str.result.now ≡ c.in-Function.name = search rules in
+    let len : length xs ≡ (length c.args.args.now) = omega (arith, as_many (map view_arg c.args.args.now) env xs given, length-map c.args.args.now view_arg) in
+    function_of_blocks (callee_of c.args.callee.now) c.in-Function.place c.as_str.result.now xs env (length c.args.args.now) c.function_block.result (ap callee_of c.in-Function.is ∙ ap (λ m. function c.in-Function.place m) (sym same)) none len c.function_block.ensures
 
 pub calls::of_blocks-returns-in-Math : goal.calls::of_blocks-returns-in-Math
 calls::of_blocks-returns-in-Math g t0 c xs given none =
-    let same : c.as_str.result.now ≡ c.in-Math.name = search rules in
-    math_of_blocks (callee_of c.args.callee.now) c.in-Math.place c.as_str.result.now xs (seen c.args.around.now (g.N.Natives.titles c.args.natives.now) (g.N.Natives.answer c.args.natives.now)) c.math_block.result (ap callee_of c.in-Math.is ∙ ap (λ m. math c.in-Math.place m) (sym same)) none (c.math_block.ensures (length xs))
+    let env = (seen c.args.around.now (g.N.Natives.titles c.args.natives.now) (g.N.Natives.answer c.args.natives.now)) in
+    let n = c.as_str-in-Math.result.now in
+    let same : n ≡ c.in-Math.name = search rules in
+    let len : length xs ≡ (length c.args.args.now) = omega (arith, as_many (map view_arg c.args.args.now) env xs given, length-map c.args.args.now view_arg) in
+    math_of_blocks (callee_of c.args.callee.now) c.in-Math.place n xs env (length c.args.args.now) c.math_block.result (ap callee_of c.in-Math.is ∙ ap (λ m. math c.in-Math.place m) (sym same)) none len c.math_block.ensures
 
 pub calls::of_blocks-returns-in_err-kind-in-Method : goal.calls::of_blocks-returns-in_err-kind-in-Method
 calls::of_blocks-returns-in_err-kind-in-Method g t0 c xs given none =
@@ -624,7 +686,8 @@ calls::over_call-returns-in-Function g t0 c xs len =
     let f = block_of (view_closure c.args.closure.now) env in
     let k = callee_of c.args.callee.now in
     let ys = xs ++ block f ∷ [] in
-    subst (λ (o : Placed Plain). Evaluates o (Err c.fault_at.result)) (sym (called_at k (and_more xs (λ e. Ok (block (block_of (view_closure c.args.closure.now) e) ∷ []))) (λ e. Ok ys) env refl)) (function_of_blocks k c.in-Function.place c.in-Function.field-1 ys env c.fault_at.result (ap callee_of c.in-Function.is) (no_values xs f) c.fault_at.ensures)
+    let same : c.as_str.result.now ≡ c.in-Function.name = search rules in
+    subst (λ (o : Placed Plain). Evaluates o (Err c.function_block.result)) (sym (called_at k (and_more xs (λ e. Ok (block (block_of (view_closure c.args.closure.now) e) ∷ []))) (λ e. Ok ys) env refl)) (function_of_blocks k c.in-Function.place c.as_str.result.now ys env c.args.count c.function_block.result (ap callee_of c.in-Function.is ∙ ap (λ m. function c.in-Function.place m) (sym same)) (no_values xs f) (one_more xs f c.args.count len) c.function_block.ensures)
 
 pub calls::over_call-returns-in-Math : goal.calls::over_call-returns-in-Math
 calls::over_call-returns-in-Math g t0 c xs len =
@@ -632,8 +695,9 @@ calls::over_call-returns-in-Math g t0 c xs len =
     let f = block_of (view_closure c.args.closure.now) env in
     let k = callee_of c.args.callee.now in
     let ys = xs ++ block f ∷ [] in
-    let same : c.as_str.result.now ≡ c.in-Math.name = search rules in
-    subst (λ (o : Placed Plain). Evaluates o (Err c.math_block.result)) (sym (called_at k (and_more xs (λ e. Ok (block (block_of (view_closure c.args.closure.now) e) ∷ []))) (λ e. Ok ys) env refl)) (math_of_blocks k c.in-Math.place c.as_str.result.now ys env c.math_block.result (ap callee_of c.in-Math.is ∙ ap (λ m. math c.in-Math.place m) (sym same)) (no_values xs f) (c.math_block.ensures (length ys)))
+    let n = c.as_str-in-Math.result.now in
+    let same : n ≡ c.in-Math.name = search rules in
+    subst (λ (o : Placed Plain). Evaluates o (Err c.math_block.result)) (sym (called_at k (and_more xs (λ e. Ok (block (block_of (view_closure c.args.closure.now) e) ∷ []))) (λ e. Ok ys) env refl)) (math_of_blocks k c.in-Math.place n ys env c.args.count c.math_block.result (ap callee_of c.in-Math.is ∙ ap (λ m. math c.in-Math.place m) (sym same)) (no_values xs f) (one_more xs f c.args.count len) c.math_block.ensures)
 
 pub calls::over_call-returns-in_err-kind-in-Method : goal.calls::over_call-returns-in_err-kind-in-Method
 calls::over_call-returns-in_err-kind-in-Method g t0 c xs len =

@@ -3,8 +3,9 @@ use Rattle.nf_value.specs.View.{plain_of, pair_of}
 use Rattle.nf_ast.specs.View.{views, trees, view_pair, view_piece, view_operand, Frame, conditional, view_branch, postfix, view_postfix, view_arg, view_closure, view_stmts, choice, view_arm, view_label}
 use Rattle.nf_calls.specs.Placed.{◌>>=◌}
 use Rattle.nf_eval.specs.Evaluation.{meaning_of}
+use Rattle.nf_marks.specs.Gathering.{IsGathered}
 use Rattle.nf_marks.specs.Template.{IsWritten}
-use Rattle.nf_eval.specs.Chains.{going_on, Stands}
+use Rattle.nf_eval.specs.Chains.{going_on, closure_next, IsReady, Stands}
 use Rattle.nf_ast.specs.Tree.{Tree}
 use Rattle.nf_eval.specs.Turns.{IsAt, waits}
 use Rattle.nf_calls.specs.Calls.{Argument, any_of, every_of, found_of, all_found, images_of}
@@ -14,7 +15,7 @@ use Rattle.nf_calls.specs.Scope.{with_names, inside}
 use Rattle.nf_eval.specs.Latest.{names_of}
 use Rattle.nf_eval.specs.Memory.{seen, held}
 use Rattle.nf_eval.specs.Functions.{depths}
-use Rattle.nf_value.specs.Plain.{null}
+use Rattle.nf_value.specs.Plain.{Plain, null}
 use Rattle.nf_eval.proofs.+value.Given as goal
 
 -- ---- that evaluation ends: a call of a function goes on with those before it, any other call goes down the tree or stays there, with a lower rank
@@ -148,7 +149,7 @@ decreases-values::value g l = (goal.size-values::value g l + depths (held l.arou
 -- ---- what loops keep
 
 abbrev pub invariant-values::items-loop-item : goal.invariant-values::items-loop-item
-invariant-values::items-loop-item g l = ((meaning_of (views (drop l.item-index l.list))).items (seen l.around (g.N.Natives.titles l.natives) (g.N.Natives.answer l.natives)) >>= λ vs. Ok (map plain_of l.values.items ++ vs)) ≡ (meaning_of (views l.list)).items (seen l.around (g.N.Natives.titles l.natives) (g.N.Natives.answer l.natives))
+invariant-values::items-loop-item g l = (vs : List Plain) × IsGathered vs l.values × (((meaning_of (views (drop l.item-index l.list))).items (seen l.around (g.N.Natives.titles l.natives) (g.N.Natives.answer l.natives)) >>= λ ws. Ok (vs ++ ws)) ≡ (meaning_of (views l.list)).items (seen l.around (g.N.Natives.titles l.natives) (g.N.Natives.answer l.natives)))
 
 abbrev pub invariant-values::entries-loop-pair : goal.invariant-values::entries-loop-pair
 invariant-values::entries-loop-pair g l = ((meaning_of (trees (map view_pair (drop l.pair-index l.pairs)))).entries (seen l.around (g.N.Natives.titles l.natives) (g.N.Natives.answer l.natives)) >>= λ vs. Ok (map pair_of l.entries.items ++ vs)) ≡ (meaning_of (trees (map view_pair l.pairs))).entries (seen l.around (g.N.Natives.titles l.natives) (g.N.Natives.answer l.natives))
@@ -166,7 +167,10 @@ invariant-conditionals::conditional-loop-branch g l = record {
 }
 
 abbrev pub invariant-chains::parts-loop-next : goal.invariant-chains::parts-loop-next
-invariant-chains::parts-loop-next g l = (t : Tree) → Stands t (seen l.around (g.N.Natives.titles l.natives) (g.N.Natives.answer l.natives)) l.fn.first → (u : Tree) × Stands u (seen l.around (g.N.Natives.titles l.natives) (g.N.Natives.answer l.natives)) l.subject × (postfix u (map view_postfix (drop l.next-index l.rest)) ≡ postfix t (map view_postfix l.rest))
+invariant-chains::parts-loop-next g l = record {
+  ahead : l.ahead ≡ drop l.next-index l.rest;
+  stands : (t : Tree) → Stands t (seen l.around (g.N.Natives.titles l.natives) (g.N.Natives.answer l.natives)) l.fn.first → IsReady (closure_next (map view_postfix l.rest) l.closure) l.fn.first → (u : Tree) × Stands u (seen l.around (g.N.Natives.titles l.natives) (g.N.Natives.answer l.natives)) l.subject × IsReady (closure_next (map view_postfix (drop l.next-index l.rest)) l.closure) l.subject × (postfix u (map view_postfix (drop l.next-index l.rest)) ≡ postfix t (map view_postfix l.rest));
+}
 
 abbrev pub invariant-calls::arguments-loop-arg : goal.invariant-calls::arguments-loop-arg
 invariant-calls::arguments-loop-arg g l = (xs : List Argument) × Collects xs l.blocks l.values.items × (((meaning_of (trees (map view_arg (drop l.arg-index l.args)))).arguments (seen l.around (g.N.Natives.titles l.natives) (g.N.Natives.answer l.natives)) >>= λ ys. Ok (xs ++ ys)) ≡ (meaning_of (trees (map view_arg l.args))).arguments (seen l.around (g.N.Natives.titles l.natives) (g.N.Natives.answer l.natives)))
@@ -184,7 +188,7 @@ abbrev pub invariant-blocks::find_all-loop-item : goal.invariant-blocks::find_al
 invariant-blocks::find_all-loop-item g l = (all_found (block_of (view_closure l.closure) (seen l.around (g.N.Natives.titles l.natives) (g.N.Natives.answer l.natives))) (map plain_of (drop l.item-index l.items)) >>= λ ws. Ok (map plain_of l.found.items ++ ws)) ≡ all_found (block_of (view_closure l.closure) (seen l.around (g.N.Natives.titles l.natives) (g.N.Natives.answer l.natives))) (map plain_of l.items)
 
 abbrev pub invariant-blocks::images-loop-item : goal.invariant-blocks::images-loop-item
-invariant-blocks::images-loop-item g l = (images_of (block_of (view_closure l.closure) (seen l.around (g.N.Natives.titles l.natives) (g.N.Natives.answer l.natives))) (map plain_of (drop l.item-index l.items)) >>= λ ws. Ok (map plain_of l.images.items ++ ws)) ≡ images_of (block_of (view_closure l.closure) (seen l.around (g.N.Natives.titles l.natives) (g.N.Natives.answer l.natives))) (map plain_of l.items)
+invariant-blocks::images-loop-item g l = (vs : List Plain) × IsGathered vs l.images × ((images_of (block_of (view_closure l.closure) (seen l.around (g.N.Natives.titles l.natives) (g.N.Natives.answer l.natives))) (map plain_of (drop l.item-index l.items)) >>= λ ws. Ok (vs ++ ws)) ≡ images_of (block_of (view_closure l.closure) (seen l.around (g.N.Natives.titles l.natives) (g.N.Natives.answer l.natives))) (map plain_of l.items))
 
 abbrev pub invariant-bodies::statements-loop-stmt : goal.invariant-bodies::statements-loop-stmt
 invariant-bodies::statements-loop-stmt g l = (meaning_of (view_stmts (drop l.stmt-index l.code))).body (with_names (names_of l.names) (inside (seen l.around (g.N.Natives.titles l.natives) (g.N.Natives.answer l.natives)))) (plain_of l.last) ≡ (meaning_of (view_stmts l.code)).body (with_names (names_of l.initial.names) (inside (seen l.around (g.N.Natives.titles l.natives) (g.N.Natives.answer l.natives)))) null

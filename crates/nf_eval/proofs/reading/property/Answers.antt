@@ -1,18 +1,18 @@
-use Rattle.std.proofs.Common.{◌≡◌, ◌∙◌, sym, Err, rules}
+use Rattle.std.proofs.Common.{◌≡◌, ◌∙◌, refl, sym, Err, rules}
 use Rattle.nf_eval.specs.Memory.{seen}
 use Rattle.nf_eval.specs.Chains.{value_at}
 use Rattle.nf_eval.proofs.Evaluating.{refused, refused_at}
-use Rattle.nf_eval.proofs.Chaining.{math_stands, math_value, property_stands, property_refused}
+use Rattle.nf_eval.proofs.Chaining.{ready, math_stands, math_value, property_stands, property_refused}
 use Rattle.nf_eval.proofs.reading.property.Goals as goal
 
 pub returns-then-is_math : goal.returns-then-is_math
-returns-then-is_math c titles answer t st = math_stands t (seen c.args.around.now titles answer) c.args.place c.args.name (st.names_math ∙ sym c.is_math.ensures ∙ c.if-is_math.true) (math_value t (seen c.args.around.now titles answer) c.args.before st (sym c.is_math.ensures ∙ c.if-is_math.true))
+returns-then-is_math c titles answer closure t st has = ready closure _ _ _ (math_stands t (seen c.args.around.now titles answer) c.args.place c.args.name (st.names_math ∙ sym c.is_math.ensures ∙ c.if-is_math.true) (math_value t (seen c.args.around.now titles answer) c.args.before st (sym c.is_math.ensures ∙ c.if-is_math.true))) refl
 
 pub returns-in_err-of : goal.returns-in_err-of
-returns-in_err-of c titles answer t st =
+returns-in_err-of c titles answer closure t st has =
     let env = seen c.args.around.now titles answer in
     let is : c.from_residual.result ≡ Err c.in_err-of.field-0.0 = search rules in
-    property_refused t env c.args.place c.args.name c.in_err-of.field-0.0 c.from_residual.result (st.names_math ∙ sym c.is_math.ensures ∙ c.if-is_math.false) is (refused_at _ (value_at c.args.before env) c.in_err-of.field-0.0 st.is_value (refused (value_at c.args.before env) c.in_err-of.field-0.0 (c.in_err-of.ensures titles answer)))
+    property_refused closure t env c.args.place c.args.name c.in_err-of.field-0.0 c.from_residual.result (st.names_math ∙ sym c.is_math.ensures ∙ c.if-is_math.false) is (refused_at _ (value_at c.args.before env) c.in_err-of.field-0.0 (st.is_value has) (refused (value_at c.args.before env) c.in_err-of.field-0.0 (c.in_err-of.ensures titles answer)))
 
 pub returns : goal.returns
-returns c titles answer t st = property_stands t (seen c.args.around.now titles answer) c.args.place c.args.name c.in_ok-of.of (st.names_math ∙ sym c.is_math.ensures ∙ c.if-is_math.false) (st.is_value ∙ c.in_ok-of.ensures titles answer)
+returns c titles answer closure t st has = ready closure _ _ _ (property_stands t (seen c.args.around.now titles answer) c.args.place c.args.name c.in_ok-of.of (st.names_math ∙ sym c.is_math.ensures ∙ c.if-is_math.false) (st.is_value has ∙ c.in_ok-of.ensures titles answer)) refl
