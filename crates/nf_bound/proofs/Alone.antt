@@ -10,17 +10,16 @@ use Rattle.nf_ast.specs.declared.expr.Operand.{Operand}
 use Rattle.nf_ast.specs.declared.expr.Branch.{Branch}
 use Rattle.nf_ast.specs.declared.expr.Postfix.{Postfix}
 use Rattle.nf_ast.specs.View.{operands, prefixes, conditional, postfix, view_operand, view_branch, view_postfix}
-use Rattle.nf_calls.specs.Body.{pattern_in, is_math}
+use Rattle.nf_calls.specs.Body.{is_math}
 use Rattle.nf_bound.specs.declared.uses.Use.{Use}
 use Rattle.nf_bound.specs.declared.uses.UseKind.TheVariants as kind
-use Rattle.nf_bound.specs.Uses.{used, defined_by, callee_uses, pattern_place, text_uses}
-use Rattle.nf_bound.specs.Leaves.{LeafTree, name, pattern, other, leaf_of, is_nil}
+use Rattle.nf_bound.specs.Uses.{used, defined_by, callee_uses, text_uses}
+use Rattle.nf_bound.specs.Leaves.{LeafTree, name, text, other, leaf_of, is_nil}
 use Rattle.nf_bound.proofs.Chains.{is_chain, operands_chain, branches_chain}
 use Rattle.nf_bound.proofs.Parts.{parts_chain}
 
 chain_leaf : (t : Tree) → is_chain t ≡ true → leaf_of t ≡ other
 chain_leaf (tree.name p n) h = absurd (false≢true h)
-chain_leaf (tree.pattern p s) h = absurd (false≢true h)
 chain_leaf (tree.text p k s) h = absurd (false≢true h)
 chain_leaf _ h = refl
 
@@ -48,41 +47,38 @@ chained t u b n r f a is h e eb ef = e ∙ ap (λ x. if x then f else other) eb 
 -- a name by itself, or what is used otherwise
 abbrev pub by_leaf : LeafTree → List Use → List Use
 by_leaf (name p n) us = used kind.Function p n ∷ []
-by_leaf (pattern p s) us = us
+by_leaf (text p s) us = us
 by_leaf other us = us
 
 pub callee_leaf : (t : Tree) (us : List Use) → callee_uses t us ≡ by_leaf (leaf_of t) us
 callee_leaf (tree.name p n) us = refl
-callee_leaf (tree.pattern p s) us = refl
 callee_leaf (tree.text p k s) us = refl
 callee_leaf _ us = refl
 
 abbrev pub math_leaf : LeafTree → Bool
 math_leaf (name p n) = bytes_eq n (codes "Math")
-math_leaf (pattern p s) = false
+math_leaf (text p s) = false
 math_leaf other = false
 
 pub is_math_leaf : (t : Tree) → is_math t ≡ math_leaf (leaf_of t)
 is_math_leaf (tree.name p n) = refl
-is_math_leaf (tree.pattern p s) = refl
 is_math_leaf (tree.text p k s) = refl
 is_math_leaf _ = refl
 
 abbrev pub pattern_leaf : LeafTree → List Use
 pattern_leaf (name p n) = []
-pattern_leaf (pattern p s) = used kind.Pattern p s ∷ []
+pattern_leaf (text p s) = used kind.Pattern p s ∷ []
 pattern_leaf other = []
 
-pub text_leaf : (t : Tree) → text_uses (pattern_place t) (pattern_in t) ≡ pattern_leaf (leaf_of t)
+pub text_leaf : (t : Tree) → text_uses t ≡ pattern_leaf (leaf_of t)
 text_leaf (tree.name p n) = refl
-text_leaf (tree.pattern p s) = refl
 text_leaf (tree.text p k s) = refl
 text_leaf _ = refl
 
 -- a name defines nothing
 abbrev pub is_named : LeafTree → Bool
 is_named (name p n) = true
-is_named (pattern p s) = false
+is_named (text p s) = false
 is_named other = false
 
 pub named_defines : (t : Tree) → is_named (leaf_of t) ≡ true → defined_by t ≡ []

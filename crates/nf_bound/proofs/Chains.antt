@@ -1,5 +1,5 @@
 -- What is used by operands and arms that stand in one list.
-use Rattle.std.proofs.Common.{◌≡◌, Bool, true, false, List, [], ◌∷◌, ◌++◌, map, None, refl, sym, ap, ◌∙◌, subst}
+use Rattle.std.proofs.Common.{◌≡◌, Bool, true, false, List, [], ◌∷◌, ◌++◌, map, refl, sym, ap, ◌∙◌, subst}
 use Rattle.std.proofs.lemmas.Bool.{false≢true}
 use Rattle.std.proofs.lemmas.List.{append_assoc, append-nil}
 use Rattle.nf_value.specs.declared.place.Place.{Place}
@@ -12,7 +12,6 @@ use Rattle.nf_ast.specs.declared.expr.ClosureBody.TheFolds.{fold_out-Operand}
 use Rattle.nf_ast.specs.Tree as tree
 use Rattle.nf_ast.specs.Tree.{Tree}
 use Rattle.nf_ast.specs.View.{ArmTree, BranchTree, Frame, asked, answered, preferred, ended, turned, framed, conditional, operands, prefixes, choice, view_operand, body_step, expr_step, piece_step, postfix_step, stmt_step, arg_step, arm_step, branch_step, closure_step, label_step, operand_step, pair_step}
-use Rattle.nf_calls.specs.Body.{pattern_in}
 use Rattle.nf_bound.specs.declared.uses.Use.{Use}
 use Rattle.nf_bound.specs.Uses.{Names, defined, defined_by, uses, pattern_uses, is_name}
 use Rattle.nf_bound.specs.Chains.{operands_uses, branches_uses, arms_uses}
@@ -34,15 +33,10 @@ is_chain (tree.call p f xs) = true
 is_chain (tree.call_with f c) = true
 is_chain _ = false
 
--- no chain is a name, a pattern or a definition
+-- no chain is a name or a definition
 pub chain_name : (t : Tree) → is_chain t ≡ true → is_name t ≡ false
 chain_name (tree.name p n) h = absurd (false≢true h)
 chain_name _ h = refl
-
-pub chain_pattern : (t : Tree) → is_chain t ≡ true → pattern_in t ≡ None
-chain_pattern (tree.pattern p s) h = absurd (false≢true h)
-chain_pattern (tree.text p k s) h = absurd (false≢true h)
-chain_pattern _ h = refl
 
 pub chain_defines : (t : Tree) → is_chain t ≡ true → defined_by t ≡ []
 chain_defines (tree.define p n e) h = absurd (false≢true h)

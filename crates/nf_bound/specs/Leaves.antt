@@ -8,19 +8,18 @@ use Rattle.nf_bound.specs.declared.leaves.Leaf.TheVariants as l
 
 pub data LeafTree : Type 0 where
   name : Place → List ℕ → LeafTree
-  -- a pattern or a plain string
-  pattern : Place → List ℕ → LeafTree
+  -- a plain string
+  text : Place → List ℕ → LeafTree
   other : LeafTree
 
 abbrev pub leaf_of : Tree → LeafTree
 leaf_of (tree.name p n) = name p n
-leaf_of (tree.pattern p s) = pattern p s
-leaf_of (tree.text p k s) = pattern p s
+leaf_of (tree.text p k s) = text p s
 leaf_of _ = other
 
 abbrev pub view_leaf : Leaf → LeafTree
 view_leaf (l.Name p n) = name p n.now
-view_leaf (l.Pattern p s) = pattern p s.now
+view_leaf (l.Text p s) = text p s.now
 view_leaf l.Other = other
 
 abbrev pub is_nil : {A : Type 0} → List A → Bool

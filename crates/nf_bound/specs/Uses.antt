@@ -1,12 +1,12 @@
 -- What an expression uses of what stands around it, in the order of the text.
-use Rattle.std.specs.Prelude.{ℕ, Bool, true, false, ◌||◌, List, [], ◌∷◌, ◌++◌, codes, if◌then◌else◌, Option, Some, None}
+use Rattle.std.specs.Prelude.{ℕ, Bool, true, false, ◌||◌, List, [], ◌∷◌, ◌++◌, codes, if◌then◌else◌}
 use Rattle.nf_value.specs.declared.place.Place.{Place}
 use Rattle.nf_builtins.specs.Natives.{is_among}
 use Rattle.nf_ast.specs.declared.marks.InfixMark.{InfixMark}
 use Rattle.nf_ast.specs.declared.marks.InfixMark.TheVariants as mark
 use Rattle.nf_ast.specs.Tree as tree
 use Rattle.nf_ast.specs.Tree.{Tree, empty, cons, place_of}
-use Rattle.nf_calls.specs.Body.{name_in, names_in, pattern_in, is_math}
+use Rattle.nf_calls.specs.Body.{name_in, names_in, is_math}
 use Rattle.nf_bound.specs.declared.uses.Use.{Use}
 use Rattle.nf_bound.specs.declared.uses.UseKind.{UseKind}
 use Rattle.nf_bound.specs.declared.uses.UseKind.TheVariants as kind
@@ -67,24 +67,20 @@ callee_uses _ us = us
 abbrev pub object_uses : Tree → List Use → List Use
 object_uses e us = if is_math e then [] else us
 
-abbrev pub pattern_place : Tree → Place
-pattern_place (tree.pattern p s) = p
-pattern_place (tree.text p k s) = p
-pattern_place t = place_of t
+abbrev pub text_uses : Tree → List Use
+text_uses (tree.text p k s) = used kind.Pattern p s ∷ []
+text_uses _ = []
 
-abbrev pub text_uses : Place → Option (List ℕ) → List Use
-text_uses p (Some s) = used kind.Pattern p s ∷ []
-text_uses p None = []
-
--- the pattern or plain string that is matched against
+-- a plain string that is matched against is a pattern
 abbrev pub pattern_uses : InfixMark → Tree → List Use
-pattern_uses mark.Matches b = text_uses (pattern_place b) (pattern_in b)
+pattern_uses mark.Matches b = text_uses b
 pattern_uses _ b = []
 
 abbrev pub uses : Tree → Names → List Use
 uses empty names = []
 uses (cons a more) names = uses a names ++ uses more (defined (defined_by a) names)
 uses (tree.name p n) names = name_uses p n names
+uses (tree.pattern p s) names = used kind.Pattern p s ∷ []
 uses (tree.template p k xs) names = uses xs names
 uses (tree.hole p e) names = uses e names
 uses (tree.list p xs) names = uses xs names

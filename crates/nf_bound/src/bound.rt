@@ -15,8 +15,8 @@ use nf_value::{Mem, Place, Txt};
 use std::alloc::Global;
 
 /// The first place, in the order of the text, of what an expression uses and nothing binds (own): a name that isn't among the names, an assignment to
-/// a name of no body within the expression, a function that is neither among the functions nor one of the program's, or a pattern or plain string
-/// that is matched against and isn't among the patterns. `None` where all is bound. Takes time by the number of uses, times the number of names.
+/// a name of no body within the expression, a function that is neither among the functions nor one of the program's, a pattern, or
+/// a plain string that is matched against, which isn't among the patterns. `None` where all is bound. Takes time by the number of uses, times the number of names.
 ///
 /// # Errors
 ///

@@ -2,8 +2,8 @@
 
 ghost use Rattle.std.specs.Prelude.{◌≡◌, true, ◌∷◌, ◌++◌, [], map, IfOk, OnOk};
 ghost use Rattle.nf_ast.specs.View.{view, views, view_piece, view_pair, view_operand, view_branch, view_postfix, view_arg, trees};
-ghost use Rattle.nf_calls.specs.Body.{is_math as is_math_of, pattern_in};
-ghost use Rattle.nf_bound.specs.Uses.{uses, no_names, used, name_uses, pattern_uses, text_uses, pattern_place, object_uses, callee_uses, defined_by};
+ghost use Rattle.nf_calls.specs.Body.{is_math as is_math_of};
+ghost use Rattle.nf_bound.specs.Uses.{uses, no_names, used, name_uses, pattern_uses, text_uses, object_uses, callee_uses, defined_by};
 ghost use Rattle.nf_bound.specs.Chains.{operands_uses, branches_uses, before_parts, part_uses, parts_uses};
 
 use crate::leaves::{Leaf, Role, read_leaf, role_before};
@@ -15,7 +15,7 @@ use nf_value::{Mem, Place, Txt};
 use std::alloc::Global;
 
 /// What an expression uses of what stands around it, in the order of the text (own): the names that nothing within it binds, the functions that it
-/// calls, the assignments to names of no body within it, and the texts of the patterns that it matches against. A name directly before brackets or a
+/// calls, the assignments to names of no body within it, and the texts of its patterns and of the plain strings that it matches against. A name directly before brackets or a
 /// closure is that of a function; `Math` before a dot, the name of a property, of an argument or of a pair is no use. Takes time by its size, times
 /// the number of names that are seen.
 ///
@@ -42,11 +42,8 @@ pub(crate) fn put_expr(
     ensures defines { OnOk result (defined_by (view expr.now) ≡ []) }
 {
     match expr {
-        Expr::Number(_, _)
-        | Expr::Text(_, _, _)
-        | Expr::Pattern(_, _)
-        | Expr::Truth(_, _)
-        | Expr::Null(_) => Ok(()),
+        Expr::Number(_, _) | Expr::Text(_, _, _) | Expr::Truth(_, _) | Expr::Null(_) => Ok(()),
+        Expr::Pattern(place, text) => put_use(UseKind::Pattern, *place, text, out),
         Expr::Template(_, _, pieces) => put_pieces(pieces, seen, alloc, out),
         Expr::Name(place, name) => put_name(*place, name, seen, out),
         Expr::List(_, items) => put_exprs(items, seen, alloc, out),
@@ -164,7 +161,7 @@ fn put_operands(rest: &[Operand], seen: &Seen, alloc: Global, out: &mut Vec<Use>
     Ok(())
 }
 
-/// The pattern or plain string that is matched against.
+/// A plain string that is matched against.
 fn put_pattern(mark: InfixMark, expr: &Expr, out: &mut Vec<Use>) -> Result<(), Mem>
     ensures { OnOk result (out.new.items ≡ out.old.items ++ pattern_uses mark (view expr.now)) }
 {
@@ -175,10 +172,10 @@ fn put_pattern(mark: InfixMark, expr: &Expr, out: &mut Vec<Use>) -> Result<(), M
 }
 
 fn put_text(expr: &Expr, out: &mut Vec<Use>) -> Result<(), Mem>
-    ensures { OnOk result (out.new.items ≡ out.old.items ++ text_uses (pattern_place (view expr.now)) (pattern_in (view expr.now))) }
+    ensures { OnOk result (out.new.items ≡ out.old.items ++ text_uses (view expr.now)) }
 {
     match read_leaf(expr) {
-        Leaf::Pattern(place, text) => put_use(UseKind::Pattern, place, text, out),
+        Leaf::Text(place, text) => put_use(UseKind::Pattern, place, text, out),
         Leaf::Name(_, _) | Leaf::Other => Ok(()),
     }
 }
@@ -230,7 +227,7 @@ fn is_math(expr: &Expr) -> bool
 {
     match read_leaf(expr) {
         Leaf::Name(_, name) => name.as_str() == "Math",
-        Leaf::Pattern(_, _) | Leaf::Other => false,
+        Leaf::Text(_, _) | Leaf::Other => false,
     }
 }
 
@@ -241,7 +238,7 @@ fn put_callee(first: &Expr, seen: &Seen, alloc: Global, out: &mut Vec<Use>) -> R
 {
     match read_leaf(first) {
         Leaf::Name(place, name) => put_use(UseKind::Function, place, name, out),
-        Leaf::Pattern(_, _) | Leaf::Other => put_expr(first, seen, alloc, out),
+        Leaf::Text(_, _) | Leaf::Other => put_expr(first, seen, alloc, out),
     }
 }
 

@@ -15,8 +15,8 @@ use nf_value::{Place, Txt};
 pub(crate) enum Leaf<'a> {
     /// A name.
     Name(Place, &'a Txt),
-    /// A pattern or a plain string.
-    Pattern(Place, &'a Txt),
+    /// A plain string.
+    Text(Place, &'a Txt),
     /// Anything else.
     Other,
 }
@@ -27,8 +27,7 @@ pub(crate) fn read_leaf(expr: &Expr) -> Leaf<'_>
 {
     match expr {
         Expr::Name(place, name) => Leaf::Name(*place, name),
-        Expr::Pattern(place, text) => Leaf::Pattern(*place, text),
-        Expr::Text(place, _, text) => Leaf::Pattern(*place, text),
+        Expr::Text(place, _, text) => Leaf::Text(*place, text),
         Expr::Prefix(marks, of) => alone(has_none(marks), read_leaf(of)),
         Expr::Infix(first, rest) => alone(has_none(rest), read_leaf(first)),
         Expr::Conditional(first, rest) => alone(has_none(rest), read_leaf(first)),

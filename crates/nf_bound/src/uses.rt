@@ -11,7 +11,7 @@ pub enum UseKind {
     Assigned,
     /// The name of a function that is called.
     Function,
-    /// The text of a pattern that is matched against.
+    /// The text of a pattern, or of a plain string that is matched against.
     Pattern,
 }
 
