@@ -1,4 +1,4 @@
--- Any tokens spell one script at most.
+-- Any tokens are read as one script at most.
 use Rattle.std.proofs.Common.{◌≡◌, suc, Bool, true, List, [], refl, sym, subst}
 use Rattle.nf_lexer.specs.declared.token.Lexeme.{Lexeme}
 use Rattle.nf_grammar.specs.Gram.{many}
@@ -6,7 +6,7 @@ use Rattle.nf_grammar.specs.Reads.{Reads, reads_token, reads_gives, reads_bind, 
 use Rattle.nf_ast.specs.Tree.{Tree}
 use Rattle.nf_exprs.specs.Level.{Gram}
 use Rattle.nf_exprs.specs.Rules.{rules}
-use Rattle.nf_parser.specs.Spells.{Spells}
+use Rattle.nf_parser.specs.Spells.{Whole, Spells}
 use Rattle.nf_parser.proofs.Det.{Det, det_bind, det_either, det_where, det_many, det_rule, always, follow}
 use Rattle.nf_parser.proofs.Decisions.{det_rules}
 
@@ -29,5 +29,8 @@ once (reads_more {c = c} {f = q} {n = j} {b = a} {mid = mid} x y) f s w (det_man
     once y f s w (det_many d n) (subst (λ l. Reads rules (many c q (suc j) l) mid w s) (sym k.0) (subst (λ l. Reads rules (many c q (suc j) b) l w s) (sym k.1) u)) e h
 once (reads_rule {l = l} x) f s w (det_rule n) (reads_rule y) e h = once x (follow l) s w (det_rules l) y (n _ e) (n _ h)
 
+pub one_whole : (ts : List Lexeme) (v w : Tree) → Whole ts v → Whole ts w → v ≡ w
+one_whole ts v w a b = (once a always [] w (det_rule (λ ts e. refl)) b refl refl).0
+
 pub one_tree : (ts : List Lexeme) (v w : Tree) → Spells ts v → Spells ts w → v ≡ w
-one_tree ts v w a b = (once a.whole always [] w (det_rule (λ ts e. refl)) b.whole refl refl).0
+one_tree ts v w a b = one_whole ts v w a.whole b.whole

@@ -4,7 +4,7 @@ ghost use Rattle.std.specs.Prelude.{◌≡◌, List};
 ghost use Rattle.nf_value.specs.declared.place.Place.{Place};
 ghost use Rattle.nf_lexer.specs.declared.token.Lexeme.{Lexeme};
 ghost use Rattle.nf_ast.specs.Tree.{Tree};
-ghost use Rattle.nf_parser.specs.Spells.{Spells, IsUnexpected, IsTooDeep};
+ghost use Rattle.nf_parser.specs.Spells.{Whole, Spells, IsUnexpected, IsTooDeep};
 
 /// Tokens that are unexpected are so at one place.
 pub fn one_unexpected()
@@ -29,6 +29,11 @@ pub fn too_deep_spells_none()
 /// Tokens aren't both unexpected and past a limit.
 pub fn not_both()
     ensures { (ts : List Lexeme) (end p q : Place) → IsUnexpected ts end p → IsTooDeep ts end q → ⊥ }
+{}
+
+/// All of some tokens are read as one script at most, whatever the limits.
+pub fn one_whole()
+    ensures { (ts : List Lexeme) (v w : Tree) → Whole ts v → Whole ts w → v ≡ w }
 {}
 
 /// Tokens spell one script at most.

@@ -12,7 +12,8 @@ use nf_lexer::{Lexeme, Tokens};
 use std::alloc::Global;
 
 /// The script that the tokens spell, all of the tokens (Nextflow reference documentation, "Syntax"; the part of it that is read, and
-/// where a part ends, are this project's own). Limits (own): 64 brackets open at once, 256 parts of a chain.
+/// where a part ends, are this project's own). Limits (own): 64 brackets open at once, 256 parts of a chain. Takes time that grows with
+/// the number of tokens.
 ///
 /// # Errors
 ///
