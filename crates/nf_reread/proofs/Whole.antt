@@ -1,21 +1,20 @@
 -- The canonical text of a script has the tokens that its inks come to.
-use Rattle.std.proofs.Common.{◌≡◌, ℕ, ◌≤◌, true, false, List, [], ◌∷◌, ◌++◌, length, None, refl, sym, ap, ◌∙◌, subst, arith}
+use Rattle.std.proofs.Common.{◌≡◌, ℕ, true, false, List, [], ◌∷◌, ◌++◌, None, refl, sym, ap, ◌∙◌, subst, arith}
 use Rattle.std.specs.Prelude.{not, ◌==◌, map, nat_eq, codes}
 use Rattle.std.specs.List.{starts_with}
 use Rattle.std.proofs.lemmas.Bool.Decides.{nat_tests}
 use Rattle.std.proofs.lemmas.List.{append-nil}
-use Rattle.nf_value.specs.declared.place.Place.{Place}
 use Rattle.nf_lexer.specs.declared.token.Lexeme.{Lexeme}
 use Rattle.nf_lexer.specs.First.{first}
 use Rattle.nf_lexer.specs.Joined.{nothing, joined}
 use Rattle.nf_lexer.specs.Separators.{settled}
-use Rattle.nf_lexer.specs.Place.{place_after}
-use Rattle.nf_lexer.specs.Tokens.{Reads, ends, at_start, most_bytes, IsTokensOf}
+use Rattle.nf_lexer.specs.Tokens.{Reads, ends, at_start}
 use Rattle.nf_ast.specs.Tree as tree
 use Rattle.nf_ast.specs.Tree.{Tree}
 use Rattle.nf_printer.specs.Ink.{Ink, inked}
 use Rattle.nf_printer.specs.Tops.{script, canonical}
 use Rattle.nf_reread.specs.Leads.{Leads}
+use Rattle.nf_reread.specs.Lexed.{IsLexed}
 use Rattle.nf_reread.specs.Bits.{token_of}
 use Rattle.nf_reread.specs.Retold as r
 use Rattle.nf_reread.specs.Retold.{retold}
@@ -60,19 +59,15 @@ told_tokens text xs a =
     ∙ settled_bits a.gives.pieces []
     ∙ ap (λ z. r.settled [] z) a.gives.are
 
--- a script that fits, whose canonical text isn't too long, is told again by it
-pub told_again : (xs : Tree) → Fits xs → length (canonical xs) ≤ most_bytes → (ts : List Lexeme) × (end : Place) × IsTokensOf (canonical xs) (ts, end) × (map token_of ts ≡ retold (script xs))
-told_again xs f small =
-    let told : Told (canonical xs) [] [] (script xs) [] = (script_reads xs f).told (canonical xs) [] [] (record { stand = record { code = refl; quiet = λ n. refl }; ends = refl }) refl in
-    let ts = settled [] (joined nothing (told.items ++ [])) in (
-      ts,
-      place_after (canonical xs),
+-- a script that fits is told again by its canonical text, however long that is
+pub told_again : (xs : Tree) → Fits xs → (ts : List Lexeme) × IsLexed (canonical xs) ts × (map token_of ts ≡ retold (script xs))
+told_again xs f =
+    let told : Told (canonical xs) [] [] (script xs) [] = (script_reads xs f).told (canonical xs) [] [] (record { stand = record { code = refl; quiet = λ n. refl }; ends = refl }) refl in (
+      settled [] (joined nothing (told.items ++ [])),
       record {
-        within = small;
         items = told.items ++ [];
         reads = told_reads (canonical xs) (script xs) told refl (begun xs f);
         tokens = refl;
-        end = refl;
       },
       told_tokens (canonical xs) (script xs) told,
     )

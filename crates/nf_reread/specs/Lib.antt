@@ -2,3 +2,4 @@ pub mod Leads
 pub mod Bits
 pub mod Retold
 pub mod Fits
+pub mod Lexed

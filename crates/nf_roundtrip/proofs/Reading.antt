@@ -12,7 +12,7 @@ use Rattle.nf_reparse.specs.Bare.{bare}
 use Rattle.nf_reparse.specs.Again.{SpellsAgain}
 use Rattle.nf_value.specs.declared.mem.Mem.{Mem}
 use Rattle.nf_roundtrip.specs.declared.again.Again.{Again}
-use Rattle.nf_roundtrip.specs.Again.{IsSpelled, IsSame, IsReadAgain, IsLexLimit, Formats}
+use Rattle.nf_roundtrip.specs.Again.{IsSpelled, IsSame, IsReadAgain, IsLexLimit, IsWithinLimits, Formats}
 use Rattle.nf_roundtrip.proofs.Told.{is_told}
 use Rattle.nf_roundtrip.proofs.TopPlaces.{same_text}
 
@@ -58,10 +58,26 @@ read_of (Err e) tree found h lexed told = tt
 pub same_as : (tree u v : Tree) → u ≡ v → bare u ≡ bare tree → IsSame tree v
 same_as tree u v e h = let parts : bare v ≡ bare tree = ap bare (sym e) ∙ h in record { parts = parts; text = same_text v tree parts }
 
+formatted_from : {text out : List ℕ} → (f : Formats text out) → IsSpelled f.tree
+formatted_from {text} f = record { text = text; tokens = f.tokens; end = f.end; lexed = f.lexed; whole = f.spelled.whole }
+
+-- within the limits what was formatted is formatted to itself
+pub fixed : (text out : List ℕ) → Formats text out → IsWithinLimits out → Formats out out
+fixed text out f h =
+    let told = is_told f.tree (formatted_from f) (subst (λ z. length z ≤ most_bytes) f.printed h.bytes) in
+    let lexed : IsTokensOf out (told.tokens, told.end) = subst (λ z. IsTokensOf z (told.tokens, told.end)) (sym f.printed) told.lexed in
+    record {
+      tokens = told.tokens;
+      end = told.end;
+      tree = told.spells.tree;
+      lexed = lexed;
+      spelled = record { whole = told.spells.reads; shallow = h.shallow told.tokens told.end lexed };
+      printed = f.printed ∙ sym (same_text told.spells.tree f.tree told.spells.same);
+    }
+
 pub once : OneList → OneTree → (text out again : List ℕ) → Formats text out → Formats out again → again ≡ out
 once one tree text out again f g =
-    let spelled : IsSpelled f.tree = record { text = text; tokens = f.tokens; end = f.end; lexed = f.lexed; whole = f.spelled.whole } in
     let lexed : IsTokensOf (canonical f.tree) (g.tokens, g.end) = subst (λ z. IsTokensOf z (g.tokens, g.end)) f.printed g.lexed in
-    let told = spelled_again one f.tree spelled (g.tokens, g.end) lexed in
+    let told = spelled_again one f.tree (formatted_from f) (g.tokens, g.end) lexed in
     let same : told.tree ≡ g.tree = tree g.tokens told.tree g.tree (record { whole = told.reads; shallow = g.spelled.shallow }) g.spelled in
     g.printed ∙ (same_as f.tree told.tree g.tree same told.same).text ∙ sym f.printed

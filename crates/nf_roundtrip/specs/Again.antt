@@ -1,5 +1,5 @@
 -- What reading the canonical text of a script gives.
-use Rattle.std.specs.Prelude.{◌≡◌, ℕ, ◌<◌, List, length}
+use Rattle.std.specs.Prelude.{◌≡◌, ℕ, ◌<◌, ◌≤◌, List, length}
 use Rattle.nf_value.specs.declared.place.Place.{Place}
 use Rattle.nf_lexer.specs.declared.token.Lexeme.{Lexeme}
 use Rattle.nf_lexer.specs.declared.fault.LexFault.{LexFault}
@@ -10,7 +10,8 @@ use Rattle.nf_ast.specs.Tops.{view_script}
 use Rattle.nf_printer.specs.Tops.{canonical}
 use Rattle.nf_exprs.specs.declared.fault.ParseFault.{ParseFault}
 use Rattle.nf_exprs.specs.declared.fault.ParseFault.TheVariants as parse
-use Rattle.nf_parser.specs.Spells.{Whole, Spells, IsTooDeep}
+use Rattle.nf_parser.specs.Spells.{Whole, Passes, Spells, IsTooDeep}
+use Rattle.nf_reread.specs.Lexed.{IsLexed}
 use Rattle.nf_reparse.specs.Again.{SpellsAgain}
 use Rattle.nf_reparse.specs.Bare.{bare}
 use Rattle.nf_roundtrip.specs.declared.again.Again.{Again}
@@ -29,6 +30,12 @@ pub record IsTold (tree : Tree) : Type 0 where
   pub tokens : List Lexeme
   pub end : Place
   pub lexed : IsTokensOf (canonical tree) (tokens, end)
+  pub spells : SpellsAgain tokens tree
+
+-- the same of a canonical text of any length
+pub record IsToldAtLength (tree : Tree) : Type 0 where
+  pub tokens : List Lexeme
+  pub lexed : IsLexed (canonical tree) tokens
   pub spells : SpellsAgain tokens tree
 
 -- one tree but for its places, with one canonical text
@@ -78,3 +85,8 @@ pub record Formats (text out : List ℕ) : Type 0 where
   pub lexed : IsTokensOf text (tokens, end)
   pub spelled : Spells tokens tree
   pub printed : out ≡ canonical tree
+
+-- the text passes no limit of a script: its bytes, its brackets, its chains
+pub record IsWithinLimits (text : List ℕ) : Type 0 where
+  pub bytes : length text ≤ most_bytes
+  pub shallow : (tokens : List Lexeme) (end : Place) → IsTokensOf text (tokens, end) → (rest : List Lexeme) → Passes tokens rest → ⊥
