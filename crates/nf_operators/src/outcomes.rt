@@ -1,0 +1,108 @@
+//! What comes of a row.
+
+use crate::operator::Operator;
+use crate::pushes::Push;
+use anyhow::{Result, bail};
+use nf_bag::{OpFault, OpOpts, sorted};
+use nf_value::{Txt, Vals, Value, text_of};
+use std::alloc::Global;
+
+/// Each outcome of the orders once, with ` | ` between them.
+pub(crate) fn outcomes(
+    alloc: Global,
+    name: &str,
+    opts: &OpOpts,
+    mut pushes: Vec<Push>,
+) -> Result<String> {
+    let mut outcomes = Vec::new(alloc);
+    for first in 0..pushes.len() {
+        let found = outcome(alloc, name, opts, &pushes[first..], &pushes[..first])?;
+        outcomes.push(found)?;
+    }
+    pushes.reverse();
+    let found = outcome(alloc, name, opts, pushes.as_slice(), &[])?;
+    outcomes.push(found)?;
+    outcomes.sort()?;
+    outcomes.dedup();
+    joined(alloc, outcomes.as_slice())
+}
+
+fn joined(alloc: Global, texts: &[String]) -> Result<String> {
+    let mut all = String::new(alloc);
+    for text in texts {
+        if !all.is_empty() {
+            all.push_str(" | ")?;
+        }
+        all.push_str(text.as_str())?;
+    }
+    Ok(all)
+}
+
+/// What comes of these pushes.
+fn outcome(
+    alloc: Global,
+    name: &str,
+    opts: &OpOpts,
+    first: &[Push],
+    later: &[Push],
+) -> Result<String> {
+    let outs = opts.outs.max(1);
+    let mut operator = Operator::begin(alloc, name, opts)?;
+    let mut emits = Vec::new(alloc);
+    for push in first.iter().chain(later.iter()) {
+        match operator.push(push.port, push.item.copy()?, push.answer.copy()?) {
+            Ok(more) => add(&mut emits, more, outs)?,
+            Err(fault) => return shown_fault(alloc, &fault, ""),
+        }
+    }
+    match operator.close() {
+        Ok(more) => add(&mut emits, more, outs)?,
+        Err(fault) => return shown_fault(alloc, &fault, " at the close"),
+    }
+    shown(alloc, emits.as_slice(), outs)
+}
+
+/// Adds emits to so many outputs.
+fn add(emits: &mut Vec<(u32, Value)>, more: Vec<(u32, Value)>, outs: u32) -> Result<()> {
+    for emit in more {
+        if emit.0 >= outs {
+            bail!("an emit to no output");
+        }
+        emits.push(emit)?;
+    }
+    Ok(())
+}
+
+/// The values at each output, in the order of values.
+fn shown(alloc: Global, emits: &[(u32, Value)], outs: u32) -> Result<String> {
+    let mut text = String::new(alloc);
+    for out in 0..outs {
+        if out > 0 {
+            text.push_str(", ")?;
+        }
+        let mut values = Vec::new(alloc);
+        for (to, value) in emits {
+            if *to == out {
+                values.push(value.copy()?)?;
+            }
+        }
+        let values = sorted(Vals::of(values))?;
+        let values = text_of(alloc, &Value::List(values))?;
+        text.push_str(values.as_str())?;
+    }
+    Ok(text)
+}
+
+/// A fault with what it holds.
+fn shown_fault(alloc: Global, fault: &OpFault, place: &str) -> Result<String> {
+    let held = match fault {
+        OpFault::DuplicateKey { key } => text_of(alloc, key)?,
+        OpFault::NotATuple { item } => text_of(alloc, item)?,
+        OpFault::NotANumber { item } => text_of(alloc, item)?,
+        OpFault::Overflow { total } => Txt::of(format!(in alloc; "{total}")?),
+        OpFault::TooDeep { item } => text_of(alloc, item)?,
+        OpFault::Mem => bail!("want of memory"),
+    };
+    let held = held.as_str();
+    Ok(format!(in alloc; "{fault} on {held}{place}")?)
+}
