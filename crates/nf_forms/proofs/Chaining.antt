@@ -13,6 +13,9 @@ use Rattle.nf_forms.specs.Leaf.{LeafTree, leaf_of, followed, follows, or_at, alo
 use Rattle.nf_forms.specs.Values.{misplaced, last_range, unless_followed}
 use Rattle.nf_forms.specs.Links.{Role, Link, link_from}
 use Rattle.nf_forms.specs.Chains.{step, steps_on}
+use Rattle.nf_forms.specs.declared.reach.Reach.{Reach}
+use Rattle.nf_forms.specs.declared.reach.Reach.TheVariants as reach
+use Rattle.nf_forms.specs.Reach.{reach_of, reaches, reaches_all, unless_marked}
 use Rattle.nf_forms.proofs.Parts.{Layer, of_part}
 use Rattle.nf_forms.proofs.Firsts as first
 use Rattle.nf_forms.proofs.Building.{then_twice}
@@ -101,6 +104,40 @@ range_parts a ys = first.parts_first (Option Place) misplaced no_more (λ x p q.
 pub range_prefixes : (ms : List Prefix) (a : Tree) → misplaced (prefixes ms a) ≡ unless_followed (prefix_at ms) (misplaced a)
 range_prefixes [] a = refl
 range_prefixes (m ∷ ms) a = refl
+
+-- ---- how far chains go
+
+-- what has something after it goes nowhere
+abbrev nowhere : Reach → Place → Reach
+nowhere x p = reach.Other
+
+module _ (r : Role) where
+  reach_more : (x : Reach) (m : Option Place) → first.more Reach (reach_of r) nowhere (λ x p q. refl) x m ≡ unless_marked m x
+  reach_more x None = refl
+  reach_more x (Some p) = refl
+
+  pub reach_operands : (a : Tree) (xs : List Tree) → reach_of r (operands a xs) ≡ unless_marked (operand_at xs) (reach_of r a)
+  reach_operands a xs = first.operands_first Reach (reach_of r) nowhere (λ x p q. refl) (λ p k a b. refl) a xs ∙ reach_more (reach_of r a) (operand_at xs)
+
+  pub reach_branches : (a : Tree) (xs : List BranchTree) → reach_of r (conditional [] a xs) ≡ unless_marked (branch_at xs) (reach_of r a)
+  reach_branches a xs = first.branches_first Reach (reach_of r) nowhere (λ x p q. refl) (λ p c a b. refl) (λ p a b. refl) a xs ∙ reach_more (reach_of r a) (branch_at xs)
+
+  pub reach_prefixes : (ms : List Prefix) (a : Tree) → reach_of r (prefixes ms a) ≡ unless_marked (prefix_at ms) (reach_of r a)
+  reach_prefixes [] a = refl
+  reach_prefixes (m ∷ ms) a = refl
+
+  reach_layer : (e : Tree) (z : Layer) → reach_of r (applied e (postfix_step z)) ≡ reaches (reach_of r e) (postfix_step z)
+  reach_layer e (o.Property p n) = refl
+  reach_layer e (o.SafeProperty p n) = refl
+  reach_layer e (o.Index p i) = refl
+  reach_layer e (o.Call p xs) = refl
+  reach_layer e (o.With c) = refl
+
+  pub reach_parts : (a : Tree) (ys : List Postfix) → reach_of r (postfix a (map view_postfix ys)) ≡ reaches_all (map view_postfix ys) (reach_of r a)
+  reach_parts a [] = refl
+  reach_parts a (y ∷ ys) =
+      let v = view_postfix y in
+      reach_parts (applied a v) ys ∙ ap (reaches_all (map view_postfix ys)) (of_part (λ v. reach_of r (applied a v) ≡ reaches (reach_of r a) v) (reach_layer a) y)
 
 -- ---- links
 

@@ -23,15 +23,15 @@ view_made (m.Chain xs c) = chain xs.list (view_closure c)
 view_made (m.Call xs) = call xs.list
 
 abbrev pub view_link : declared_link.Link → Link
-view_link l.Channel = channel
+view_link (l.Channel p) = channel p
 view_link (l.Of p) = of p
-view_link (l.Source xs) = source xs.list
-view_link (l.Items xs) = items xs.list
+view_link (l.Source p xs) = source p xs.list
+view_link (l.Items p xs) = items p xs.list
 view_link (l.Map p xs) = map p xs.list
 view_link (l.Process p) = process p
-view_link (l.Made x) = made (view_made x)
+view_link (l.Made p x) = made p (view_made x)
 view_link (l.View p x) = view p (view_made x)
-view_link (l.Viewed x) = viewed (view_made x)
+view_link (l.Viewed p x) = viewed p (view_made x)
 
 -- what a part after a link makes of it
 abbrev pub step : Env → Role → Tree → Link → Built Link

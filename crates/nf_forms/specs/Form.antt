@@ -1,5 +1,5 @@
 -- The forms of script that are built.
-use Rattle.std.specs.Prelude.{List, Option, Some, None, Ok, Err}
+use Rattle.std.specs.Prelude.{Bool, true, false, ◌||◌, if◌then◌else◌, List, Option, Some, None, Ok, Err}
 use Rattle.nf_value.specs.declared.place.Place.{Place}
 use Rattle.nf_value.specs.Plain.{Plain}
 use Rattle.nf_ast.specs.Tree as tree
@@ -11,7 +11,8 @@ use Rattle.nf_calls.specs.Scope.{Env}
 use Rattle.nf_forms.specs.Built.{Built, ◌>>=◌, then_at, first_place}
 use Rattle.nf_forms.specs.Leaf.{begins_at}
 use Rattle.nf_forms.specs.Links as link
-use Rattle.nf_forms.specs.Links.{Made, Role, alone, calling, made_from}
+use Rattle.nf_forms.specs.Links.{Made, Role, alone, calling}
+use Rattle.nf_forms.specs.Reach.{made_from}
 use Rattle.nf_forms.specs.Processes.{nothing, process_from}
 
 pub data Form : Type 0 where
@@ -94,6 +95,18 @@ role_of _ = alone
 abbrev pub no_tops : Tops
 no_tops = record { process = None; made = None }
 
+abbrev pub tops_from : Env → Tree → Built Form
+tops_from env t = add_all env (role_of t) t no_tops >>= λ x. whole env x.process x.made
+
+-- a workflow without a name, with which a script begins to run
+abbrev pub is_entry : Tree → Bool
+is_entry (tree.workflow p tree.empty body) = true
+is_entry _ = false
+
+abbrev pub has_entry : Tree → Bool
+has_entry (tree.cons t ts) = is_entry t || has_entry ts
+has_entry _ = false
+
 -- the form of a script, whose expressions find what is around it: one workflow without a name, and one process or none, in either order; or the first place that is of no form
 abbrev pub form_of : Env → Tree → Built Form
-form_of env t = add_all env (role_of t) t no_tops >>= λ x. whole env x.process x.made
+form_of env t = if has_entry t then tops_from env t else Err first_place

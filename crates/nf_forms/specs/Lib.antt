@@ -4,6 +4,7 @@ pub mod Items
 pub mod Values
 pub mod Memory
 pub mod Links
+pub mod Reach
 pub mod Chains
 pub mod Processes
 pub mod Naming

@@ -1,12 +1,12 @@
 -- A chain of methods, read from the left.
-use Rattle.std.specs.Prelude.{ℕ, ◌||◌, List, [], Option, Some, None, Ok, Err, codes, bytes_eq, if◌then◌else◌}
+use Rattle.std.specs.Prelude.{ℕ, Bool, ◌||◌, List, [], Option, Some, None, Ok, Err, codes, bytes_eq, if◌then◌else◌}
 use Rattle.nf_value.specs.declared.place.Place.{Place}
 use Rattle.nf_value.specs.Plain.{Plain}
 use Rattle.nf_ast.specs.Tree as tree
 use Rattle.nf_ast.specs.Tree.{Tree, place_of}
 use Rattle.nf_calls.specs.Scope.{Env}
 use Rattle.nf_forms.specs.Built.{Built, ◌>>=◌, then_at}
-use Rattle.nf_forms.specs.Leaf.{begins_at, closure_place}
+use Rattle.nf_forms.specs.Leaf.{begins_at}
 use Rattle.nf_forms.specs.Items.{some_items, single, is_empty}
 use Rattle.nf_forms.specs.Values.{item_from, closure_from, lone_closure}
 
@@ -15,22 +15,22 @@ pub data Made : Type 0 where
   chain : List Plain → Tree → Made
   call : List Plain → Made
 
--- how far a chain was read; a method's name that waits for its arguments has its place
+-- how far a chain was read, with the place of its last name
 pub data Link : Type 0 where
   -- `channel`
-  channel : Link
+  channel : Place → Link
   -- `channel.of`, and what it gives: of a chain by itself, and as an argument
   of : Place → Link
-  source : List Plain → Link
-  items : List Plain → Link
+  source : Place → List Plain → Link
+  items : Place → List Plain → Link
   -- a source and `.map`
   map : Place → List Plain → Link
   -- the name of the process
   process : Place → Link
-  made : Made → Link
+  made : Place → Made → Link
   -- what is made and `.view`, and `.view()`
   view : Place → Made → Link
-  viewed : Made → Link
+  viewed : Place → Made → Link
 
 -- what a chain is there for
 pub data Role : Type 0 where
@@ -41,8 +41,11 @@ pub data Role : Type 0 where
   -- the one that begins with the call of the process of this name
   calling : List ℕ → Role
 
+abbrev pub is_channel : List ℕ → Bool
+is_channel n = bytes_eq n (codes "channel") || bytes_eq n (codes "Channel")
+
 abbrev pub channel_at : Place → List ℕ → Built Link
-channel_at p n = if bytes_eq n (codes "channel") || bytes_eq n (codes "Channel") then Ok channel else Err p
+channel_at p n = if is_channel n then Ok (channel p) else Err p
 
 -- what a chain begins with, by its role
 abbrev pub head : Role → Place → List ℕ → Built Link
@@ -54,39 +57,56 @@ named word n p l = if bytes_eq n word then Ok l else Err p
 
 -- a method's name after a link
 abbrev pub with_name : Link → Place → List ℕ → Built Link
-with_name channel p n = named (codes "of") n p (of p)
-with_name (source vs) p n = named (codes "map") n p (map p vs)
-with_name (made m) p n = named (codes "view") n p (view p m)
+with_name (channel q) p n = named (codes "of") n p (of p)
+with_name (source q vs) p n = named (codes "map") n p (map p vs)
+with_name (made q m) p n = named (codes "view") n p (view p m)
 with_name _ p n = Err p
 
--- a closure after a link
+-- the place of the last name
+abbrev pub name_place : Link → Place
+name_place (channel p) = p
+name_place (of p) = p
+name_place (source p vs) = p
+name_place (items p vs) = p
+name_place (map p vs) = p
+name_place (process p) = p
+name_place (made p m) = p
+name_place (view p m) = p
+name_place (viewed p m) = p
+
+-- a closure after a link is given to what its last name calls
 abbrev pub with_closure : Env → Link → Tree → Built Link
-with_closure env (map p vs) c = closure_from env c >>= λ k. Ok (made (chain vs k))
-with_closure env l c = Err (closure_place c)
+with_closure env (map p vs) c = closure_from env c >>= λ k. Ok (made p (chain vs k))
+with_closure env l c = Err (name_place l)
 
 -- the one argument of `map`, whose name stands at this place
 abbrev pub mapped : Env → Place → List Plain → Option Tree → Built Link
 mapped env p vs None = Err p
-mapped env p vs (Some c) = lone_closure env c >>= λ k. Ok (made (chain vs k))
+mapped env p vs (Some c) = lone_closure env c >>= λ k. Ok (made p (chain vs k))
+
+-- the place of a call whose bracket stands here: that of its name, where a name stands before the bracket
+abbrev pub call_place : Place → Link → Place
+call_place b (channel p) = p
+call_place b (of p) = p
+call_place b (process p) = p
+call_place b l = b
 
 -- arguments whose bracket stands here after a link; of another number of them than the method takes, the place is that of its name
 abbrev pub with_no_items : Env → Link → Place → Tree → Built Link
-with_no_items env (of p) b xs = Err p
 with_no_items env (map p vs) b xs = mapped env p vs (single xs)
-with_no_items env (view p m) b xs = if is_empty xs then Ok (viewed m) else Err p
-with_no_items env (process p) b xs = Err p
-with_no_items env l b xs = Err b
+with_no_items env (view p m) b xs = if is_empty xs then Ok (viewed p m) else Err p
+with_no_items env l b xs = Err (call_place b l)
 
 -- the items of `of`, whose name stands at this place
 abbrev pub items_from : Env → Place → Tree → Built (List Plain)
 items_from env p xs = some_items (item_from env) p xs
 
 abbrev pub with_source : Env → Link → Place → Tree → Built Link
-with_source env (of p) b xs = items_from env p xs >>= λ vs. Ok (source vs)
+with_source env (of p) b xs = items_from env p xs >>= λ vs. Ok (source p vs)
 with_source env l b xs = with_no_items env l b xs
 
 abbrev pub with_items : Env → Link → Place → Tree → Built Link
-with_items env (of p) b xs = items_from env p xs >>= λ vs. Ok (items vs)
+with_items env (of p) b xs = items_from env p xs >>= λ vs. Ok (items p vs)
 with_items env l b xs = with_no_items env l b xs
 
 abbrev pub name_in : Tree → List ℕ
@@ -114,7 +134,7 @@ misfit p (view q m) = q
 misfit p l = p
 
 abbrev pub given_items : Place → Link → Built (List Plain)
-given_items p (items vs) = Ok vs
+given_items p (items q vs) = Ok vs
 given_items p l = Err (misfit p l)
 
 -- `channel.of(..)` as an argument
@@ -124,7 +144,7 @@ item_source env e = read_link channel_at (with_items env) (with_closure env) e >
 -- the one argument of a process's call, whose name stands at this place
 abbrev pub called : Env → Place → Option Tree → Built Link
 called env p None = Err p
-called env p (Some x) = item_source env x >>= λ vs. Ok (made (call vs))
+called env p (Some x) = item_source env x >>= λ vs. Ok (made p (call vs))
 
 -- the call of a process
 abbrev pub with_call : Env → Link → Place → Tree → Built Link
@@ -141,9 +161,5 @@ abbrev pub link_from : Env → Role → Tree → Built Link
 link_from env r = read_link (head r) (with_args env r) (with_closure env)
 
 abbrev pub given_made : Place → Link → Built Made
-given_made p (viewed m) = Ok m
+given_made p (viewed q m) = Ok m
 given_made p l = Err (misfit p l)
-
--- a chain up to its `view()`
-abbrev pub made_from : Env → Role → Tree → Built Made
-made_from env r e = link_from env r e >>= given_made (begins_at e)

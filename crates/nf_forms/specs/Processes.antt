@@ -77,11 +77,10 @@ task_in input l x = script_in input l x
 abbrev pub task_from : List ℕ → Tree → Built (List Piece)
 task_from input e = task_in input (leaf_of e) (leaf_of e).first
 
--- the directives, the input and the output in the order of the text, the script, and the stub
+-- the input, the output and the directives in the order of the text, the script, and the stub
 abbrev pub parts_from : Place → List ℕ → Tree → Tree → Tree → Tree → Tree → Built ProcessSpec
 parts_from p word ds is os t s = do
-  _ ← nothing ds
-  i ← both (input_from p is) (output_from p os)
+  i ← both (both (input_from p is) (output_from p os)) (nothing ds)
   script ← task_from i.1 t
   _ ← nothing s
   Ok (record { name = word; input = i.0; script = script })

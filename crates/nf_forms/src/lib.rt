@@ -8,6 +8,7 @@ mod leaf;
 mod links;
 mod plan;
 mod processes;
+mod reach;
 mod values;
 
 pub use fault::FormFault;

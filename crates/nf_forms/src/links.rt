@@ -3,7 +3,8 @@
 ghost use Rattle.std.specs.Prelude.{◌≡◌, map};
 ghost use Rattle.nf_ast.specs.View.{view, view_arg, view_postfix, view_closure, trees};
 ghost use Rattle.nf_forms.specs.Built.{Builds};
-ghost use Rattle.nf_forms.specs.Links.{made_from, link_from, item_source, head as head_of, with_name as with_name_of, with_closure as with_closure_of, with_args as with_args_of, called, mapped as mapped_of, with_no_items as with_no_items_of};
+ghost use Rattle.nf_forms.specs.Links.{link_from, item_source, head as head_of, name_place as name_place_of, call_place as call_place_of, with_name as with_name_of, with_closure as with_closure_of, with_args as with_args_of, called, mapped as mapped_of, with_no_items as with_no_items_of};
+ghost use Rattle.nf_forms.specs.Reach.{made_from};
 ghost use Rattle.nf_forms.specs.Items.{single as single_of};
 ghost use Rattle.nf_forms.specs.Memory.{view_around};
 ghost use Rattle.nf_forms.specs.Chains.{view_role, view_link, view_made, steps_on, step as step_of};
@@ -12,6 +13,7 @@ use crate::around::Around;
 use crate::fault::FormFault;
 use crate::items::{Items, are_none, read_items, single, unless};
 use crate::leaf::{branch_mark, first_of, operand_mark, prefix_mark};
+use crate::reach::{how_far, is_short};
 use crate::values::{argument_closure, read_closure};
 use nf_ast::{Arg, Closure, Expr, Postfix};
 use nf_builtins::Natives;
@@ -38,27 +40,27 @@ pub enum Made {
     Call(Items),
 }
 
-/// How far a chain was read; a method's name that waits for its arguments has its place.
+/// How far a chain was read, with the place of its last name.
 #[derive(Drop)]
 pub enum Link {
     /// `channel`.
-    Channel,
+    Channel(Place),
     /// `channel.of`.
     Of(Place),
     /// `channel.of(..)` in a chain by itself.
-    Source(Items),
+    Source(Place, Items),
     /// `channel.of(..)` as an argument.
-    Items(Items),
+    Items(Place, Items),
     /// A source and `.map`.
     Map(Place, Items),
     /// The name of the process.
     Process(Place),
     /// What can be viewed.
-    Made(Made),
+    Made(Place, Made),
     /// What can be viewed and `.view`.
     View(Place, Made),
     /// What is viewed.
-    Viewed(Made),
+    Viewed(Place, Made),
 }
 
 /// What a chain makes, up to its `view()`.
@@ -72,8 +74,13 @@ pub fn read_made<N: Natives>(
     requires { N.keeps natives.now }
     ensures { Builds view_made (made_from (view_around around.now (N.titles natives.now) (N.answer natives.now)) (view_role role.now) (view expr.now)) result }
 {
+    if is_short(how_far(role, expr)) {
+        return Err(FormFault::Unbuilt {
+            place: first_of(expr).place,
+        });
+    }
     match read_link(alloc, around, natives, role, expr)? {
-        Link::Viewed(made) => Ok(made),
+        Link::Viewed(_, made) => Ok(made),
         Link::Of(place) => Err(FormFault::Unbuilt { place }),
         Link::Map(place, _) => Err(FormFault::Unbuilt { place }),
         Link::View(place, _) => Err(FormFault::Unbuilt { place }),
@@ -95,7 +102,7 @@ fn source<N: Natives>(
     ensures { Builds (λ i. i.list) (item_source (view_around around.now (N.titles natives.now) (N.answer natives.now)) (view expr.now)) result }
 {
     match read_link(alloc, around, natives, &Role::Argument, expr)? {
-        Link::Items(items) => Ok(items),
+        Link::Items(_, items) => Ok(items),
         Link::Of(place) => Err(FormFault::Unbuilt { place }),
         Link::Map(place, _) => Err(FormFault::Unbuilt { place }),
         Link::View(place, _) => Err(FormFault::Unbuilt { place }),
@@ -154,7 +161,9 @@ fn head(role: &Role<'_>, place: Place, name: &str) -> Result<Link, FormFault>
 {
     match role {
         Role::Calling(word) if name == *word => Ok(Link::Process(place)),
-        Role::Alone | Role::Argument if name == "channel" || name == "Channel" => Ok(Link::Channel),
+        Role::Alone | Role::Argument if name == "channel" || name == "Channel" => {
+            Ok(Link::Channel(place))
+        }
         _ => Err(FormFault::Unbuilt { place }),
     }
 }
@@ -205,14 +214,41 @@ fn with_name(link: Link, place: Place, name: &str) -> Result<Link, FormFault>
     ensures { Builds view_link (with_name_of (view_link link) place name.now) result }
 {
     match link {
-        Link::Channel if name == "of" => Ok(Link::Of(place)),
-        Link::Source(items) if name == "map" => Ok(Link::Map(place, items)),
-        Link::Made(made) if name == "view" => Ok(Link::View(place, made)),
+        Link::Channel(_) if name == "of" => Ok(Link::Of(place)),
+        Link::Source(_, items) if name == "map" => Ok(Link::Map(place, items)),
+        Link::Made(_, made) if name == "view" => Ok(Link::View(place, made)),
         _ => Err(FormFault::Unbuilt { place }),
     }
 }
 
-/// A closure after a link.
+/// The place of the last name.
+fn name_place(link: &Link) -> Place
+    ensures { result ≡ name_place_of (view_link link.now) }
+{
+    match link {
+        Link::Channel(place)
+        | Link::Of(place)
+        | Link::Source(place, _)
+        | Link::Items(place, _)
+        | Link::Map(place, _)
+        | Link::Process(place)
+        | Link::Made(place, _)
+        | Link::View(place, _)
+        | Link::Viewed(place, _) => *place,
+    }
+}
+
+/// The place of a call: that of its name, or of its bracket, where no name stands before it.
+fn call_place(bracket: Place, link: &Link) -> Place
+    ensures { result ≡ call_place_of bracket (view_link link.now) }
+{
+    match link {
+        Link::Channel(place) | Link::Of(place) | Link::Process(place) => *place,
+        _ => bracket,
+    }
+}
+
+/// A closure after a link is given to what its last name calls.
 fn with_closure<N: Natives>(
     alloc: Global,
     around: &Around,
@@ -224,12 +260,12 @@ fn with_closure<N: Natives>(
     ensures { Builds view_link (with_closure_of (view_around around.now (N.titles natives.now) (N.answer natives.now)) (view_link link) (view_closure closure.now)) result }
 {
     match link {
-        Link::Map(_, items) => {
+        Link::Map(map, items) => {
             let closure = read_closure(alloc, around, natives, closure)?;
-            Ok(Link::Made(Made::Chain(items, closure)))
+            Ok(Link::Made(map, Made::Chain(items, closure)))
         }
-        _ => Err(FormFault::Unbuilt {
-            place: closure.place,
+        other => Err(FormFault::Unbuilt {
+            place: name_place(&other),
         }),
     }
 }
@@ -251,11 +287,11 @@ fn with_args<N: Natives>(
     match (role, link) {
         (Role::Alone, Link::Of(of)) => {
             let items = read_items(alloc, around, natives, of, args)?;
-            Ok(Link::Source(items))
+            Ok(Link::Source(of, items))
         }
         (Role::Argument, Link::Of(of)) => {
             let items = read_items(alloc, around, natives, of, args)?;
-            Ok(Link::Items(items))
+            Ok(Link::Items(of, items))
         }
         (Role::Calling(_), Link::Process(of)) => call(alloc, around, natives, of, args),
         (_, link) => with_no_items(alloc, around, natives, link, place, args),
@@ -276,7 +312,10 @@ fn call<N: Natives>(
 {
     match args {
         [] => Err(FormFault::Unbuilt { place: process }),
-        [only] => Ok(Link::Made(Made::Call(argument_items(alloc, around, natives, only)?))),
+        [only] => {
+            let items = argument_items(alloc, around, natives, only)?;
+            Ok(Link::Made(process, Made::Call(items)))
+        }
         [_, _, ..] => Err(FormFault::Unbuilt { place: process }),
     }
 }
@@ -314,14 +353,14 @@ fn with_no_items<N: Natives>(
         Link::Map(map, items) => mapped(alloc, around, natives, map, items, args),
         Link::View(view, made) => {
             if are_none(args) {
-                Ok(Link::Viewed(made))
+                Ok(Link::Viewed(view, made))
             } else {
                 Err(FormFault::Unbuilt { place: view })
             }
         }
-        Link::Of(of) => Err(FormFault::Unbuilt { place: of }),
-        Link::Process(process) => Err(FormFault::Unbuilt { place: process }),
-        _ => Err(FormFault::Unbuilt { place }),
+        other => Err(FormFault::Unbuilt {
+            place: call_place(place, &other),
+        }),
     }
 }
 
@@ -341,5 +380,5 @@ fn mapped<N: Natives>(
         return Err(FormFault::Unbuilt { place: name });
     };
     let closure = argument_closure(alloc, around, natives, only)?;
-    Ok(Link::Made(Made::Chain(items, closure)))
+    Ok(Link::Made(name, Made::Chain(items, closure)))
 }

@@ -7,8 +7,8 @@ ghost use Rattle.nf_ast.specs.Tops.{view_top, view_script, view_process, view_wo
 ghost use Rattle.nf_forms.specs.Built.{Builds};
 ghost use Rattle.nf_forms.specs.Values.{OverBuilt};
 ghost use Rattle.nf_forms.specs.Chains.{view_role, view_made};
-ghost use Rattle.nf_forms.specs.Links.{made_from};
-ghost use Rattle.nf_forms.specs.Form.{form_of, role_of as role_found, no_tops, add as add_of, add_process as add_process_of, add_workflow as add_workflow_of, add_all, whole as whole_of, statement_from, body_from, parts_from, workflow_from};
+ghost use Rattle.nf_forms.specs.Reach.{made_from};
+ghost use Rattle.nf_forms.specs.Form.{form_of, tops_from, is_entry as is_entry_of, has_entry as has_entry_of, role_of as role_found, no_tops, add as add_of, add_process as add_process_of, add_workflow as add_workflow_of, add_all, whole as whole_of, statement_from, body_from, parts_from, workflow_from};
 ghost use Rattle.nf_forms.specs.Memory.{view_around};
 ghost use Rattle.nf_forms.specs.View.{view_plan, view_tops};
 
@@ -53,8 +53,8 @@ pub struct Tops {
 /// # Errors
 ///
 /// `Unbuilt` exactly where the script is of no such form, with the first place, in the order of the text, of what isn't built: of a
-/// script without a workflow that of its first letter; of a wrong number of arguments that of the method's name; of a chain that ends
-/// too early where it begins, or its last method's name. In an item and in a closure that is what nothing binds: a name, a function, an assignment to a name
+/// script in which each workflow has a name, or that has none, 1:1; of a call that of its name; of a chain that ends
+/// too early where it begins, or its last method's name that has no arguments. In an item and in a closure that is what nothing binds: a name, a function, an assignment to a name
 /// that isn't defined there, and a pattern that `regex` refuses. An item in which all is bound may have a fault: then at the fault's place. `Mem` where there is no
 /// memory for the plan.
 pub fn plan_of<N: Natives>(alloc: Global, script: &Script, natives: &N) -> Result<Plan, FormFault>
@@ -75,6 +75,46 @@ fn plan_around<N: Natives>(
 ) -> Result<Plan, FormFault>
     requires { N.keeps natives.now }
     ensures { Builds (view_plan (N.titles natives.now) (N.answer natives.now)) (form_of (view_around around (N.titles natives.now) (N.answer natives.now)) (view_script script.now)) result }
+{
+    if has_entry(&script.tops) {
+        plan_tops(alloc, script, natives, around)
+    } else {
+        Err(FormFault::Unbuilt {
+            place: Place { line: 1, col: 1 },
+        })
+    }
+}
+
+/// Whether a workflow has no name: with it the script begins to run.
+fn has_entry(tops: &[Top]) -> bool
+    ensures { result ≡ has_entry_of (trees (map view_top tops.now)) }
+{
+    for top in tops {
+        if is_entry(top) {
+            return true;
+        }
+    }
+    false
+}
+
+fn is_entry(top: &Top) -> bool
+    ensures { result ≡ is_entry_of (view_top top.now) }
+{
+    match top {
+        Top::Workflow(workflow) => workflow.name.is_none(),
+        _ => false,
+    }
+}
+
+/// What the definitions of a script ask for.
+fn plan_tops<N: Natives>(
+    alloc: Global,
+    script: &Script,
+    natives: &N,
+    around: Around,
+) -> Result<Plan, FormFault>
+    requires { N.keeps natives.now }
+    ensures { Builds (view_plan (N.titles natives.now) (N.answer natives.now)) (tops_from (view_around around (N.titles natives.now) (N.answer natives.now)) (view_script script.now)) result }
 {
     let role = role_of(&script.tops);
     let tops = read_tops(alloc, &around, natives, &role, &script.tops)?;

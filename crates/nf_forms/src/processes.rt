@@ -4,9 +4,9 @@ ghost use Rattle.std.specs.Prelude.{◌≡◌, map};
 ghost use Rattle.nf_ast.specs.View.{view_label, trees};
 ghost use Rattle.nf_ast.specs.Tops.{maybe, view_directive, view_input, view_input_part, view_inputs, view_output, view_output_part, view_output_value, view_outputs, view_process, view_section, view_task};
 ghost use Rattle.nf_ast.specs.View.{view_stmt};
-ghost use Rattle.nf_forms.specs.Built.{Builds, Names};
+ghost use Rattle.nf_forms.specs.Built.{Built, Builds, Names};
 ghost use Rattle.nf_forms.specs.Naming.{view_name};
-ghost use Rattle.nf_forms.specs.Processes.{part_place, nothing, input_part, one_input, input_from, output_part, one_output, output_from, both, body_from, task_from, process_from};
+ghost use Rattle.nf_forms.specs.Processes.{Input as NamedInput, part_place, nothing, input_part, one_input, input_from, output_part, one_output, output_from, both, body_from, task_from, process_from};
 ghost use Rattle.nf_forms.specs.Items.{script_from};
 
 use crate::fault::FormFault;
@@ -31,8 +31,7 @@ pub struct InputName<'a> {
 pub fn read_process(alloc: Global, process: &Process) -> Result<ProcessSpec, FormFault>
     ensures { Builds (λ s. s) (process_from (view_process process.now)) result }
 {
-    no_directive(&process.directives)?;
-    let input = input_and_output(process)?;
+    let input = head(process)?;
     let script = read_task(alloc, input.name.as_str(), &process.task)?;
     no_section(&process.stub)?;
     let name = process.name.copy()?;
@@ -43,12 +42,12 @@ pub fn read_process(alloc: Global, process: &Process) -> Result<ProcessSpec, For
     })
 }
 
-fn no_directive(directives: &[Directive]) -> Result<(), FormFault>
-    ensures { Builds (λ x. tt) (nothing (trees (map view_directive directives.now))) result }
+fn no_directive(directives: &[Directive]) -> Result<(), Place>
+    ensures { Names (λ x. tt) (nothing (trees (map view_directive directives.now))) result }
 {
     match directives {
         [] => Ok(()),
-        [first, ..] => Err(FormFault::Unbuilt { place: first.place }),
+        [first, ..] => Err(first.place),
     }
 }
 
@@ -63,21 +62,36 @@ fn no_section(section: &Option<Section>) -> Result<(), FormFault>
     }
 }
 
-/// The input, where the output is built too. Of two faults the earlier one counts.
-fn input_and_output(process: &Process) -> Result<InputName<'_>, FormFault>
-    ensures { Builds view_name (both (input_from process.now.place (maybe view_inputs process.now.inputs)) (output_from process.now.place (maybe view_outputs process.now.outputs))) result }
+/// The input, where the output is built too and there is no directive. Of several faults the earliest counts.
+fn head(process: &Process) -> Result<InputName<'_>, FormFault>
+    ensures { Builds view_name (both (both (input_from process.now.place (maybe view_inputs process.now.inputs)) (output_from process.now.place (maybe view_outputs process.now.outputs))) (nothing (trees (map view_directive process.now.directives.items)))) result }
 {
     let input = input_of(process.place, &process.inputs);
     let output = output_of(process.place, &process.outputs);
-    match (input, output) {
+    let directives = no_directive(&process.directives);
+    let sections = with(input, output);
+    match with(sections, directives) {
+        Ok(input) => Ok(input),
+        Err(place) => Err(FormFault::Unbuilt { place }),
+    }
+}
+
+/// The input, where another part is built too. Of two faults the earlier one counts.
+fn with<'a>(
+    input: Result<InputName<'a>, Place>,
+    other: Result<(), Place>,
+) -> Result<InputName<'a>, Place>
+    ensures { (a : Built NamedInput) (b : Built (Unit {0})) → Names view_name a input.entry → Names (λ x. tt) b other → Names view_name (both a b) result }
+{
+    match (input, other) {
         (Ok(input), Ok(())) => Ok(input),
-        (Ok(_), Err(place)) => Err(FormFault::Unbuilt { place }),
-        (Err(place), Ok(())) => Err(FormFault::Unbuilt { place }),
+        (Ok(_), Err(place)) => Err(place),
+        (Err(place), Ok(())) => Err(place),
         (Err(first), Err(second)) => {
             if is_before(second, first) {
-                Err(FormFault::Unbuilt { place: second })
+                Err(second)
             } else {
-                Err(FormFault::Unbuilt { place: first })
+                Err(first)
             }
         }
     }

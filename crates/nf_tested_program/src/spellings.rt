@@ -11,8 +11,22 @@ const UNBUILT: &[(&str, &str)] = &[
     ("workflow { channel.of(1).view() }", "1:26"),
     ("workflow { channel.of(1)?.map { it }.view() }", "1:27"),
     ("workflow { channel.of(1).map { it } }", "1:12"),
+    ("workflow { channel.of(1).map { a } }", "1:12"),
+    ("workflow { channel.of(1, a).map { it } }", "1:12"),
+    ("workflow { channel.of() }", "1:12"),
+    ("workflow { channel.of(a).map }", "1:23"),
+    ("workflow { channel.empty(a) }", "1:20"),
     ("workflow { channel.of(1).map { it }.view }", "1:37"),
     ("workflow { channel.of(1).map { it }.view(1) }", "1:37"),
+    ("workflow { channel.of(1).map { it }.view { it } }", "1:37"),
+    (
+        "workflow { channel.of(1).map { it }.view() { it } }",
+        "1:37",
+    ),
+    ("workflow { channel.of { 1 }.map { it }.view() }", "1:20"),
+    ("workflow { channel.of(1) { 1 }.map { it }.view() }", "1:20"),
+    ("workflow { channel(1).map { it }.view() }", "1:12"),
+    ("workflow { channel { 1 }.map { it }.view() }", "1:12"),
     ("workflow { channel.of(1..3).map { it }.view() }", "1:24"),
     ("workflow { channel.of(a..3).map { it }.view() }", "1:23"),
     ("workflow { channel.of(1..a).map { it }.view() }", "1:24"),
@@ -34,6 +48,11 @@ const UNBUILT: &[(&str, &str)] = &[
         "workflow { channel.of('a' ==~ '(').map { a }.view() }",
         "1:31",
     ),
+    (
+        "workflow { channel.of(1).map { 1 ? it : ~/(/ }.view() }",
+        "1:41",
+    ),
+    ("workflow { channel.of(~/(/).map { a }.view() }", "1:23"),
     ("workflow { channel.of(1).map { a: it }.view() }", "1:32"),
     ("workflow { channel.of(1).map(it).view() }", "1:30"),
     ("workflow { channel.of(1).map({ it }, 1).view() }", "1:26"),
@@ -47,6 +66,12 @@ const UNBUILT: &[(&str, &str)] = &[
     (
         "workflow { channel.of(1).map { it }.view() }\nprintln 1",
         "2:1",
+    ),
+    ("\nprintln 1", "1:1"),
+    ("\nworkflow A { channel.of(1).map { it }.view() }", "1:1"),
+    (
+        "process P { cpus 2; input: val x; output: stdout; script: \"a\" }",
+        "1:1",
     ),
     (
         "def f() { 1 }\nworkflow { channel.of(1).map { it }.view() }",
@@ -70,12 +95,28 @@ const UNBUILT: &[(&str, &str)] = &[
         "2:12",
     ),
     (
+        "process P { input: val x; output: stdout; script: \"echo $x\" }\nworkflow { P(channel.of(a)) }",
+        "2:12",
+    ),
+    (
+        "process P { input: val x; output: stdout; script: \"echo $x\" }\nworkflow { P { 1 }.view() }",
+        "2:12",
+    ),
+    (
         "process P { input: val x; output: stdout; script: \"echo $x\" }\nprocess P { input: val x; output: stdout; script: \"echo $x\" }\nworkflow { P(channel.of(1)).view() }",
         "2:1",
     ),
     (
         "process P { cpus 2; input: val x; output: stdout; script: \"a\" }\nworkflow { P(channel.of(1)).view() }",
         "1:13",
+    ),
+    (
+        "process P { cpus 2; input: path x; output: stdout; script: \"a\" }\nworkflow { P(channel.of(1)).view() }",
+        "1:13",
+    ),
+    (
+        "process P { cpus 2; output: stdout; script: \"a\" }\nworkflow { P(channel.of(1)).view() }",
+        "1:1",
     ),
     (
         "process P { input: path x; output: stdout; script: \"a\" }\nworkflow { P(channel.of(1)).view() }",
