@@ -24,7 +24,7 @@ use Rattle.nf_opstream.specs.Fault.{Fault, fault_of, not_a_tuple}
 use Rattle.nf_opstream.specs.Promise.{emits_of, HasFaulted, PushRefused}
 use Rattle.nf_opjoin.specs.Pairing.{Due, and_then, gathered, first_of_its_kind}
 use Rattle.nf_opjoin.specs.Tuples.{key_at, has_key, keyed, same_key}
-use Rattle.nf_opjoin.specs.Joined.{given}
+use Rattle.nf_opjoin.specs.Pairing.{given}
 use Rattle.nf_opjoin.specs.Entered.{by_order, IsSplit}
 use Rattle.nf_opjoin.specs.Grouped.{keys_in, rests_with, group_of, groups, group, group_row}
 use Rattle.nf_opjoin.specs.Held.{is_key, held_at, groups_of}

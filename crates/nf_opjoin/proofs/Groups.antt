@@ -11,7 +11,6 @@ use Rattle.nf_bag.specs.Sorted.{sorted_of, distinct_of}
 use Rattle.nf_opstream.specs.Push.{Push, IsSameInput}
 use Rattle.nf_opjoin.specs.Pairing.{IsMatching}
 use Rattle.nf_opjoin.specs.Tuples.{key_at, rest_at, same_key}
-use Rattle.nf_opjoin.specs.Joined.{given}
 use Rattle.nf_opjoin.specs.Grouped.{keys_in, rests_with, group_of, groups, group}
 use Rattle.nf_opjoin.proofs.Sums.{Sums, flat_alike}
 use Rattle.nf_opjoin.proofs.Joins.{quiet}
@@ -44,5 +43,5 @@ module _ (sums : Sums) (sorts : (a : List Plain) → (b : List Plain) → IsSame
     no_self = λ x. refl;
     itself = λ x y h. absurd (true≢false (sym h));
     alike = λ x y z h. refl;
-    by_bag = λ p q s. ap given (groups_alike p q s);
+    by_bag = λ p q s. groups_alike p q s;
   }

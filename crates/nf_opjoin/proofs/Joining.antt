@@ -19,9 +19,9 @@ use Rattle.nf_bag.specs.declared.fault.OpFault.{OpFault}
 use Rattle.nf_opstream.specs.Push.{Push}
 use Rattle.nf_opstream.specs.Fault.{Fault, fault_of, not_a_tuple}
 use Rattle.nf_opstream.specs.Promise.{HasFaulted, PushRefused}
-use Rattle.nf_opjoin.specs.Pairing.{Due, IsMatching}
+use Rattle.nf_opjoin.specs.Pairing.{Due, given, IsMatching}
 use Rattle.nf_opjoin.specs.Tuples.{key_at, rest_at, is_left}
-use Rattle.nf_opjoin.specs.Joined.{padded, all_lonely, given, join, join_row}
+use Rattle.nf_opjoin.specs.Joined.{padded, all_lonely, join, join_row}
 use Rattle.nf_opjoin.specs.Entered.{by_order, IsSplit, entered, unmatched}
 use Rattle.nf_opjoin.specs.After.{found, weight, is_matched, IsJoinAfter}
 use Rattle.nf_opjoin.specs.declared.join.JoinState.{JoinState}
@@ -161,7 +161,7 @@ module _ (n : ℕ) (wanted : Bool) (law : IsMatching (join n wanted)) (p : List 
       → map plain_of one ≡ map plain_of none ++ unmatched (contains by_order s.matched) true left.entries → map plain_of two ≡ map plain_of one ++ unmatched (contains by_order s.matched) false right.entries → (values : List Plain) → values ≡ sorted_of (map plain_of two) → given values ≡ (join_row n wanted).ends p
   remainder_due sorts on none one two left right empty is_l is_r first second values is =
       let w : wanted ≡ true = sym after.remainder ∙ on in
-      ap given (is ∙ sorts (map plain_of two) (all_lonely n p) (lonely_bag none one two left right empty is_l is_r first second)) ∙ sym (ap {B = Due} (λ c. cond c (given (sorted_of (all_lonely n p))) (Ok [])) w)
+      ap given (is ∙ sorts (map plain_of two) (all_lonely n p) (lonely_bag none one two left right empty is_l is_r first second)) ∙ sym (ap {B = Due} (λ c. given (cond c (sorted_of (all_lonely n p)) [])) w)
 
   pub nothing_due : s.remainder ≡ false → (join_row n wanted).ends p ≡ Ok []
-  nothing_due off = ap {B = Due} (λ c. cond c (given (sorted_of (all_lonely n p))) (Ok [])) (sym after.remainder ∙ off)
+  nothing_due off = ap {B = Due} (λ c. given (cond c (sorted_of (all_lonely n p)) [])) (sym after.remainder ∙ off)

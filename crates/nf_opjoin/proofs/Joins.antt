@@ -12,7 +12,7 @@ use Rattle.nf_opstream.specs.Operator.{oks}
 use Rattle.nf_opjoin.specs.Pairing.{Due, IsMatching}
 use Rattle.nf_opjoin.specs.Tuples.{key_at, key_or_null, rest_at, has_key, same_key, is_left, faces, meets}
 use Rattle.nf_opjoin.specs.Combined.{tuple, joined}
-use Rattle.nf_opjoin.specs.Joined.{same_side, twin_by, partners, padded, lonely, all_lonely, given, join}
+use Rattle.nf_opjoin.specs.Joined.{same_side, twin_by, partners, padded, lonely, all_lonely, join}
 use Rattle.nf_opjoin.proofs.Sums.{Sums, flat_alike}
 use Rattle.nf_opjoin.proofs.Members.{same_value, value_itself}
 
@@ -74,5 +74,5 @@ join_matches sums sorts n wanted = record {
   no_self = λ x. not_met n x x (no_self_face (is_left x));
   itself = λ x y h. twin_itself n x y h;
   alike = λ x y z h. twins_same n x y z h;
-  by_bag = λ p q s. ap {B = Due} (λ vs. cond wanted (given vs) (Ok [])) (sorts (all_lonely n p) (all_lonely n q) (lonely_alike sums n p q s));
+  by_bag = λ p q s. ap {B = List Plain} (λ vs. cond wanted vs []) (sorts (all_lonely n p) (all_lonely n q) (lonely_alike sums n p q s));
 }

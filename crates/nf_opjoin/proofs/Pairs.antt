@@ -1,6 +1,6 @@
 -- An operator that pairs items is one.
 use Rattle.std.proofs.Common.{◌≡◌, ℕ, ◌+◌, ◌≤◌, List, [], ◌∷◌, ◌++◌, Bool, true, false, cond, refl, ap, sym, ◌∙◌, subst, arith, ◌⊎◌, inl, inr}
-use Rattle.std.specs.Prelude.{nat_lt, sum_by, count_by, Ok, Err, is_ok}
+use Rattle.std.specs.Prelude.{nat_lt, sum_by, count_by, map, filter, Ok, Err, is_ok}
 use Rattle.std.specs.List.{flat_map}
 use Rattle.std.specs.Ordering.{eq_by_cmp}
 use Rattle.std.proofs.lemmas.Bool.{cases_Bool, true≢false}
@@ -10,9 +10,10 @@ use Rattle.nf_value.specs.Plain.{Plain}
 use Rattle.nf_value.specs.Order.{value_cmp}
 use Rattle.nf_bag.specs.Bag.{count}
 use Rattle.nf_opstream.specs.Push.{Push, IsWithin, IsSameInput}
-use Rattle.nf_opstream.specs.Fault.{Fault}
+use Rattle.nf_opstream.specs.Fault.{Fault, too_deep}
 use Rattle.nf_opstream.specs.Operator.{to_out, oks, errs, emitted, AreFine, IsOperator}
-use Rattle.nf_opjoin.specs.Pairing.{Due, and_then, gathered, Matching, twins, first_of_its_kind, repeats, pairs_of, pair_faults, pairing, IsMatching}
+use Rattle.nf_opstream.specs.Alone.{is_too_deep, judged}
+use Rattle.nf_opjoin.specs.Pairing.{Due, and_then, gathered, given, shown, deep_faults, Matching, twins, first_of_its_kind, repeats, pairs_of, pair_faults, pairing, IsMatching}
 use Rattle.nf_opjoin.proofs.Sums.{Sums, Within, sum_by-plus, sum_alike, sum_less, count_by-append, count_by-flat_map, flat_alike, sent, sent-append}
 use Rattle.nf_opjoin.proofs.Members.{In, contains, in_left, in_right, in_flat_map, in_input}
 
@@ -38,6 +39,49 @@ no_errs (Err g) h = absurd (true≢false (sym h))
 
 in_errs : (r : Due) (f : Fault) → r ≡ Err f → In f (errs r)
 in_errs r f e = subst (λ z. In f (errs z)) (sym e) (inl refl)
+
+-- of values that are all given none is too deep, and each is shown
+judged_shallow : (v : Plain) → is_ok (judged ((0, v) ∷ [])) ≡ true → is_too_deep v ≡ false
+judged_shallow v h = elim (cases_Bool (is_too_deep v)) [
+  | inl d ↦ absurd (let k : is_ok (judged ((0, v) ∷ [])) ≡ false = rw d refl in true≢false (sym h ∙ k))
+  | inr d ↦ d
+]
+
+none_deep : (vs : List Plain) → is_ok (given vs) ≡ true → filter is_too_deep vs ≡ []
+none_deep [] h = refl
+none_deep (v ∷ vs) h =
+    let c = parts (judged ((0, v) ∷ [])) (given vs) h in
+    let d = judged_shallow v c.first in
+    rw d (none_deep vs c.then_ok)
+
+all_shown : (vs : List Plain) → is_ok (given vs) ≡ true → oks (given vs) ≡ shown vs
+all_shown [] h = refl
+all_shown (v ∷ vs) h =
+    let c = parts (judged ((0, v) ∷ [])) (given vs) h in
+    let d = judged_shallow v c.first in
+    let one : oks (judged ((0, v) ∷ [])) ≡ (0, v) ∷ [] = rw d refl in
+    let all : (0, v) ∷ shown vs ≡ shown (v ∷ vs) = rw d refl in
+    c.all ∙ (λ i. one i ++ all_shown vs c.then_ok i) ∙ all
+
+-- a fault of what is given is that of a value that is too deep
+given_fault : (vs : List Plain) (f : Fault) → given vs ≡ Err f → In f (deep_faults vs)
+given_fault [] f e = absurd (cc)
+given_fault (v ∷ vs) f e = elim (fault_part (judged ((0, v) ∷ [])) (given vs) f e) [
+  | inl k ↦ elim (cases_Bool (is_too_deep v)) [
+    | inl d ↦ (
+        let j : judged ((0, v) ∷ []) ≡ Err (too_deep v) = rw d refl in
+        let is : f ≡ too_deep v = cc in
+        rw d (inl is))
+    | inr d ↦ absurd (
+        let j : judged ((0, v) ∷ []) ≡ Ok ((0, v) ∷ []) = rw d refl in
+        let z : ◌≡◌ {A = Due} (Ok ((0, v) ∷ [])) (Err f) = sym j ∙ k in
+        cc)
+  ]
+  | inr k ↦ elim (cases_Bool (is_too_deep v)) [
+    | inl d ↦ rw d (inr (given_fault vs f k))
+    | inr d ↦ rw d (given_fault vs f k)
+  ]
+]
 
 -- the sum of what is gathered
 gathered_sent : (h : Push → Due) (p : List Push) (v : Plain) (out : ℕ) → is_ok (gathered h p) ≡ true → sent v out (oks (gathered h p)) ≡ sum_by (λ y. sent v out (oks (h y))) p
@@ -141,8 +185,8 @@ module _ (m : Matching) (law : IsMatching m) where
       count_by-flat_map (λ y. eq_by_cmp value_cmp y v) (λ x. pairs_of m q x out) q
       ∙ sum_alike (λ x. count v (pairs_of m q x out)) (sends m v out q) (λ x. count_by-flat_map (λ y. eq_by_cmp value_cmp y v) (λ y. to_out out (oks (m.pair x y))) q) q
 
-  items_sum : (v : Plain) (out : ℕ) (q : List Push) → count v ((pairing m).items q out) ≡ matched m v out q q + sent v out (oks (m.left_over q))
-  items_sum v out q = omega (arith, count_by-append (λ y. eq_by_cmp value_cmp y v) (flat_map (λ x. pairs_of m q x out) q) (to_out out (oks (m.left_over q))), all_pairs_sum v out q)
+  items_sum : (v : Plain) (out : ℕ) (q : List Push) → count v ((pairing m).items q out) ≡ matched m v out q q + sent v out (shown (m.left_over q))
+  items_sum v out q = omega (arith, count_by-append (λ y. eq_by_cmp value_cmp y v) (flat_map (λ x. pairs_of m q x out) q) (to_out out (shown (m.left_over q))), all_pairs_sum v out q)
 
   matched_less : Within → (v : Plain) (out : ℕ) (p q : List Push) → IsWithin p q → matched m v out p p ≤ matched m v out q q
   unfolding matched sends
@@ -188,8 +232,8 @@ module _ (m : Matching) (law : IsMatching m) where
       let a = flat_alike sums test judged judged (λ x. refl) p q s in
       let b = flat_alike sums test (repeats m p) (repeats m q) (λ x. ap (count_by test) (repeats_alike sums p q s x)) p q s in
       let c = flat_alike sums test (pair_faults m p) (pair_faults m q) (λ x. flat_alike sums test (λ y. errs (m.pair x y)) (λ y. errs (m.pair x y)) (λ y. refl) p q s) p q s in
-      let d = ap (λ r. count_by test (errs r)) (law.by_bag p q s) in
-      whole (flat_map judged p) (flat_map judged q) (flat_map (repeats m p) p) (flat_map (repeats m q) q) (flat_map (pair_faults m p) p) (flat_map (pair_faults m q) q) (errs (m.left_over p)) (errs (m.left_over q)) a b c d
+      let d = ap (λ vs. count_by test (deep_faults vs)) (law.by_bag p q s) in
+      whole (flat_map judged p) (flat_map judged q) (flat_map (repeats m p) p) (flat_map (repeats m q) q) (flat_map (pair_faults m p) p) (flat_map (pair_faults m q) q) (deep_faults (m.left_over p)) (deep_faults (m.left_over q)) a b c d
     where
       whole : (a e b f c g d h : List Fault) → count_by test a ≡ count_by test e → count_by test b ≡ count_by test f → count_by test c ≡ count_by test g → count_by test d ≡ count_by test h
           → count_by test (a ++ (b ++ (c ++ d))) ≡ count_by test (e ++ (f ++ (g ++ h)))
@@ -224,12 +268,12 @@ module _ (m : Matching) (law : IsMatching m) where
   one_at_most : (n : ℕ) (x : Push) → n ≤ 1 → ◌≡◌ {A = List Fault} (cond (nat_lt 1 n) (m.repeated x ∷ []) []) []
   one_at_most n x h = let e : nat_lt 1 n ≡ false = grind (arith, nat_tests) in ap {B = List Fault} (λ b. cond b (m.repeated x ∷ []) []) e
 
-  no_faults : (p : List Push) (es : List (ℕ × Plain)) → AreFine (pairing m) p → m.left_over p ≡ Ok es → (pairing m).faults p ≡ []
+  no_faults : (p : List Push) (es : List (ℕ × Plain)) → AreFine (pairing m) p → given (m.left_over p) ≡ Ok es → (pairing m).faults p ≡ []
   no_faults p es fine e =
       let a = none_at_all (λ x. errs (m.judge x)) p (λ x i. no_errs (m.judge x) (fine_gives p fine x i)) in
       let b = none_at_all (repeats m p) p (λ x i. one_at_most (twins m x p) x (few_twins p fine x)) in
       let c = none_at_all (pair_faults m p) p (λ x i. none_at_all (λ y. errs (m.pair x y)) p (λ y j. no_errs (m.pair x y) (fine_pairs p fine x y i j))) in
-      let d : errs (m.left_over p) ≡ [] = ap errs e in
+      let d : deep_faults (m.left_over p) ≡ [] = ap (map too_deep) (none_deep (m.left_over p) (ap is_ok e)) in
       (λ i. a i ++ (b i ++ (c i ++ d i)))
 
   -- no test holds of a fault of one bag in two orders, where it holds of none in one
@@ -292,12 +336,12 @@ module _ (m : Matching) (law : IsMatching m) where
         ]
       ]
 
-  last_fault : (q : List Push) (f : Fault) → m.left_over q ≡ Err f → In f ((pairing m).faults q)
-  last_fault q f e = in_right f (flat_map (λ z. errs (m.judge z)) q) _ (in_right f (flat_map (repeats m q) q) _ (in_right f (flat_map (pair_faults m q) q) _ (in_errs (m.left_over q) f e)))
+  last_fault : (q : List Push) (f : Fault) → given (m.left_over q) ≡ Err f → In f ((pairing m).faults q)
+  last_fault q f e = in_right f (flat_map (λ z. errs (m.judge z)) q) _ (in_right f (flat_map (repeats m q) q) _ (in_right f (flat_map (pair_faults m q) q) _ (given_fault (m.left_over q) f e)))
 
   pub pairing_law : Sums → Within → IsOperator (pairing m)
   pairing_law sums within = record {
-    items_by_bag = λ p q out s. record { at = λ v. omega (arith, items_sum v out p, items_sum v out q, matched_alike sums v out p q s, ap (λ r. sent v out (oks r)) (law.by_bag p q s)) };
+    items_by_bag = λ p q out s. record { at = λ v. omega (arith, items_sum v out p, items_sum v out q, matched_alike sums v out p q s, ap (λ vs. sent v out (shown vs)) (law.by_bag p q s)) };
     faults_by_bag = λ p q test s. faults_alike sums p q test s;
     sound = λ p q out fine w. record { at = λ v. omega (arith, emitted_sum v out p fine, items_sum v out q, matched_less within v out p q w) };
     whole = λ p q es out fine e s. record {
@@ -306,11 +350,11 @@ module _ (m : Matching) (law : IsMatching m) where
         emitted_sum v out p fine,
         items_sum v out q,
         matched_alike sums v out p q s,
-        ap (λ r. sent v out (oks r)) (sym e ∙ law.by_bag p q s),
+        ap (sent v out) (ap oks (sym e) ∙ all_shown (m.left_over p) (ap is_ok e) ∙ ap shown (law.by_bag p q s)),
         count_by-append (λ y. eq_by_cmp value_cmp y v) (emitted (pairing m) p out) (to_out out es),
       );
     };
     faultless = λ p q es fine e s. none_alike sums p q s (no_faults p es fine e);
     push_fault = λ p q x f fine e w. contains f ((pairing m).faults q) (push_fault within p q x f e w);
-    close_fault = λ p q f fine e s. contains f ((pairing m).faults q) (last_fault q f (sym (law.by_bag p q s) ∙ e));
+    close_fault = λ p q f fine e s. contains f ((pairing m).faults q) (last_fault q f (ap given (sym (law.by_bag p q s)) ∙ e));
   }

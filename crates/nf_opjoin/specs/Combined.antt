@@ -26,7 +26,7 @@ combine by_first = record {
   twin = λ x y. false;
   repeated = λ x. duplicate_key x.item;
   pair = λ x y. cond by_first (joined 0 x y) (glued x y);
-  left_over = λ p. Ok [];
+  left_over = λ p. [];
 }
 
 -- `combine`, and with `by: 0` by the first items

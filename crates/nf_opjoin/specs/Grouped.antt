@@ -9,7 +9,6 @@ use Rattle.nf_opstream.specs.Fault.{duplicate_key}
 use Rattle.nf_opstream.specs.Operator.{Operator}
 use Rattle.nf_opjoin.specs.Pairing.{Matching, pairing}
 use Rattle.nf_opjoin.specs.Tuples.{parts_of, key_at, rest_at, keyed, same_key}
-use Rattle.nf_opjoin.specs.Joined.{given}
 
 abbrev pub keys_in : ℕ → List Push → List Plain
 keys_in n q = flat_map (λ x. option_to_list (key_at n x.item)) q
@@ -45,7 +44,7 @@ group n sort = record {
   twin = λ x y. false;
   repeated = λ x. duplicate_key x.item;
   pair = λ x y. Ok [];
-  left_over = λ q. given (groups n sort q);
+  left_over = groups n sort;
 }
 
 -- `groupTuple` by the key at a place, which emits all groups at the close

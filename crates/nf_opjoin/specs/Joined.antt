@@ -1,13 +1,12 @@
 -- Pairs of items with equal keys, and the items that have no partner.
-use Rattle.std.specs.Prelude.{◌==◌, ◌&&◌, ◌||◌, ℕ, List, [], ◌∷◌, ◌++◌, Bool, cond, not, is_some, count_by, Ok}
+use Rattle.std.specs.Prelude.{◌==◌, ◌&&◌, ◌||◌, ℕ, List, [], ◌∷◌, ◌++◌, Bool, cond, not, is_some, count_by}
 use Rattle.std.specs.List.{flat_map}
 use Rattle.nf_value.specs.Plain.{Plain, null, list, plains_of}
 use Rattle.nf_bag.specs.Sorted.{sorted_of}
 use Rattle.nf_opstream.specs.Push.{Push}
 use Rattle.nf_opstream.specs.Fault.{duplicate_key}
 use Rattle.nf_opstream.specs.Operator.{Operator}
-use Rattle.nf_opstream.specs.Alone.{judged}
-use Rattle.nf_opjoin.specs.Pairing.{Due, and_then, Matching, pairing}
+use Rattle.nf_opjoin.specs.Pairing.{Matching, pairing}
 use Rattle.nf_opjoin.specs.Tuples.{key_at, rest_at, key_or_null, keyed, same_key, is_left, meets}
 use Rattle.nf_opjoin.specs.Combined.{joined}
 
@@ -32,14 +31,9 @@ lonely n q x = cond (is_some (key_at n x.item) && (partners n q x == 0)) (padded
 abbrev pub all_lonely : ℕ → List Push → List Plain
 all_lonely n q = flat_map (lonely n q) q
 
--- these values to the first output, or the first fault
-abbrev pub given : List Plain → Due
-given [] = Ok []
-given (v ∷ vs) = and_then (judged ((0, v) ∷ [])) (given vs)
-
 -- what is left at the close
-abbrev pub remainder_of : ℕ → Bool → List Push → Due
-remainder_of n wanted q = cond wanted (given (sorted_of (all_lonely n q))) (Ok [])
+abbrev pub remainder_of : ℕ → Bool → List Push → List Plain
+remainder_of n wanted q = cond wanted (sorted_of (all_lonely n q)) []
 
 abbrev pub join : ℕ → Bool → Matching
 join n wanted = record {

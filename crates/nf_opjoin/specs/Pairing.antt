@@ -1,10 +1,11 @@
 -- Operators that pair the items of two inputs.
-use Rattle.std.specs.Prelude.{◌≡◌, ℕ, nat_lt, List, [], ◌∷◌, ◌++◌, Bool, true, cond, count_by, Result, Ok, Err}
+use Rattle.std.specs.Prelude.{◌≡◌, ℕ, nat_lt, List, [], ◌∷◌, ◌++◌, map, filter, Bool, true, cond, not, count_by, Result, Ok, Err}
 use Rattle.std.specs.List.{flat_map}
 use Rattle.nf_value.specs.Plain.{Plain}
 use Rattle.nf_opstream.specs.Push.{Push, IsSameInput}
-use Rattle.nf_opstream.specs.Fault.{Fault}
+use Rattle.nf_opstream.specs.Fault.{Fault, too_deep}
 use Rattle.nf_opstream.specs.Operator.{Operator, to_out, oks, errs}
+use Rattle.nf_opstream.specs.Alone.{is_too_deep, judged}
 
 -- what is emitted, or a fault
 abbrev pub Due : Type 0
@@ -21,14 +22,27 @@ abbrev pub gathered : (Push → Due) → List Push → Due
 gathered h [] = Ok []
 gathered h (y ∷ p) = and_then (gathered h p) (h y)
 
+-- these values to the first output, or the first fault
+abbrev pub given : List Plain → Due
+given [] = Ok []
+given (v ∷ vs) = and_then (judged ((0, v) ∷ [])) (given vs)
+
+-- those of these values that may be emitted, to the first output
+abbrev pub shown : List Plain → List (ℕ × Plain)
+shown vs = map (λ v. (0, v)) (filter (λ v. not (is_too_deep v)) vs)
+
+-- a fault for each that is too deep
+abbrev pub deep_faults : List Plain → List Fault
+deep_faults vs = map too_deep (filter is_too_deep vs)
+
 -- `judge` says whether an item may be paired at all, `twin` which items of one input may not stand beside each other and `repeated` the
--- fault of those that do, `pair` what an item of the first input and one of the second give, `left_over` what is emitted at the close
+-- fault of those that do, `pair` what an item of the first input and one of the second give, `left_over` the values due at the close
 pub record Matching : Type 0 where
   pub judge : Push → Due
   pub twin : Push → Push → Bool
   pub repeated : Push → Fault
   pub pair : Push → Push → Due
-  pub left_over : List Push → Due
+  pub left_over : List Push → List Plain
 
 -- how many twins an item has among these
 abbrev pub twins : Matching → Push → List Push → ℕ
@@ -48,13 +62,13 @@ pairs_of m q x out = flat_map (λ y. to_out out (oks (m.pair x y))) q
 abbrev pub pair_faults : Matching → List Push → Push → List Fault
 pair_faults m q x = flat_map (λ y. errs (m.pair x y)) q
 
--- the operator that gives all pairs, and at the close what is left over
+-- the operator that gives all pairs, and at the close what is left over; each value of that is judged by itself
 abbrev pub pairing : Matching → Operator
 pairing m = record {
-  items = λ q out. flat_map (λ x. pairs_of m q x out) q ++ to_out out (oks (m.left_over q));
-  faults = λ q. flat_map (λ x. errs (m.judge x)) q ++ (flat_map (repeats m q) q ++ (flat_map (pair_faults m q) q ++ errs (m.left_over q)));
+  items = λ q out. flat_map (λ x. pairs_of m q x out) q ++ to_out out (shown (m.left_over q));
+  faults = λ q. flat_map (λ x. errs (m.judge x)) q ++ (flat_map (repeats m q) q ++ (flat_map (pair_faults m q) q ++ deep_faults (m.left_over q)));
   gives = λ p x. and_then (m.judge x) (and_then (first_of_its_kind m p x) (and_then (gathered (m.pair x) p) (gathered (λ y. m.pair y x) p)));
-  ends = m.left_over;
+  ends = λ q. given (m.left_over q);
 }
 
 -- nothing is emitted for an item alone, none is paired with itself, a twin of an item has the same twins, and what is left over depends on the

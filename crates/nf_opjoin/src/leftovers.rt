@@ -5,7 +5,8 @@ ghost use Rattle.std.specs.BTreeSet.{contains};
 ghost use Rattle.nf_value.specs.View.{plain_of};
 ghost use Rattle.nf_opstream.specs.Alone.{judged};
 ghost use Rattle.nf_opstream.specs.Promise.{emits_of, IsFault};
-ghost use Rattle.nf_opjoin.specs.Joined.{padded as padded_plain, given};
+ghost use Rattle.nf_opjoin.specs.Joined.{padded as padded_plain};
+ghost use Rattle.nf_opjoin.specs.Pairing.{given};
 ghost use Rattle.nf_opjoin.specs.Entered.{by_order, unmatched};
 
 use nf_bag::OpFault;

@@ -3,7 +3,7 @@ use Rattle.std.specs.Prelude.{Ok}
 use Rattle.nf_value.specs.View.{plain_of}
 use Rattle.nf_opstream.specs.Promise.{emits_of}
 use Rattle.nf_opjoin.specs.Pairing.{and_then}
-use Rattle.nf_opjoin.specs.Joined.{given}
+use Rattle.nf_opjoin.specs.Pairing.{given}
 use Rattle.nf_opjoin.proofs.leftovers.give.Given as goal
 
 abbrev pub invariant-loop-value : goal.invariant-loop-value
