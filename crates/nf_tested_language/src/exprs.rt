@@ -1,6 +1,6 @@
 //! Worked expressions.
 
-use crate::makers::{deep_expression, fault_text};
+use crate::makers::{deepest, fault_text, repeated};
 use nf_exprs::expr;
 use nf_lexer::tokens;
 use std::alloc::Global;
@@ -9,7 +9,7 @@ use std::test::Fail;
 
 mod texts;
 
-use texts::{CHAINS, TEXTS};
+use texts::{CHAINS, DEEPEST, TEXTS};
 
 /// How reading ends: `ok` with the number of the token after the expression, or the fault with its place.
 fn answer(alloc: Global, text: &str) -> Result<String, Fail> {
@@ -32,16 +32,14 @@ fn reads_worked_expressions(rt: HostRuntime) -> Result<(), Fail> {
 /// A first part, then as many of the next as the limit allows, and one more.
 #[test]
 fn limits_chains(rt: HostRuntime) -> Result<(), Fail> {
-    for (first, next, last, most) in CHAINS.iter().copied() {
-        let mut text = String::from_str(rt.alloc(), first)?;
-        for _ in 0..most {
-            text.push_str(next)?;
-        }
-        let within = format!(in rt.alloc(); "{text}{last}")?;
+    for (first, next, last, closing, most) in CHAINS.iter().copied() {
+        let nexts = repeated(rt.alloc(), next, most)?;
+        let closings = repeated(rt.alloc(), closing, most)?;
+        let within = format!(in rt.alloc(); "{first}{nexts}{last}{closings}")?;
         let found = answer(rt.alloc(), within.as_str())?;
-        assert!(rt; found.as_str().starts_with("ok"), "at {next:?}");
-        let place = text.len().saturating_add(1);
-        let past = format!(in rt.alloc(); "{text}{next}{last}")?;
+        assert!(rt; found.as_str().starts_with("ok"), "at {next:?}: {found}");
+        let place = first.len().saturating_add(nexts.len()).saturating_add(1);
+        let past = format!(in rt.alloc(); "{first}{nexts}{next}{last}{closings}{closing}")?;
         let found = answer(rt.alloc(), past.as_str())?;
         let want = format!(in rt.alloc(); "1:{place} TooDeep")?;
         assert_eq!(rt; found.as_str(), want.as_str(), "at {next:?}");
@@ -49,11 +47,13 @@ fn limits_chains(rt: HostRuntime) -> Result<(), Fail> {
     Ok(())
 }
 
-/// As many brackets as may be open, each the first operand of a full chain on every level; it is read and dropped.
+/// As many brackets as may be open, with as much before and after each as may stand there, are read and dropped; one more is too deep.
 #[test]
 fn reads_the_deepest(rt: HostRuntime) -> Result<(), Fail> {
-    let text = deep_expression(rt.alloc(), 64)?;
-    let found = answer(rt.alloc(), text.as_str())?;
-    assert!(rt; found.as_str().starts_with("ok"), "{found}");
+    for (open, close, brackets, want) in DEEPEST.iter().copied() {
+        let text = deepest(rt.alloc(), open, close, brackets)?;
+        let found = answer(rt.alloc(), text.as_str())?;
+        assert_eq!(rt; found.as_str(), want, "at {brackets} {open:?}");
+    }
     Ok(())
 }

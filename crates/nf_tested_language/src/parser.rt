@@ -1,15 +1,16 @@
 //! Worked scripts.
 
-use crate::makers::{deep_expression, fault_text};
+use crate::makers::{deepest, fault_text};
 use nf_lexer::tokens;
 use nf_parser::{ParseFault, laws, script};
+use nf_printer::print;
 use std::alloc::Global;
 use std::fmt::Write;
 use std::test::Fail;
 
 mod texts;
 
-use texts::{PIPELINE, TEXTS};
+use texts::{DEEPEST, PIPELINE, TEXTS};
 
 /// How reading ends: `ok` with the number of tops, or the fault with its place.
 fn answer(alloc: Global, text: &str) -> Result<String, Fail> {
@@ -70,16 +71,22 @@ fn limits_brackets(rt: HostRuntime) -> Result<(), Fail> {
     Ok(())
 }
 
-/// As many brackets as may be open, each the first operand of a full chain on every level; it is read, copied and dropped.
+/// As many brackets as may be open, with as much before and after each as may stand there; it is read, copied, printed and dropped.
 #[test]
 fn copies_the_deepest(rt: HostRuntime) -> Result<(), Fail> {
-    let deep = deep_expression(rt.alloc(), 62)?;
-    let text = format!(in rt.alloc(); "workflow {{ channel.of({deep}) }}")?;
-    let tokens = tokens(rt.alloc(), text.as_bytes())?;
-    let Ok(script) = script(rt.alloc(), &tokens) else {
-        return Err(Fail::from("not read"));
-    };
-    let copy = script.copy(rt.alloc())?;
-    assert_eq!(rt; copy.tops.len(), 1);
+    for (open, close, each, besides) in DEEPEST.iter().copied() {
+        let deep = deepest(rt.alloc(), open, close, 62)?;
+        let text = format!(in rt.alloc(); "workflow {{ channel.of({deep}) }}")?;
+        let tokens = tokens(rt.alloc(), text.as_bytes())?;
+        let Ok(script) = script(rt.alloc(), &tokens) else {
+            return Err(Fail::from("not read"));
+        };
+        let copy = script.copy(rt.alloc())?;
+        assert_eq!(rt; copy.tops.len(), 1);
+        let printed = print(rt.alloc(), &copy)?;
+        let bytes = each.saturating_mul(62).saturating_add(besides);
+        assert_eq!(rt; printed.len(), bytes, "at {open:?}");
+        assert!(rt; printed == print(rt.alloc(), &script)?, "at {open:?}");
+    }
     Ok(())
 }
