@@ -1,5 +1,1 @@
-pub mod Chains
-pub mod Parts
-pub mod Alone
-pub mod Steps
 pub mod Titles

@@ -1,4 +1,1 @@
-pub mod Uses
-pub mod Leaves
-pub mod Chains
 pub mod Bound

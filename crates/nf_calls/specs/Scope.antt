@@ -1,5 +1,5 @@
 -- What names stand for.
-use Rattle.std.specs.Prelude.{ℕ, Bool, List, [], ◌∷◌, ◌++◌, length, drop, ◌-◌, if◌then◌else◌, Option, Some, None}
+use Rattle.std.specs.Prelude.{ℕ, Bool, List, [], ◌∷◌, ◌++◌, length, map, drop, ◌-◌, if◌then◌else◌, Option, Some, None}
 use Rattle.std.specs.Str.{bytes_eq}
 use Rattle.nf_value.specs.Plain.{Plain, null}
 use Rattle.nf_calls.specs.Placed.{Placed}
@@ -20,6 +20,13 @@ pub record Env : Type 0 where
   pub titles : List (List ℕ)
   pub answer : ℕ → List Plain → Option Plain
   pub in_process : Bool
+
+-- the names that have a value, and those of the functions
+abbrev pub names_in_scope : Env → List (List ℕ)
+names_in_scope env = map (λ b. b.0) (env.names ++ env.captured)
+
+abbrev pub function_names : Env → List (List ℕ)
+function_names env = map (λ f. f.name) env.functions
 
 -- the value of a name, null where it has none
 abbrev pub value_in : List ℕ → List (List ℕ × Plain) → Plain

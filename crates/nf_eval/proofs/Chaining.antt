@@ -19,7 +19,7 @@ use Rattle.nf_ast.specs.declared.expr.ClosureBody.TheOpen as o
 use Rattle.nf_ast.specs.declared.expr.ClosureBody.TheOpen.{Postfix-F}
 use Rattle.nf_ast.specs.declared.expr.ClosureBody.TheFolds.{fold_out-Postfix}
 use Rattle.nf_ast.specs.Tree as tree
-use Rattle.nf_ast.specs.Tree.{Tree, empty, cons}
+use Rattle.nf_ast.specs.Tree.{Tree}
 use Rattle.nf_ast.specs.View.{BranchTree, ArmTree, applied, postfix, operands, prefixes, trees, view_postfix, body_step, expr_step, piece_step, postfix_step, stmt_step, arg_step, arm_step, branch_step, closure_step, label_step, operand_step, pair_step}
 use Rattle.nf_calls.specs.Placed.{Placed, ◌>>=◌, fault, made, Evaluates}
 use Rattle.nf_calls.specs.Marked.{prefix_of}

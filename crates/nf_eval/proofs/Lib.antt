@@ -16,3 +16,4 @@ pub mod Gathering
 pub mod Innermost
 pub mod Reached
 pub mod Scripted
+pub mod Known

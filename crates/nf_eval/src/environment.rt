@@ -7,8 +7,10 @@ ghost use Rattle.nf_value.specs.declared.fault.EvalKind.TheVariants.{WrongKind};
 ghost use Rattle.nf_builtins.specs.Natives.{is_among};
 ghost use Rattle.nf_marks.specs.Compare.{matches};
 ghost use Rattle.nf_calls.specs.Placed.{Evaluates, made, fault};
+ghost use Rattle.nf_calls.specs.Scope.{names_in_scope, function_names};
 ghost use Rattle.nf_eval.specs.Memory.{texts_of};
 
+use crate::functions::function_named;
 use crate::patterns::Pattern;
 use crate::scope::Scope;
 use nf_ast::Function;
@@ -90,6 +92,32 @@ impl Env {
         ensures sees { (titles : List (List ℕ)) (answer : ℕ → List Plain → Option Plain) → env_of self.new titles answer ≡ record (env_of self.old titles answer) { in_process = true } }
     {
         self.in_process = true;
+    }
+
+    /// Whether a name has a value. Takes no memory, and time by the number of names.
+    pub fn has_name(&self, name: &str) -> bool
+        ensures { (titles : List (List ℕ)) (answer : ℕ → List Plain → Option Plain) → result ≡ is_among name.now (names_in_scope (env_of self.now titles answer)) }
+    {
+        self.names.value(name).is_some()
+    }
+
+    /// Whether a function was added that has the name. Takes no memory, and time by the number of functions.
+    pub fn has_function(&self, name: &str) -> bool
+        ensures { (titles : List (List ℕ)) (answer : ℕ → List Plain → Option Plain) → result ≡ is_among name.now (function_names (env_of self.now titles answer)) }
+    {
+        function_named(name, &self.functions).is_some()
+    }
+
+    /// Whether the pattern of a text was added. Takes no memory, and time by the number of patterns.
+    pub fn has_pattern(&self, text: &str) -> bool
+        ensures { (titles : List (List ℕ)) (answer : ℕ → List Plain → Option Plain) → result ≡ is_among text.now (env_of self.now titles answer).patterns }
+    {
+        for pattern in &self.patterns {
+            if pattern.text.as_str() == text {
+                return true;
+            }
+        }
+        false
     }
 }
 

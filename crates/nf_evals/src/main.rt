@@ -1,6 +1,7 @@
 //! Evaluates a table of expressions. Standard input has a row a line: an expression, or `CLOSURE <- LIST` for a closure that is applied to
 //! the items of a list, and either after `in a process: `. Each row is printed with its value, where a text stands in single marks, or
-//! with its fault and the fault's place. Empty lines and lines that begin with `#` are printed as they are.
+//! with its fault and the fault's place. After `uses: ` stands an expression that is printed with what it uses, and after `unbound: ` one with the place
+//! of the first that nothing binds. Empty lines and lines that begin with `#` are printed as they are.
 #![tactic(auto)]
 
 mod functions;
@@ -8,6 +9,7 @@ mod known;
 mod parsed;
 mod patterns;
 mod row;
+mod uses;
 
 ghost use Rattle.nf_builtins.specs.Natives.{AnswersNative, program_answer};
 
@@ -45,10 +47,23 @@ fn print_line<R: AllocGlobal + Print, N: Natives>(rt: &R, line: &str, natives: &
         return Ok(());
     }
     let alloc = rt.alloc();
-    let answer = row::answer(alloc, line, natives)?;
-    let answer = shown(alloc, answer)?;
+    let answer = answer(alloc, line, natives)?;
     println!(rt; "{line} => {answer}")?;
     Ok(())
+}
+
+/// What a row gives.
+fn answer<N: Natives>(alloc: Global, line: &str, natives: &N) -> Result<String>
+    requires { N.keeps natives.now }
+{
+    if let Some(text) = line.strip_prefix("uses: ") {
+        return uses::uses(alloc, text);
+    }
+    if let Some(text) = line.strip_prefix("unbound: ") {
+        return uses::unbound_place(alloc, text, natives);
+    }
+    let value = row::answer(alloc, line, natives)?;
+    shown(alloc, value)
 }
 
 /// A value, or a fault with its place.

@@ -3,9 +3,9 @@
 ghost use Rattle.std.specs.Prelude.{◌≡◌, IfOk};
 
 use anyhow::{Result, bail};
-use nf_bound::{Use, UseKind};
 use nf_eval::Env;
 use nf_pattern::WholeRe;
+use nf_uses::{Use, UseKind};
 use nf_value::Txt;
 use std::alloc::Global;
 
@@ -13,18 +13,22 @@ use std::alloc::Global;
 pub(crate) fn build_patterns(alloc: Global, uses: &[Use], env: &mut Env) -> Result<()> {
     for used in uses {
         match used.kind {
-            UseKind::Pattern => {
-                let re = built(alloc, &used.text)?;
-                env.add_pattern(used.text.copy()?, re)?;
-            }
+            UseKind::Pattern => add_pattern(alloc, used.text.copy()?, env)?,
             _ => {}
         }
     }
     Ok(())
 }
 
+/// Builds the pattern of a text.
+pub(crate) fn add_pattern(alloc: Global, text: Txt, env: &mut Env) -> Result<()> {
+    let re = built(alloc, &text)?;
+    env.add_pattern(text, re)?;
+    Ok(())
+}
+
 /// The pattern of a text.
-pub(crate) fn built(alloc: Global, text: &Txt) -> Result<WholeRe>
+fn built(alloc: Global, text: &Txt) -> Result<WholeRe>
     ensures { IfOk result (λ re. re ≡ text.now) }
 {
     match WholeRe::new(alloc, text.as_str()) {

@@ -5,9 +5,9 @@ use crate::parsed::parsed;
 use crate::patterns::build_patterns;
 use anyhow::{Result, bail};
 use nf_ast::Expr;
-use nf_bound::expr_uses;
 use nf_builtins::Natives;
 use nf_eval::{Closure, Env, apply, eval};
+use nf_uses::expr_uses;
 use nf_value::{EvalRefusal, Value};
 use std::alloc::Global;
 

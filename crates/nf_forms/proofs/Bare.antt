@@ -19,8 +19,8 @@ abbrev pub PlansOver : List (List ℕ) → (ℕ → List Plain → Option Plain)
 PlansOver titles answer tree r = OverBuilt titles answer (λ env. Builds (view_plan env.titles env.answer) (form_of env tree) r)
 
 module _ (titles : List (List ℕ)) (answer : ℕ → List Plain → Option Plain) (tree : Tree) where
-  pub plan_over : (e : memory.Env) (patterns : List (List ℕ)) (r : Result Plan FormFault) → IsBare e patterns → Builds (view_plan titles answer) (form_of (env_of e titles answer) tree) r → PlansOver titles answer tree r
-  plan_over e patterns r is built = (patterns, is.0, subst (λ env. Builds (view_plan titles answer) (form_of env tree) r) (is.1 titles answer) built)
+  pub plan_over : (e : memory.Env) (r : Result Plan FormFault) → IsBare e → Builds (view_plan titles answer) (form_of (env_of e titles answer) tree) r → PlansOver titles answer tree r
+  plan_over e r (patterns, are_built, is) built = (patterns, are_built, subst (λ env. Builds (view_plan titles answer) (form_of env tree) r) (is titles answer) built)
 
   pub no_memory : PlansOver titles answer tree (Err fault.Mem)
   no_memory = ([], none_built, tt)

@@ -11,6 +11,6 @@ use Rattle.nf_forms.specs.Values.{AreBuilt, bare}
 abbrev pub view_around : Around → List (List ℕ) → (ℕ → List Plain → Option Plain) → Env
 view_around a titles answer = env_of a.env titles answer
 
--- it has these patterns, which are built, and no name
-abbrev pub IsBare : memory.Env → List (List ℕ) → Type 0
-IsBare e patterns = AreBuilt patterns × ((titles : List (List ℕ)) (answer : ℕ → List Plain → Option Plain) → env_of e titles answer ≡ bare titles answer patterns)
+-- it has patterns that are built, and no name
+abbrev pub IsBare : memory.Env → Type 0
+IsBare e = (patterns : List (List ℕ)) × AreBuilt patterns × ((titles : List (List ℕ)) (answer : ℕ → List Plain → Option Plain) → env_of e titles answer ≡ bare titles answer patterns)

@@ -5,7 +5,7 @@ use Rattle.nf_value.specs.Plain.{Plain}
 use Rattle.nf_ast.specs.declared.marks.InfixMark.{InfixMark}
 use Rattle.nf_ast.specs.declared.marks.InfixMark.TheVariants as mark
 use Rattle.nf_ast.specs.Tree as tree
-use Rattle.nf_ast.specs.Tree.{Tree, place_of}
+use Rattle.nf_ast.specs.Tree.{Tree}
 use Rattle.nf_pattern.specs.Wrapped.{wrapped}
 use Rattle.nf_pattern.specs.Whole.{IsPattern}
 use Rattle.nf_calls.specs.Placed.{Placed}
@@ -27,10 +27,6 @@ bare titles answer patterns = record { names = []; captured = []; functions = []
 abbrev pub OverBuilt : List (List ℕ) → (ℕ → List Plain → Option Plain) → (Env → Type 0) → Type 0
 OverBuilt titles answer P = (patterns : List (List ℕ)) × AreBuilt patterns × P (bare titles answer patterns)
 
--- the first place of a name, a function, an assignment or a pattern that isn't bound
-abbrev pub unbound_from : Env → Tree → Option Place
-unbound_from env e = unbound_in [] [] env.titles env.patterns e
-
 -- ---- values
 
 -- what has a fault isn't built, at the fault's place
@@ -39,7 +35,7 @@ evaluated (Ok v) = Ok v
 evaluated (Err f) = Err f.place
 
 abbrev pub value_from : Env → Tree → Built Plain
-value_from env e = after_place (unbound_from env e) (evaluated (eval_of e env))
+value_from env e = after_place (unbound_in env e) (evaluated (eval_of e env))
 
 abbrev pub range_mark : Place → InfixMark → Option Place
 range_mark p mark.Range = Some p
@@ -64,7 +60,7 @@ first_label _ = None
 
 -- a closure of statements
 abbrev pub closure_from : Env → Tree → Built Tree
-closure_from env (tree.closure p ps b) = after_place (first_label b) (unless (unbound_from env (tree.closure p ps b)) (tree.closure p ps b))
+closure_from env (tree.closure p ps b) = after_place (first_label b) (unless (unbound_in env (tree.closure p ps b)) (tree.closure p ps b))
 closure_from env e = Err (closure_place e)
 
 abbrev pub closure_in : Env → LeafTree → First → Built Tree

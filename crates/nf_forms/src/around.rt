@@ -1,27 +1,24 @@
 //! What the expressions of a script find: the functions of the program, and the patterns that are built.
 
-ghost use Rattle.std.specs.Prelude.{◌≡◌, ℕ, List, Option, IfOk};
-ghost use Rattle.nf_value.specs.Plain.{Plain};
+ghost use Rattle.std.specs.Prelude.{◌≡◌, IfOk};
 ghost use Rattle.nf_ast.specs.View.{view, view_closure};
 ghost use Rattle.nf_pattern.specs.Whole.{IsPattern};
 ghost use Rattle.nf_pattern.specs.Wrapped.{wrapped};
-ghost use Rattle.nf_eval.specs.Memory.{env_of};
-ghost use Rattle.nf_forms.specs.Values.{unbound_from};
+ghost use Rattle.nf_bound.specs.Bound.{unbound_in};
 
 use nf_ast::{Closure, Expr, Script, Stmt, Top, Workflow, WorkflowBody};
-use nf_bound::{Use, UseKind, stmts_uses, unbound, unbound_closure};
+use nf_bound::{unbound, unbound_closure};
 use nf_builtins::Natives;
 use nf_eval::Env;
 use nf_pattern::{PatternFault, WholeRe};
+use nf_uses::{Use, UseKind, stmts_uses};
 use nf_value::{Mem, Place, Txt};
 use std::alloc::Global;
 
-/// The environment of a script's expressions, with the texts of its patterns. The functions of the program come with each call.
+/// The environment of a script's expressions. The functions of the program come with each call.
 #[derive(Drop)]
 pub struct Around {
     env: Env,
-    patterns: Vec<Txt>,
-    ghost same: { (titles : List (List ℕ)) → (answer : (ℕ → List Plain → Option Plain)) → (env_of env titles answer).patterns ≡ patterns.items },
 }
 
 impl Around {
@@ -29,11 +26,11 @@ impl Around {
 
     /// No name has a value, and no pattern is built yet. Takes no memory.
     fn new(alloc: Global) -> Around
-        ensures { IsBare result.env result.patterns.items }
+        ensures { IsBare result.env }
     {
-        let env = Env::new(alloc);
-        let patterns = Vec::new(alloc);
-        Around { env, patterns }
+        Around {
+            env: Env::new(alloc),
+        }
     }
 
     /// The environment. Takes no memory.
@@ -47,8 +44,7 @@ impl Around {
     pub fn into_env(self) -> Env
         ensures { result ≡ self.env }
     {
-        let Around { env, .. } = self;
-        env
+        self.env
     }
 
     /// The first place, in the order of the text, of what an expression uses and nothing binds.
@@ -58,9 +54,9 @@ impl Around {
         natives: &N,
         expr: &Expr,
     ) -> Result<Option<Place>, Mem>
-        ensures { IfOk result (λ p. p ≡ unbound_from (view_around self.now (N.titles natives.now) (N.answer natives.now)) (view expr.now)) }
+        ensures { IfOk result (λ p. p ≡ unbound_in (view_around self.now (N.titles natives.now) (N.answer natives.now)) (view expr.now)) }
     {
-        unbound(alloc, expr, &[], &[], &self.patterns, natives)
+        unbound(alloc, expr, &self.env, natives)
     }
 
     /// The same of a closure.
@@ -70,17 +66,17 @@ impl Around {
         natives: &N,
         closure: &Closure,
     ) -> Result<Option<Place>, Mem>
-        ensures { IfOk result (λ p. p ≡ unbound_from (view_around self.now (N.titles natives.now) (N.answer natives.now)) (view_closure closure.now)) }
+        ensures { IfOk result (λ p. p ≡ unbound_in (view_around self.now (N.titles natives.now) (N.answer natives.now)) (view_closure closure.now)) }
     {
-        unbound_closure(alloc, closure, &[], &[], &self.patterns, natives)
+        unbound_closure(alloc, closure, &self.env, natives)
     }
 
     /// With the pattern of a text, unless it is there or `regex` refuses it.
     fn with_pattern(self, alloc: Global, text: Txt) -> Result<Around, Mem>
-        requires { IsBare self.env self.patterns.items }
-        ensures { IfOk result (λ a. IsBare a.env a.patterns.items) }
+        requires { IsBare self.env }
+        ensures { IfOk result (λ a. IsBare a.env) }
     {
-        if is_among(&self.patterns, text.as_str()) {
+        if self.env.has_pattern(text.as_str()) {
             return Ok(self);
         }
         match WholeRe::new(alloc, text.as_str()) {
@@ -93,24 +89,20 @@ impl Around {
 
     /// With a pattern of this text.
     fn with_built(self, re: WholeRe, text: Txt) -> Result<Around, Mem>
-        requires bare { IsBare self.env self.patterns.items }
+        requires bare { IsBare self.env }
         requires same { re ≡ text }
         requires pattern { IsPattern (wrapped text) }
-        ensures { IfOk result (λ a. IsBare a.env a.patterns.items) }
+        ensures { IfOk result (λ a. IsBare a.env) }
     {
-        let Around { env, patterns, .. } = self;
-        let mut env = env;
-        let mut patterns = patterns;
-        let held = text.copy()?;
-        env.add_pattern(held, re)?;
-        patterns.push(text)?;
-        Ok(Around { env, patterns })
+        let mut env = self.env;
+        env.add_pattern(text, re)?;
+        Ok(Around { env })
     }
 
     /// With the pattern that is used.
     fn with_use(self, alloc: Global, used: Use) -> Result<Around, Mem>
-        requires { IsBare self.env self.patterns.items }
-        ensures { IfOk result (λ a. IsBare a.env a.patterns.items) }
+        requires { IsBare self.env }
+        ensures { IfOk result (λ a. IsBare a.env) }
     {
         match used.kind {
             UseKind::Pattern => self.with_pattern(alloc, used.text),
@@ -120,8 +112,8 @@ impl Around {
 
     /// With the patterns of statements.
     fn with_body(self, alloc: Global, body: &[Stmt]) -> Result<Around, Mem>
-        requires { IsBare self.env self.patterns.items }
-        ensures { IfOk result (λ a. IsBare a.env a.patterns.items) }
+        requires { IsBare self.env }
+        ensures { IfOk result (λ a. IsBare a.env) }
     {
         let mut around = self;
         for used in stmts_uses(alloc, body)? {
@@ -132,8 +124,8 @@ impl Around {
 
     /// With the patterns of a workflow.
     fn with_top(self, alloc: Global, top: &Top) -> Result<Around, Mem>
-        requires { IsBare self.env self.patterns.items }
-        ensures { IfOk result (λ a. IsBare a.env a.patterns.items) }
+        requires { IsBare self.env }
+        ensures { IfOk result (λ a. IsBare a.env) }
     {
         match top {
             Top::Workflow(workflow) => self.with_body(alloc, statements_of(workflow)),
@@ -147,7 +139,7 @@ impl Around {
     ///
     /// `Mem` where there is no memory for it.
     pub fn of_script(alloc: Global, script: &Script) -> Result<Around, Mem>
-        ensures { IfOk result (λ a. IsBare a.env a.patterns.items) }
+        ensures { IfOk result (λ a. IsBare a.env) }
     {
         let mut around = Around::new(alloc);
         for top in &script.tops {
@@ -155,15 +147,6 @@ impl Around {
         }
         Ok(around)
     }
-}
-
-fn is_among(texts: &[Txt], text: &str) -> bool {
-    for other in texts {
-        if other.as_str() == text {
-            return true;
-        }
-    }
-    false
 }
 
 fn statements_of(workflow: &Workflow) -> &[Stmt] {

@@ -55,8 +55,8 @@ pub struct Tops {
 /// `Unbuilt` exactly where the script is of no such form, with the first place, in the order of the text, of what isn't built: of a
 /// script in which each workflow has a name, or that has none, 1:1; of a call that of its name; of a chain that ends
 /// too early where it begins, or its last method's name that has no arguments. In an item and in a closure that is what nothing binds: a name, a function, an assignment to a name
-/// that isn't defined there, and a pattern that `regex` refuses. An item in which all is bound may have a fault: then at the fault's place. `Mem` where there is no
-/// memory for the plan.
+/// that isn't defined there, a name that is defined a second time, and a pattern that `regex` refuses. An item in which all is bound may have a fault: then at the fault's place.
+/// `Mem` where there is no memory for the plan.
 pub fn plan_of<N: Natives>(alloc: Global, script: &Script, natives: &N) -> Result<Plan, FormFault>
     requires { N.keeps natives.now }
     // There are patterns that are built, over which the plan is the script's form.

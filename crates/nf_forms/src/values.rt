@@ -5,7 +5,7 @@ ghost use Rattle.nf_value.specs.View.{plain_of};
 ghost use Rattle.nf_ast.specs.View.{view, view_arg, view_operand, view_stmt, view_body, view_closure, trees};
 ghost use Rattle.nf_forms.specs.Built.{Builds, or_before};
 ghost use Rattle.nf_forms.specs.Leaf.{label_at};
-ghost use Rattle.nf_forms.specs.Values.{value_from, item_from, misplaced as misplaced_in, last_range as last_range_of, range_mark as range_mark_of, unless_followed as unless_followed_of, first_label as first_label_of, closure_from, lone_closure, unbound_from};
+ghost use Rattle.nf_forms.specs.Values.{value_from, item_from, misplaced as misplaced_in, last_range as last_range_of, range_mark as range_mark_of, unless_followed as unless_followed_of, first_label as first_label_of, closure_from, lone_closure};
 ghost use Rattle.nf_forms.specs.Memory.{view_around};
 
 use crate::around::Around;

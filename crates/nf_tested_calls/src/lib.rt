@@ -1,8 +1,6 @@
-//! Tests of tables, methods, marks, calls, uses and scopes of names.
+//! Tests of tables, methods, marks, calls and scopes of names.
 #![tactic(auto)]
 
-#[cfg(test)]
-mod bound;
 #[cfg(test)]
 mod builtins;
 #[cfg(test)]

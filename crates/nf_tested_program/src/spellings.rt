@@ -142,6 +142,14 @@ const UNBUILT: &[(&str, &str)] = &[
         "process P { input: val x; output: stdout; script: \"echo ${x.y}\" }\nworkflow { P(channel.of(1)).view() }",
         "1:61",
     ),
+    (
+        "workflow { channel.of(1).map { a, a -> 1 }.view() }",
+        "1:35",
+    ),
+    (
+        "workflow { channel.of(1).map { def x = it; def x = 2; x }.view() }",
+        "1:48",
+    ),
 ];
 
 #[test]

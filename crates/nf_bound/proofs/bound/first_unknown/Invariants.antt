@@ -1,8 +1,10 @@
-use Rattle.std.proofs.Common.{◌≡◌, ◌++◌, drop}
-use Rattle.nf_bound.specs.Bound.{Known, first_unknown}
+use Rattle.std.proofs.Common.{◌≡◌, drop}
+use Rattle.nf_calls.specs.Scope.{Env}
+use Rattle.nf_eval.specs.Memory.{env_of}
+use Rattle.nf_bound.specs.Bound.{first_unknown}
 use Rattle.nf_bound.proofs.bound.first_unknown.Given as goal
 
 abbrev pub invariant-loop-one : goal.invariant-loop-one
 invariant-loop-one g l =
-    let known : Known = record { names = l.names; functions = l.functions ++ g.N.Natives.titles l.natives; patterns = l.patterns } in
-    first_unknown known l.uses ≡ first_unknown known (drop l.one-index l.uses)
+    let env : Env = env_of l.env (g.N.Natives.titles l.natives) (g.N.Natives.answer l.natives) in
+    first_unknown env l.uses ≡ first_unknown env (drop l.one-index l.uses)

@@ -5,4 +5,4 @@ use Rattle.nf_forms.proofs.plan.plan_of.Goals as goal
 pub returns : goal.returns
 returns g c =
     let a = c.in_ok-around.around in
-    plan_over (g.N.Natives.titles c.args.natives.now) (g.N.Natives.answer c.args.natives.now) (view_script c.args.script.now) a.env a.patterns.items c.plan_around.result c.in_ok-around.ensures c.plan_around.ensures
+    plan_over (g.N.Natives.titles c.args.natives.now) (g.N.Natives.answer c.args.natives.now) (view_script c.args.script.now) a.env c.plan_around.result c.in_ok-around.ensures c.plan_around.ensures

@@ -2,4 +2,4 @@ use Rattle.nf_forms.specs.Memory.{IsBare}
 use Rattle.nf_forms.proofs.around.Around.of_script.Given as goal
 
 abbrev pub invariant-loop-top : goal.invariant-loop-top
-invariant-loop-top l = IsBare l.around.env l.around.patterns.items
+invariant-loop-top l = IsBare l.around.env

@@ -2,4 +2,4 @@ use Rattle.nf_forms.specs.Memory.{IsBare}
 use Rattle.nf_forms.proofs.around.Around.with_body.Given as goal
 
 abbrev pub invariant-loop-used : goal.invariant-loop-used
-invariant-loop-used l = IsBare l.around.env l.around.patterns.items
+invariant-loop-used l = IsBare l.around.env

@@ -1,0 +1,4 @@
+pub mod Chains
+pub mod Parts
+pub mod Alone
+pub mod Steps
