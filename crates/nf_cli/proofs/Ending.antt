@@ -8,7 +8,7 @@ use Rattle.nf_job.specs.declared.report.Report.{Report}
 use Rattle.nf_lane.specs.World.{World}
 use Rattle.nf_core.specs.declared.event.Event.{Event}
 use Rattle.nf_value.specs.Plain.{Plain}
-use Rattle.nf_calls.specs.Scope.{Env}
+use Rattle.nf_placed.specs.Scope.{Env}
 use Rattle.nf_forms.specs.Values.{OverBuilt, bare}
 use Rattle.nf_forms.specs.Form.{Form}
 use Rattle.nf_run.specs.Run.{state_after}

@@ -22,7 +22,7 @@ use Rattle.nf_words.specs.declared.command.RunWords.{RunWords}
 use Rattle.nf_words.specs.declared.command.FmtWords.{FmtWords}
 use Rattle.nf_forms.specs.Built.{Built, Builds}
 use Rattle.nf_value.specs.Plain.{Plain}
-use Rattle.nf_calls.specs.Scope.{Env}
+use Rattle.nf_placed.specs.Scope.{Env}
 use Rattle.nf_forms.specs.Values.{OverBuilt, bare}
 use Rattle.nf_forms.specs.Form.{Form, form_of}
 use Rattle.nf_forms.specs.View.{view_plan}

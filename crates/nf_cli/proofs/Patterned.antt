@@ -1,7 +1,7 @@
 -- What holds over some patterns that are built.
 use Rattle.std.proofs.Common.{ℕ, List, [], Option, rules}
 use Rattle.nf_value.specs.Plain.{Plain}
-use Rattle.nf_calls.specs.Scope.{Env}
+use Rattle.nf_placed.specs.Scope.{Env}
 use Rattle.nf_forms.specs.Values.{AreBuilt, OverBuilt, bare}
 
 none_built : AreBuilt []

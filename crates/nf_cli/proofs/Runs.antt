@@ -6,7 +6,7 @@ use Rattle.nf_words.specs.declared.fault.UsageFault.TheVariants as usage
 use Rattle.nf_words.specs.Words.{command_of, Reads}
 use Rattle.nf_host.specs.Files.{Files, no_files}
 use Rattle.nf_value.specs.Plain.{Plain}
-use Rattle.nf_calls.specs.Scope.{Env}
+use Rattle.nf_placed.specs.Scope.{Env}
 use Rattle.nf_forms.specs.Values.{OverBuilt, bare}
 use Rattle.nf_forms.specs.View.{view_plan}
 use Rattle.nf_ast.specs.Tops.{view_script}

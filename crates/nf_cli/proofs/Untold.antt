@@ -9,7 +9,7 @@ use Rattle.nf_words.specs.declared.command.Command.{Command}
 use Rattle.nf_lexer.specs.declared.fault.LexFault.TheVariants.{ScriptTooLong}
 use Rattle.nf_lexer.specs.Tokens.{most_bytes}
 use Rattle.nf_value.specs.Plain.{Plain}
-use Rattle.nf_calls.specs.Scope.{Env}
+use Rattle.nf_placed.specs.Scope.{Env}
 use Rattle.nf_forms.specs.Values.{OverBuilt, bare}
 use Rattle.nf_cli.specs.declared.texts.Request.{Request}
 use Rattle.nf_cli.specs.declared.ends.End.{End}

@@ -11,7 +11,7 @@ use Rattle.nf_core.specs.declared.event.Event.{Event}
 use Rattle.nf_core.specs.Machine.{starts}
 use Rattle.nf_run.specs.declared.runs.RunFault.{RunFault}
 use Rattle.nf_run.specs.declared.runs.RunFault.TheVariants as fault
-use Rattle.nf_calls.specs.Scope.{Env}
+use Rattle.nf_placed.specs.Scope.{Env}
 use Rattle.nf_forms.specs.Form.{Form}
 use Rattle.nf_forms.specs.View.{view_plan}
 use Rattle.nf_cli.specs.declared.texts.Request.{Request}

@@ -16,7 +16,7 @@ use Rattle.nf_core.specs.declared.event.Event.{Event}
 use Rattle.nf_core.specs.declared.event.Stop.{Stop}
 use Rattle.nf_core.specs.declared.event.Stop.TheVariants as stop
 use Rattle.nf_core.specs.Machine.{starts}
-use Rattle.nf_calls.specs.Scope.{Env}
+use Rattle.nf_placed.specs.Scope.{Env}
 use Rattle.nf_forms.specs.Form.{Form}
 use Rattle.nf_run.specs.Run.{IsHistoryOf, AreBooked, WentWell, HasItemFault, HasTaskFault, LostLane, meant, state_after}
 use Rattle.nf_cli.specs.declared.ends.End.{End}

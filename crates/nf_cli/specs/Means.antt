@@ -7,7 +7,7 @@ use Rattle.nf_words.specs.Words.{command_of, fmt}
 use Rattle.nf_host.specs.Files.{Files}
 use Rattle.nf_lexer.specs.Tokens.{Breaks}
 use Rattle.nf_forms.specs.Built.{Built}
-use Rattle.nf_calls.specs.Scope.{Env}
+use Rattle.nf_placed.specs.Scope.{Env}
 use Rattle.nf_forms.specs.Form.{Form, form_of}
 use Rattle.nf_cli.specs.Form.{IsScript, BreaksOff}
 use Rattle.nf_cli.specs.Outcome.{Outcome, runs, formats, misused, absent, unlexed, unparsed, unbuilt}

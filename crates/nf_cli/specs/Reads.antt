@@ -16,7 +16,7 @@ use Rattle.nf_forms.specs.declared.fault.FormFault.TheVariants as form_fault
 use Rattle.nf_forms.specs.declared.plan.Plan.{Plan}
 use Rattle.nf_words.specs.declared.command.Command.{Command}
 use Rattle.nf_forms.specs.Built.{Built}
-use Rattle.nf_calls.specs.Scope.{Env}
+use Rattle.nf_placed.specs.Scope.{Env}
 use Rattle.nf_forms.specs.Form.{Form}
 use Rattle.nf_forms.specs.View.{view_plan}
 use Rattle.nf_cli.specs.declared.ends.End.{End}

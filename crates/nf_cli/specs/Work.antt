@@ -6,7 +6,7 @@ use Rattle.nf_job.specs.declared.report.Report.{Report}
 use Rattle.nf_ast.specs.Tree.{Tree}
 use Rattle.nf_words.specs.declared.command.Command.{Command}
 use Rattle.nf_printer.specs.Tops.{canonical}
-use Rattle.nf_calls.specs.Scope.{Env}
+use Rattle.nf_placed.specs.Scope.{Env}
 use Rattle.nf_forms.specs.Form.{Form}
 use Rattle.nf_lane.specs.World.{World}
 use Rattle.nf_core.specs.declared.event.Event.{Event}

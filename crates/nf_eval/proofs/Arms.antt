@@ -8,9 +8,9 @@ use Rattle.nf_value.specs.declared.fault.EvalRefusal.TheVariants as refusal
 use Rattle.nf_ast.specs.Tree as tree
 use Rattle.nf_ast.specs.Tree.{Tree}
 use Rattle.nf_ast.specs.View.{ArmTree, choice}
-use Rattle.nf_calls.specs.Placed.{Placed, ◌>>=◌}
-use Rattle.nf_calls.specs.Scope.{Env}
-use Rattle.nf_calls.specs.Body.{Flow}
+use Rattle.nf_placed.specs.Placed.{Placed, ◌>>=◌}
+use Rattle.nf_placed.specs.Scope.{Env}
+use Rattle.nf_placed.specs.Body.{Flow}
 use Rattle.nf_eval.specs.declared.flow.Step.{Step}
 use Rattle.nf_eval.specs.declared.flow.Step.TheVariants as step
 use Rattle.nf_eval.specs.Evaluation.{meaning_of, chosen}

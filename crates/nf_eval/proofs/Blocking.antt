@@ -9,12 +9,12 @@ use Rattle.nf_value.specs.declared.fault.EvalKind.TheVariants.{WrongKind, Arity}
 use Rattle.nf_value.specs.declared.fault.EvalRefusal.{EvalRefusal}
 use Rattle.nf_value.specs.declared.fault.EvalRefusal.TheVariants as refusal
 use Rattle.nf_ast.specs.declared.tops.Function.{Function as Code}
-use Rattle.nf_marks.specs.Template.{listed}
-use Rattle.nf_calls.specs.declared.blocks.BlockMethod.{BlockMethod}
-use Rattle.nf_calls.specs.Placed.{Placed, Evaluates, fault}
-use Rattle.nf_calls.specs.Scope.{Env, function_in}
-use Rattle.nf_calls.specs.Calls.{Argument, plain, block, values_in, by_values, by_function, id_from, unfit_title, unfit_function, over_items, method_call, math_call, function_call, Callee, method, function, math, called}
-use Rattle.nf_calls.specs.Blocks.{row_method, IsFaultOfBlocks}
+use Rattle.nf_infix.specs.Template.{listed}
+use Rattle.nf_placed.specs.declared.blocks.BlockMethod.{BlockMethod}
+use Rattle.nf_placed.specs.Placed.{Placed, Evaluates, fault}
+use Rattle.nf_placed.specs.Scope.{Env, function_in}
+use Rattle.nf_placed.specs.Calls.{Argument, plain, block, values_in, by_values, by_function, id_from, unfit_title, unfit_function, over_items, method_call, math_call, function_call, Callee, method, function, math, called}
+use Rattle.nf_placed.specs.Blocks.{row_method, IsFaultOfBlocks}
 use Rattle.nf_eval.specs.Functions.{definition_of, definitions_in, function_of}
 use Rattle.nf_eval.specs.Memory.{IsHandedIn}
 use Rattle.nf_eval.proofs.Scripted.{as_many_names}

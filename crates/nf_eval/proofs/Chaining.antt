@@ -21,14 +21,14 @@ use Rattle.nf_ast.specs.declared.expr.ClosureBody.TheFolds.{fold_out-Postfix}
 use Rattle.nf_ast.specs.Tree as tree
 use Rattle.nf_ast.specs.Tree.{Tree}
 use Rattle.nf_ast.specs.View.{BranchTree, ArmTree, applied, postfix, operands, prefixes, trees, view_postfix, body_step, expr_step, piece_step, postfix_step, stmt_step, arg_step, arm_step, branch_step, closure_step, label_step, operand_step, pair_step}
-use Rattle.nf_calls.specs.Placed.{Placed, ◌>>=◌, fault, made, Evaluates}
-use Rattle.nf_calls.specs.Marked.{prefix_of}
-use Rattle.nf_calls.specs.Scope.{Env, value_of}
-use Rattle.nf_calls.specs.Calls.{Argument, block, Callee, nothing, method, function, math, no_function, called, method_call, function_call, math_call}
-use Rattle.nf_marks.specs.Read.{index}
-use Rattle.nf_calls.specs.Body.{pattern_in}
-use Rattle.nf_marks.specs.Property.{property}
-use Rattle.nf_calls.specs.Body.{is_math}
+use Rattle.nf_placed.specs.Placed.{Placed, ◌>>=◌, fault, made, Evaluates}
+use Rattle.nf_placed.specs.Marked.{prefix_of}
+use Rattle.nf_placed.specs.Scope.{Env, value_of}
+use Rattle.nf_placed.specs.Calls.{Argument, block, Callee, nothing, method, function, math, no_function, called, method_call, function_call, math_call}
+use Rattle.nf_infix.specs.Read.{index}
+use Rattle.nf_placed.specs.Body.{pattern_in}
+use Rattle.nf_infix.specs.Property.{property}
+use Rattle.nf_placed.specs.Body.{is_math}
 use Rattle.nf_eval.specs.Evaluation.{Arguments, meaning_of, binary, method_of, read_safe, safe_method, opening}
 use Rattle.nf_eval.specs.Shapes.{is_flat, is_closure, block_of}
 use Rattle.nf_eval.proofs.Shaping.{closure_argument}

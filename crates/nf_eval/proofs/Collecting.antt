@@ -11,9 +11,9 @@ use Rattle.nf_builtins.specs.declared.method.Method.{Method}
 use Rattle.nf_ast.specs.Tree as tree
 use Rattle.nf_ast.specs.Tree.{Tree}
 use Rattle.nf_ast.specs.View.{trees, with_name}
-use Rattle.nf_calls.specs.Placed.{Placed, ◌>>=◌, Evaluates}
-use Rattle.nf_calls.specs.Scope.{Env}
-use Rattle.nf_calls.specs.Calls.{Argument, plain, block, values_in, with_one, over_items}
+use Rattle.nf_placed.specs.Placed.{Placed, ◌>>=◌, Evaluates}
+use Rattle.nf_placed.specs.Scope.{Env}
+use Rattle.nf_placed.specs.Calls.{Argument, plain, block, values_in, with_one, over_items}
 use Rattle.nf_eval.specs.Evaluation.{meaning_of}
 use Rattle.nf_eval.specs.Shapes.{is_closure, block_of}
 use Rattle.nf_eval.specs.Gives.{Collects}

@@ -5,7 +5,7 @@ use Rattle.nf_value.specs.View.{plain_of}
 use Rattle.nf_value.specs.declared.value.Value.{Value}
 use Rattle.nf_value.specs.declared.fault.EvalRefusal.{EvalRefusal}
 use Rattle.nf_value.specs.declared.fault.EvalRefusal.TheVariants as refusal
-use Rattle.nf_calls.specs.Placed.{Placed, ◌>>=◌, Evaluates}
+use Rattle.nf_placed.specs.Placed.{Placed, ◌>>=◌, Evaluates}
 use Rattle.nf_eval.specs.Gives.{IsRefused}
 
 pub refused : (o : Placed Plain) (r : EvalRefusal) → Evaluates o (Err r) → IsRefused o r

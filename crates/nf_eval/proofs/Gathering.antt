@@ -1,7 +1,7 @@
 -- The values of a list, one after the other.
 use Rattle.std.proofs.Common.{◌≡◌, ◌∙◌, List, [], ◌∷◌, ◌++◌, Ok, Err, refl, sym, ap, append_assoc}
 use Rattle.nf_value.specs.Plain.{Plain}
-use Rattle.nf_calls.specs.Placed.{Placed, ◌>>=◌}
+use Rattle.nf_placed.specs.Placed.{Placed, ◌>>=◌}
 
 -- before all values there is none
 pub none_gathered : (r : Placed (List Plain)) → (r >>= λ ws. Ok ([] ++ ws)) ≡ r

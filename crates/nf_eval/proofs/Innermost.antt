@@ -3,8 +3,8 @@ use Rattle.std.proofs.Common.{◌≡◌, ◌∙◌, ℕ, ◌+◌, ◌<◌, List,
 use Rattle.std.proofs.lemmas.List.{take_more}
 use Rattle.nf_value.specs.Plain.{Plain}
 use Rattle.nf_ast.specs.declared.expr.Prefix.{Prefix}
-use Rattle.nf_calls.specs.Placed.{Placed, ◌>>=◌, made}
-use Rattle.nf_calls.specs.Marked.{prefix_of}
+use Rattle.nf_placed.specs.Placed.{Placed, ◌>>=◌, made}
+use Rattle.nf_placed.specs.Marked.{prefix_of}
 use Rattle.nf_eval.specs.Chains.{prefixed}
 
 marked_none : (r : Placed Plain) → r ≡ (r >>= prefixed [])

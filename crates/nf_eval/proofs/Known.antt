@@ -8,7 +8,7 @@ use Rattle.std.proofs.lemmas.Option.{none-some}
 use Rattle.std.proofs.lemmas.Slice.Eq.{bytes_eq-Decides}
 use Rattle.nf_value.specs.Plain.{Plain, null, truth}
 use Rattle.nf_builtins.specs.Natives.{is_among}
-use Rattle.nf_calls.specs.Scope.{Function, value_in, function_in}
+use Rattle.nf_placed.specs.Scope.{Function, value_in, function_in}
 
 abbrev keys : List (List ℕ × Plain) → List (List ℕ)
 keys bs = map (λ b. b.0) bs

@@ -7,7 +7,7 @@ use mathlib.Core.List.{reverse}
 use Rattle.nf_value.specs.Plain.{Plain}
 use Rattle.nf_value.specs.View.{plain_of, pair_of}
 use Rattle.nf_value.specs.declared.value.Value.{Value}
-use Rattle.nf_calls.specs.Scope.{value_in, rebound_in}
+use Rattle.nf_placed.specs.Scope.{value_in, rebound_in}
 use Rattle.nf_eval.specs.Latest.{bindings, HasNone, IsLatest}
 
 joined : (xs ys : List (List ℕ × Value)) → bindings (xs ++ ys) ≡ bindings ys ++ bindings xs

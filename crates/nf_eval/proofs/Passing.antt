@@ -8,9 +8,9 @@ use Rattle.nf_eval.specs.Gives.{IsRefused, IsPassed}
 use Rattle.nf_value.specs.Plain.{Plain}
 use Rattle.nf_ast.specs.Tree.{Tree}
 use Rattle.nf_ast.specs.View.{trees}
-use Rattle.nf_calls.specs.Placed.{Placed, ◌>>=◌}
-use Rattle.nf_calls.specs.Scope.{Env}
-use Rattle.nf_calls.specs.Calls.{Argument, plain, block, values_in, with_one}
+use Rattle.nf_placed.specs.Placed.{Placed, ◌>>=◌}
+use Rattle.nf_placed.specs.Scope.{Env}
+use Rattle.nf_placed.specs.Calls.{Argument, plain, block, values_in, with_one}
 use Rattle.nf_eval.specs.Evaluation.{meaning_of}
 
 -- both parts of what has a value have one

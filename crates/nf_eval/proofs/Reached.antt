@@ -4,8 +4,8 @@ use Rattle.nf_value.specs.declared.value.Value.{Value}
 use Rattle.nf_value.specs.declared.fault.EvalRefusal.{EvalRefusal}
 use Rattle.nf_value.specs.declared.fault.EvalRefusal.TheVariants as refusal
 use Rattle.nf_ast.specs.Tree.{Tree}
-use Rattle.nf_calls.specs.Placed.{Evaluates}
-use Rattle.nf_calls.specs.Scope.{Env}
+use Rattle.nf_placed.specs.Placed.{Evaluates}
+use Rattle.nf_placed.specs.Scope.{Env}
 use Rattle.nf_eval.specs.Evaluation.{eval_of}
 use Rattle.nf_eval.specs.Chains.{Comes}
 

@@ -8,9 +8,9 @@ use Rattle.nf_value.specs.View.{plain_of}
 use Rattle.nf_value.specs.declared.place.Place.{Place}
 use Rattle.nf_ast.specs.Tree as tree
 use Rattle.nf_ast.specs.Tree.{Tree}
-use Rattle.nf_calls.specs.Placed.{Placed, ◌>>=◌}
-use Rattle.nf_calls.specs.Scope.{Env, with_names, inside, defined}
-use Rattle.nf_calls.specs.Body.{Flow, going, returned, value_of_body, bound, with_all}
+use Rattle.nf_placed.specs.Placed.{Placed, ◌>>=◌}
+use Rattle.nf_placed.specs.Scope.{Env, with_names, inside, defined}
+use Rattle.nf_placed.specs.Body.{Flow, going, returned, value_of_body, bound, with_all}
 use Rattle.nf_eval.specs.declared.flow.Step.{Step}
 use Rattle.nf_eval.specs.declared.flow.Step.TheVariants as step
 use Rattle.nf_value.specs.declared.fault.EvalRefusal.{EvalRefusal}

@@ -15,10 +15,10 @@ use Rattle.nf_value.specs.declared.fault.EvalRefusal.TheVariants as refusal
 use Rattle.nf_ast.specs.declared.expr.Stmt.{Stmt, size-Stmt}
 use Rattle.nf_ast.specs.declared.tops.Function.{Function as Code}
 use Rattle.nf_ast.specs.View.{names, view_stmts}
-use Rattle.nf_calls.specs.Placed.{Placed, Evaluates, fault}
-use Rattle.nf_calls.specs.Scope.{Env, Function, function_in, with_names}
-use Rattle.nf_calls.specs.Calls.{by_function, native_call}
-use Rattle.nf_calls.specs.Body.{names_in, paired, with_all}
+use Rattle.nf_placed.specs.Placed.{Placed, Evaluates, fault}
+use Rattle.nf_placed.specs.Scope.{Env, Function, function_in, with_names}
+use Rattle.nf_placed.specs.Calls.{by_function, native_call}
+use Rattle.nf_placed.specs.Body.{names_in, paired, with_all}
 use Rattle.nf_eval.specs.Evaluation.{Definition, body_of, functions_of}
 use Rattle.nf_eval.specs.Functions.{definition_of, definitions_in, called_env, function_of, depth, depths}
 use Rattle.nf_eval.specs.Memory.{IsHandedIn}

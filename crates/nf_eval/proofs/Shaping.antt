@@ -16,10 +16,10 @@ use Rattle.nf_ast.specs.declared.expr.ClosureBody.TheFolds.{fold_out-Postfix, fo
 use Rattle.nf_ast.specs.Tree as tree
 use Rattle.nf_ast.specs.Tree.{Tree}
 use Rattle.nf_ast.specs.View.{BranchTree, ArmTree, Frame, asked, answered, preferred, ended, turned, framed, conditional, applied, postfix, operands, prefixes, view_postfix, view_operand, view_branch, body_step, expr_step, piece_step, postfix_step, stmt_step, arg_step, arm_step, branch_step, closure_step, label_step, operand_step, pair_step}
-use Rattle.nf_calls.specs.Placed.{◌>>=◌}
-use Rattle.nf_calls.specs.Scope.{Env}
-use Rattle.nf_calls.specs.Calls.{plain, block}
-use Rattle.nf_calls.specs.Body.{going, pattern_in}
+use Rattle.nf_placed.specs.Placed.{◌>>=◌}
+use Rattle.nf_placed.specs.Scope.{Env}
+use Rattle.nf_placed.specs.Calls.{plain, block}
+use Rattle.nf_placed.specs.Body.{going, pattern_in}
 use Rattle.nf_eval.specs.Evaluation.{meaning_of}
 use Rattle.nf_eval.specs.Shapes.{is_nil, is_closure, is_plain, is_flat, block_of}
 

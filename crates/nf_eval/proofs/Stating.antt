@@ -7,9 +7,9 @@ use Rattle.nf_value.specs.declared.place.Place.{Place}
 use Rattle.nf_value.specs.declared.fault.EvalRefusal.{EvalRefusal}
 use Rattle.nf_ast.specs.Tree as tree
 use Rattle.nf_ast.specs.Tree.{Tree}
-use Rattle.nf_calls.specs.Placed.{Placed, ◌>>=◌}
-use Rattle.nf_calls.specs.Scope.{Env, with_names}
-use Rattle.nf_calls.specs.Body.{Flow, going, names_in, split, with_all}
+use Rattle.nf_placed.specs.Placed.{Placed, ◌>>=◌}
+use Rattle.nf_placed.specs.Scope.{Env, with_names}
+use Rattle.nf_placed.specs.Body.{Flow, going, names_in, split, with_all}
 use Rattle.nf_eval.specs.declared.flow.Step.{Step}
 use Rattle.nf_eval.specs.declared.flow.Step.TheVariants as step
 use Rattle.nf_eval.specs.Evaluation.{meaning_of}

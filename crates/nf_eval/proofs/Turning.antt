@@ -12,8 +12,8 @@ use Rattle.nf_ast.specs.declared.marks.BranchMark.TheVariants as branch
 use Rattle.nf_ast.specs.Tree as tree
 use Rattle.nf_ast.specs.Tree.{Tree}
 use Rattle.nf_ast.specs.View.{BranchTree, Frame, asked, answered, preferred, ended, turned, framed, conditional}
-use Rattle.nf_calls.specs.Placed.{Placed, ◌>>=◌, fault, Evaluates}
-use Rattle.nf_calls.specs.Scope.{Env}
+use Rattle.nf_placed.specs.Placed.{Placed, ◌>>=◌, fault, Evaluates}
+use Rattle.nf_placed.specs.Scope.{Env}
 use Rattle.nf_eval.specs.Evaluation.{meaning_of, nowhere}
 use Rattle.std.specs.Prelude.{Result}
 use Rattle.nf_value.specs.declared.fault.EvalRefusal.{EvalRefusal}

@@ -10,9 +10,9 @@ use Rattle.nf_ast.specs.declared.marks.InfixMark.TheVariants as mark
 use Rattle.nf_ast.specs.declared.marks.PrefixMark.TheVariants as before
 use Rattle.nf_ast.specs.Tree as tree
 use Rattle.nf_ast.specs.Tree.{Tree, empty, cons}
-use Rattle.nf_marks.specs.Compare.{matches}
-use Rattle.nf_calls.specs.Placed.{fault, made}
-use Rattle.nf_calls.specs.Scope.{Env}
+use Rattle.nf_infix.specs.Compare.{matches}
+use Rattle.nf_placed.specs.Placed.{fault, made}
+use Rattle.nf_placed.specs.Scope.{Env}
 use Rattle.nf_eval.specs.Evaluation.{Closing, Definition, eval_of, apply_of, branch_of, labels_of}
 use Rattle.nf_eval.specs.Memory.{with_functions}
 

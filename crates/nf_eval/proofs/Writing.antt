@@ -2,8 +2,8 @@
 use Rattle.std.proofs.Common.{◌≡◌, ◌∙◌, ℕ, List, ◌∷◌, ◌++◌, Ok, Err, refl, sym, ap, append_assoc}
 use Rattle.nf_ast.specs.Tree.{Tree}
 use Rattle.nf_ast.specs.View.{trees}
-use Rattle.nf_calls.specs.Placed.{Placed, ◌>>=◌}
-use Rattle.nf_calls.specs.Scope.{Env}
+use Rattle.nf_placed.specs.Placed.{Placed, ◌>>=◌}
+use Rattle.nf_placed.specs.Scope.{Env}
 use Rattle.nf_eval.specs.Evaluation.{meaning_of}
 
 written_after : (r : Placed (List ℕ)) (t s : List ℕ) → ((r >>= λ u. Ok (s ++ u)) >>= λ u. Ok (t ++ u)) ≡ (r >>= λ u. Ok ((t ++ s) ++ u))

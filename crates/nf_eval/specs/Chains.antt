@@ -9,17 +9,17 @@ use Rattle.nf_value.specs.declared.fault.EvalRefusal.{EvalRefusal}
 use Rattle.nf_value.specs.declared.fault.EvalRefusal.TheVariants as refusal
 use Rattle.nf_value.specs.declared.place.Place.{Place}
 use Rattle.nf_value.specs.declared.fault.EvalKind.TheVariants.{WrongKind}
-use Rattle.nf_marks.specs.Property.{property}
+use Rattle.nf_infix.specs.Property.{property}
 use Rattle.nf_ast.specs.declared.marks.InfixMark.{InfixMark}
 use Rattle.nf_ast.specs.declared.expr.Prefix.{Prefix}
 use Rattle.nf_ast.specs.Tree as tree
 use Rattle.nf_ast.specs.Tree.{Tree}
-use Rattle.nf_calls.specs.Placed.{Placed, ◌>>=◌, fault, made}
-use Rattle.nf_calls.specs.Marked.{prefix_of}
-use Rattle.nf_calls.specs.Scope.{Env, value_of}
-use Rattle.nf_calls.specs.Calls.{Argument, Callee, nothing, method, function, math, no_function, called}
-use Rattle.nf_calls.specs.Body.{pattern_in}
-use Rattle.nf_calls.specs.Body.{is_math}
+use Rattle.nf_placed.specs.Placed.{Placed, ◌>>=◌, fault, made}
+use Rattle.nf_placed.specs.Marked.{prefix_of}
+use Rattle.nf_placed.specs.Scope.{Env, value_of}
+use Rattle.nf_placed.specs.Calls.{Argument, Callee, nothing, method, function, math, no_function, called}
+use Rattle.nf_placed.specs.Body.{pattern_in}
+use Rattle.nf_placed.specs.Body.{is_math}
 use Rattle.nf_eval.specs.Evaluation.{Arguments, nowhere, meaning_of, binary, read_safe, safe_method}
 use Rattle.nf_eval.specs.declared.subjects.Subject.{Subject}
 use Rattle.nf_eval.specs.declared.subjects.Subject.TheVariants as s

@@ -10,16 +10,16 @@ use Rattle.nf_ast.specs.declared.marks.InfixMark.{InfixMark}
 use Rattle.nf_ast.specs.declared.marks.InfixMark.TheVariants as mark
 use Rattle.nf_ast.specs.Tree as tree
 use Rattle.nf_ast.specs.Tree.{Tree, empty, cons, place_of}
-use Rattle.nf_marks.specs.Compare.{matches}
-use Rattle.nf_marks.specs.Literal.{new_list, new_map}
-use Rattle.nf_marks.specs.Property.{property}
-use Rattle.nf_marks.specs.Read.{index}
-use Rattle.nf_marks.specs.Template.{hole_text}
-use Rattle.nf_calls.specs.Placed.{Placed, ◌>>=◌, fault, made}
-use Rattle.nf_calls.specs.Marked.{infix_of, prefix_of}
-use Rattle.nf_calls.specs.Scope.{Env, Function, value_of, defined, rebound, left_by, inside}
-use Rattle.nf_calls.specs.Calls.{Argument, plain, block, Callee, nothing, method, function, math, no_function, called}
-use Rattle.nf_calls.specs.Body.{Flow, going, returned, value_of_body, name_in, key_text, pattern_in, is_math, names_in, bound, paired, split, with_all}
+use Rattle.nf_infix.specs.Compare.{matches}
+use Rattle.nf_infix.specs.Literal.{new_list, new_map}
+use Rattle.nf_infix.specs.Property.{property}
+use Rattle.nf_infix.specs.Read.{index}
+use Rattle.nf_infix.specs.Template.{hole_text}
+use Rattle.nf_placed.specs.Placed.{Placed, ◌>>=◌, fault, made}
+use Rattle.nf_placed.specs.Marked.{infix_of, prefix_of}
+use Rattle.nf_placed.specs.Scope.{Env, Function, value_of, defined, rebound, left_by, inside}
+use Rattle.nf_placed.specs.Calls.{Argument, plain, block, Callee, nothing, method, function, math, no_function, called}
+use Rattle.nf_placed.specs.Body.{Flow, going, returned, value_of_body, name_in, key_text, pattern_in, is_math, names_in, bound, paired, split, with_all}
 
 -- what arguments give where they stand
 abbrev pub Arguments : Type 0

@@ -4,8 +4,8 @@ use Rattle.nf_value.specs.Plain.{Plain}
 use Rattle.nf_ast.specs.declared.expr.Stmt.{Stmt, size-Stmt}
 use Rattle.nf_ast.specs.declared.tops.Function.{Function as Code}
 use Rattle.nf_ast.specs.View.{names, view_stmts}
-use Rattle.nf_calls.specs.Scope.{Env, Function}
-use Rattle.nf_calls.specs.Body.{names_in, paired, with_all}
+use Rattle.nf_placed.specs.Scope.{Env, Function}
+use Rattle.nf_placed.specs.Body.{names_in, paired, with_all}
 use Rattle.nf_eval.specs.Evaluation.{Definition, body_of, functions_of}
 
 abbrev pub definition_of : Code → Definition

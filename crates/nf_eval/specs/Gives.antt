@@ -6,14 +6,14 @@ use Rattle.nf_value.specs.View.{plain_of}
 use Rattle.nf_value.specs.declared.value.Value.{Value}
 use Rattle.nf_value.specs.declared.fault.EvalRefusal.{EvalRefusal}
 use Rattle.nf_value.specs.declared.fault.EvalRefusal.TheVariants as refusal
-use Rattle.nf_marks.specs.declared.gathered.Gathered.{Gathered}
-use Rattle.nf_marks.specs.declared.templates.Written.{Written}
-use Rattle.nf_marks.specs.Gathering.{IsGathered}
-use Rattle.nf_marks.specs.Template.{IsWritten}
-use Rattle.nf_calls.specs.Placed.{Placed}
-use Rattle.nf_calls.specs.Scope.{Env}
-use Rattle.nf_calls.specs.Calls.{Argument, plain, block, values_in}
-use Rattle.nf_calls.specs.Body.{Flow, going, returned}
+use Rattle.nf_infix.specs.declared.gathered.Gathered.{Gathered}
+use Rattle.nf_infix.specs.declared.templates.Written.{Written}
+use Rattle.nf_infix.specs.Gathering.{IsGathered}
+use Rattle.nf_infix.specs.Template.{IsWritten}
+use Rattle.nf_placed.specs.Placed.{Placed}
+use Rattle.nf_placed.specs.Scope.{Env}
+use Rattle.nf_placed.specs.Calls.{Argument, plain, block, values_in}
+use Rattle.nf_placed.specs.Body.{Flow, going, returned}
 use Rattle.nf_eval.specs.declared.flow.Step.{Step}
 use Rattle.nf_eval.specs.declared.flow.Step.TheVariants as step
 

@@ -3,7 +3,7 @@ use Rattle.std.specs.Prelude.{◌≡◌, ℕ, ◌<◌, List, ◌++◌, length, m
 use Rattle.nf_value.specs.Plain.{Plain}
 use Rattle.nf_value.specs.View.{plain_of, pair_of}
 use Rattle.nf_value.specs.declared.value.Value.{Value}
-use Rattle.nf_calls.specs.Scope.{value_in, rebound_in}
+use Rattle.nf_placed.specs.Scope.{value_in, rebound_in}
 use Rattle.nf_eval.specs.declared.scope.Scope.{Scope}
 
 abbrev pub bindings : List (List ℕ × Value) → List (List ℕ × Plain)

@@ -4,7 +4,7 @@ use Rattle.nf_value.specs.Plain.{Plain}
 use Rattle.nf_ast.specs.Tree as tree
 use Rattle.nf_ast.specs.Tree.{Tree}
 use Rattle.nf_ast.specs.declared.tops.Function.{Function as Code}
-use Rattle.nf_calls.specs.Scope.{Env, inside, with_names}
+use Rattle.nf_placed.specs.Scope.{Env, inside, with_names}
 use Rattle.nf_eval.specs.declared.patterns.Pattern.{Pattern}
 use Rattle.nf_eval.specs.declared.environment.Env.{Env as Stored}
 use Rattle.nf_eval.specs.declared.around.Around.{Around, fold-Around}

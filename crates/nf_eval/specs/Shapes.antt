@@ -4,8 +4,8 @@ use Rattle.nf_value.specs.Plain.{Plain}
 use Rattle.nf_value.specs.declared.fault.EvalKind.TheVariants.{WrongKind}
 use Rattle.nf_ast.specs.Tree as tree
 use Rattle.nf_ast.specs.Tree.{Tree}
-use Rattle.nf_calls.specs.Placed.{Placed, fault}
-use Rattle.nf_calls.specs.Scope.{Env}
+use Rattle.nf_placed.specs.Placed.{Placed, fault}
+use Rattle.nf_placed.specs.Scope.{Env}
 use Rattle.nf_eval.specs.Evaluation.{nowhere, meaning_of, closure}
 
 abbrev pub is_nil : {A : Type 0} → List A → Bool

@@ -5,9 +5,9 @@ ghost use Rattle.nf_value.specs.Plain.{Plain};
 ghost use Rattle.nf_value.specs.View.{plain_of};
 ghost use Rattle.nf_value.specs.declared.fault.EvalKind.TheVariants.{WrongKind};
 ghost use Rattle.nf_builtins.specs.Natives.{is_among};
-ghost use Rattle.nf_marks.specs.Compare.{matches};
-ghost use Rattle.nf_calls.specs.Placed.{Evaluates, made, fault};
-ghost use Rattle.nf_calls.specs.Scope.{value_of, function_in};
+ghost use Rattle.nf_infix.specs.Compare.{matches};
+ghost use Rattle.nf_placed.specs.Placed.{Evaluates, made, fault};
+ghost use Rattle.nf_placed.specs.Scope.{value_of, function_in};
 ghost use Rattle.nf_eval.specs.Functions.{definition_of, definitions_in, function_of, depth, depths};
 ghost use Rattle.nf_eval.specs.Memory.{seen, held, IsHandedIn};
 

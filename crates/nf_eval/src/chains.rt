@@ -14,7 +14,7 @@ use crate::shapes::{after_first, closure_next, no_branches, no_marks, no_operand
 use crate::subjects::Subject;
 use nf_ast::{Arg, Closure, Expr, Postfix};
 use nf_builtins::Natives;
-use nf_calls::index_value;
+use nf_placed::index_value;
 use nf_value::{EvalRefusal, Place, Value};
 use std::alloc::Global;
 

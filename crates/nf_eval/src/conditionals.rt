@@ -4,7 +4,7 @@ ghost use Rattle.std.specs.Prelude.{◌≡◌, ◌≤◌, suc, [], List, IfOk, m
 ghost use Rattle.nf_value.specs.View.{plain_of};
 ghost use Rattle.nf_ast.specs.Tree.{Tree};
 ghost use Rattle.nf_ast.specs.View.{view, view_branch, Frame, framed, conditional as conditional_tree};
-ghost use Rattle.nf_calls.specs.Placed.{Evaluates};
+ghost use Rattle.nf_placed.specs.Placed.{Evaluates};
 ghost use Rattle.nf_eval.specs.Evaluation.{meaning_of};
 ghost use Rattle.nf_eval.specs.Memory.{seen};
 ghost use Rattle.nf_eval.specs.Turns.{IsAt, Steps, waits};

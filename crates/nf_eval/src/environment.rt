@@ -5,17 +5,17 @@ ghost use Rattle.nf_value.specs.Plain.{Plain};
 ghost use Rattle.nf_value.specs.View.{plain_of};
 ghost use Rattle.nf_value.specs.declared.fault.EvalKind.TheVariants.{WrongKind};
 ghost use Rattle.nf_builtins.specs.Natives.{is_among};
-ghost use Rattle.nf_marks.specs.Compare.{matches};
-ghost use Rattle.nf_calls.specs.Placed.{Evaluates, made, fault};
-ghost use Rattle.nf_calls.specs.Scope.{names_in_scope, function_names};
+ghost use Rattle.nf_infix.specs.Compare.{matches};
+ghost use Rattle.nf_placed.specs.Placed.{Evaluates, made, fault};
+ghost use Rattle.nf_placed.specs.Scope.{names_in_scope, function_names};
 ghost use Rattle.nf_eval.specs.Memory.{texts_of};
 
 use crate::functions::function_named;
 use crate::patterns::Pattern;
 use crate::scope::Scope;
 use nf_ast::Function;
-use nf_calls::{fault_at, matches_value};
 use nf_pattern::WholeRe;
+use nf_placed::{fault_at, matches_value};
 use nf_value::{EvalKind, EvalRefusal, Mem, Place, Txt, Value};
 use std::alloc::Global;
 

@@ -1,7 +1,7 @@
 //! The value of an expression, and of a closure that is applied.
 
 ghost use Rattle.nf_ast.specs.View.{view};
-ghost use Rattle.nf_calls.specs.Placed.{Evaluates};
+ghost use Rattle.nf_placed.specs.Placed.{Evaluates};
 ghost use Rattle.nf_eval.specs.Evaluation.{eval_of, apply_of};
 ghost use Rattle.nf_eval.specs.Memory.{env_of};
 ghost use Rattle.nf_eval.specs.Closing.{closing_of};

@@ -2,7 +2,7 @@
 
 ghost use Rattle.std.specs.Prelude.{◌≡◌, ◌≤◌, ◌+◌, suc, ℕ, List, Option, None, Some, IfSome, MatchOption};
 ghost use Rattle.nf_value.specs.Plain.{Plain};
-ghost use Rattle.nf_calls.specs.Scope.{function_in};
+ghost use Rattle.nf_placed.specs.Scope.{function_in};
 ghost use Rattle.nf_eval.specs.Evaluation.{functions_of};
 ghost use Rattle.nf_eval.specs.Functions.{definition_of, definitions_in, function_of, depth, depths};
 

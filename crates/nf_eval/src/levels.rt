@@ -3,8 +3,8 @@
 ghost use Rattle.std.specs.Prelude.{map, Ok};
 ghost use Rattle.nf_value.specs.View.{plain_of};
 ghost use Rattle.nf_ast.specs.View.{view, view_operand};
-ghost use Rattle.nf_calls.specs.Placed.{Evaluates};
-ghost use Rattle.nf_calls.specs.Body.{pattern_in};
+ghost use Rattle.nf_placed.specs.Placed.{Evaluates};
+ghost use Rattle.nf_placed.specs.Body.{pattern_in};
 ghost use Rattle.nf_eval.specs.Evaluation.{meaning_of, matched as matched_of};
 ghost use Rattle.nf_eval.specs.Memory.{seen};
 ghost use Rattle.nf_eval.specs.Chains.{marked, going_on};
@@ -13,7 +13,7 @@ use crate::around::{Around, match_seen};
 use crate::shapes::pattern_text;
 use nf_ast::{Expr, InfixMark, Operand};
 use nf_builtins::Natives;
-use nf_calls::{fault_at, infix_value};
+use nf_placed::{fault_at, infix_value};
 use nf_value::{EvalKind, EvalRefusal, Place, Value, truth};
 use std::alloc::Global;
 

@@ -3,18 +3,18 @@
 ghost use Rattle.std.specs.Prelude.{◌≡◌, ℕ, Bool, true, List, Option, map, not};
 ghost use Rattle.nf_value.specs.Plain.{Plain};
 ghost use Rattle.nf_value.specs.View.{plain_of};
-ghost use Rattle.nf_marks.specs.Template.{listed as listed_of};
+ghost use Rattle.nf_infix.specs.Template.{listed as listed_of};
 ghost use Rattle.nf_ast.specs.Tree as tree;
 ghost use Rattle.nf_ast.specs.Tree.{Tree};
-ghost use Rattle.nf_calls.specs.Placed.{Evaluates, Placed};
-ghost use Rattle.nf_calls.specs.Scope.{Env};
+ghost use Rattle.nf_placed.specs.Placed.{Evaluates, Placed};
+ghost use Rattle.nf_placed.specs.Scope.{Env};
 ghost use Rattle.nf_eval.specs.Evaluation.{read_safe, safe_method};
 ghost use Rattle.nf_eval.specs.Memory.{seen};
 ghost use Rattle.nf_eval.specs.Chains.{has_value, value_at, given_at, is_math_at, callee_of, takes, Stands, Comes, Calls, Waits, IsCall};
 
 use crate::around::{Around, value_seen};
 use crate::subjects::{Called, Subject, Waiting};
-use nf_calls::{fault_at, property_value};
+use nf_placed::{fault_at, property_value};
 use nf_value::{EvalFault, EvalKind, EvalRefusal, Place, Txt, Value};
 use std::alloc::Global;
 

@@ -3,7 +3,7 @@
 ghost use Rattle.std.specs.Prelude.{◌≡◌, ◌∷◌, ◌-◌, ◌++◌, [], ℕ, List, MatchOption, OnOk, drop, length, map, reverse};
 ghost use Rattle.nf_value.specs.Plain.{Plain};
 ghost use Rattle.nf_value.specs.View.{plain_of, pair_of};
-ghost use Rattle.nf_calls.specs.Scope.{value_in, rebound_in};
+ghost use Rattle.nf_placed.specs.Scope.{value_in, rebound_in};
 ghost use Rattle.nf_eval.specs.Latest.{HasNone, IsLatest};
 
 use nf_value::{Mem, Txt, Value};

@@ -3,7 +3,7 @@
 ghost use Rattle.std.specs.Prelude.{◌≡◌, ◌∷◌, drop, map, not, Bool, List, MatchOption, Some, None};
 ghost use Rattle.nf_ast.specs.Tree.{Tree};
 ghost use Rattle.nf_ast.specs.View.{view, view_operand, view_branch, view_postfix};
-ghost use Rattle.nf_calls.specs.Body.{pattern_in};
+ghost use Rattle.nf_placed.specs.Body.{pattern_in};
 ghost use Rattle.nf_eval.specs.Chains.{closure_next as is_closure_next};
 ghost use Rattle.nf_eval.specs.Shapes.{is_nil, is_closure, is_plain};
 

@@ -4,13 +4,13 @@ ghost use Rattle.std.specs.Prelude.{◌≡◌, ◌≤◌, suc, [], List};
 ghost use Rattle.nf_value.specs.declared.place.Place.{Place as Mark};
 ghost use Rattle.nf_ast.specs.Tree.{Tree};
 ghost use Rattle.nf_ast.specs.View.{Frame, framed, turned, ended as ended_of};
-ghost use Rattle.nf_calls.specs.Placed.{Evaluates};
-ghost use Rattle.nf_calls.specs.Scope.{Env};
+ghost use Rattle.nf_placed.specs.Placed.{Evaluates};
+ghost use Rattle.nf_placed.specs.Scope.{Env};
 ghost use Rattle.nf_eval.specs.Evaluation.{meaning_of};
 ghost use Rattle.nf_eval.specs.Turns.{IsAt, IsNext, waits, next_waits};
 
 use nf_ast::BranchMark;
-use nf_calls::fault_at;
+use nf_placed::fault_at;
 use nf_value::{EvalKind, EvalRefusal, Place, Value, truth};
 
 /// How far a conditional expression was read. Of the conditions that are true so many wait for their `:`.

@@ -1,9 +1,9 @@
 //! Calls whose arguments are values.
 
 ghost use Rattle.std.specs.Prelude.{◌≡◌, ◌≤◌, ◌+◌, suc, ℕ, List, Some, Ok};
-ghost use Rattle.nf_calls.specs.Placed.{Evaluates};
-ghost use Rattle.nf_calls.specs.Scope.{function_in};
-ghost use Rattle.nf_calls.specs.Calls.{Argument, values_in, by_function, called as called_of};
+ghost use Rattle.nf_placed.specs.Placed.{Evaluates};
+ghost use Rattle.nf_placed.specs.Scope.{function_in};
+ghost use Rattle.nf_placed.specs.Calls.{Argument, values_in, by_function, called as called_of};
 ghost use Rattle.nf_eval.specs.Functions.{definition_of, definitions_in, function_of, depth, depths};
 ghost use Rattle.nf_eval.specs.Memory.{seen, held};
 ghost use Rattle.nf_eval.specs.Chains.{callee_of};
@@ -13,7 +13,7 @@ use crate::scope::Scope;
 use crate::subjects::Called;
 use nf_ast::Function;
 use nf_builtins::Natives;
-use nf_calls::{fault_at, math_value, method_value, native_value, paired};
+use nf_placed::{fault_at, math_value, method_value, native_value, paired};
 use nf_value::{EvalKind, EvalRefusal, Place, Vals, Value};
 use std::alloc::Global;
 

@@ -3,9 +3,9 @@
 ghost use Rattle.std.specs.Prelude.{map, IfOk, OnOk, ◌≡◌, ◌++◌, ℕ, List};
 ghost use Rattle.nf_value.specs.View.{plain_of};
 ghost use Rattle.nf_ast.specs.View.{view, views, view_pair, view_piece, trees, key_tree};
-ghost use Rattle.nf_marks.specs.Template.{IsWritten, hole_text};
-ghost use Rattle.nf_calls.specs.Placed.{Evaluates};
-ghost use Rattle.nf_calls.specs.Body.{Binds, key_text};
+ghost use Rattle.nf_infix.specs.Template.{IsWritten, hole_text};
+ghost use Rattle.nf_placed.specs.Placed.{Evaluates};
+ghost use Rattle.nf_placed.specs.Body.{Binds, key_text};
 ghost use Rattle.nf_eval.specs.Evaluation.{meaning_of, eval_of};
 ghost use Rattle.nf_eval.specs.Memory.{seen};
 ghost use Rattle.nf_eval.specs.Gives.{Gathers, Writes};
@@ -16,8 +16,8 @@ use crate::reading::read;
 use crate::shapes::closure_next;
 use nf_ast::{Expr, Key, Pair, Piece, Prefix};
 use nf_builtins::Natives;
-use nf_calls::{fault_at, gathered_value, map_value, prefix_value, text_value};
-use nf_marks::{Gathered, Written};
+use nf_infix::{Gathered, Written};
+use nf_placed::{fault_at, gathered_value, map_value, prefix_value, text_value};
 use nf_value::{EvalKind, EvalRefusal, Mem, Txt, Value};
 use std::alloc::Global;
 

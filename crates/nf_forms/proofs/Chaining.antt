@@ -7,7 +7,7 @@ use Rattle.nf_ast.specs.declared.expr.ClosureBody.TheOpen as o
 use Rattle.nf_ast.specs.Tree as tree
 use Rattle.nf_ast.specs.Tree.{Tree}
 use Rattle.nf_ast.specs.View.{BranchTree, conditional, operands, postfix, prefixes, applied, view_postfix, postfix_step}
-use Rattle.nf_calls.specs.Scope.{Env}
+use Rattle.nf_placed.specs.Scope.{Env}
 use Rattle.nf_forms.specs.Built.{Built, ◌>>=◌, then_at, unless}
 use Rattle.nf_forms.specs.Leaf.{LeafTree, leaf_of, followed, follows, or_at, alone, other, prefix_at, operand_at, branch_at, part_at, postfix_place}
 use Rattle.nf_forms.specs.Values.{misplaced, last_range, unless_followed}

@@ -4,7 +4,7 @@ use Rattle.nf_value.specs.declared.place.Place.{Place}
 use Rattle.nf_ast.specs.declared.expr.Arg.{Arg}
 use Rattle.nf_ast.specs.declared.expr.Stmt.{Stmt}
 use Rattle.nf_ast.specs.View.{view_arg, view_stmt, trees}
-use Rattle.nf_calls.specs.Scope.{Env}
+use Rattle.nf_placed.specs.Scope.{Env}
 use Rattle.nf_forms.specs.Items.{is_empty, single}
 use Rattle.nf_forms.specs.Links.{Role}
 use Rattle.nf_forms.specs.Form.{body_from, statement_from}

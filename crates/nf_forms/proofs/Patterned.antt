@@ -4,7 +4,7 @@ use Rattle.std.proofs.lemmas.List.Elements.{All-nil, All-push}
 use Rattle.nf_value.specs.Plain.{Plain}
 use Rattle.nf_pattern.specs.Whole.{IsPattern}
 use Rattle.nf_pattern.specs.Wrapped.{wrapped}
-use Rattle.nf_calls.specs.Scope.{Env}
+use Rattle.nf_placed.specs.Scope.{Env}
 use Rattle.nf_eval.specs.Evaluation.{Definition, functions_of}
 use Rattle.nf_eval.specs.Memory.{env_of, texts_of, definitions_of, with_pattern}
 use Rattle.nf_eval.specs.declared.environment.Env as memory

@@ -3,7 +3,7 @@ use Rattle.std.specs.Prelude.{List, [], ◌∷◌, Ok, Err}
 use Rattle.nf_ast.specs.Tree as tree
 use Rattle.nf_ast.specs.Tree.{Tree, place_of}
 use Rattle.nf_ast.specs.View.{view_closure}
-use Rattle.nf_calls.specs.Scope.{Env}
+use Rattle.nf_placed.specs.Scope.{Env}
 use Rattle.nf_forms.specs.declared.links.Role as declared_role
 use Rattle.nf_forms.specs.declared.links.Role.TheVariants as r
 use Rattle.nf_forms.specs.declared.links.Made as declared_made

@@ -7,7 +7,7 @@ use Rattle.nf_ast.specs.Tree.{Tree}
 use Rattle.nf_eval.specs.Evaluation.{Closing}
 use Rattle.nf_eval.specs.Memory.{closing}
 use Rattle.nf_process.specs.declared.process.ProcessSpec.{ProcessSpec}
-use Rattle.nf_calls.specs.Scope.{Env}
+use Rattle.nf_placed.specs.Scope.{Env}
 use Rattle.nf_forms.specs.Built.{Built, ◌>>=◌, then_at, first_place}
 use Rattle.nf_forms.specs.Leaf.{begins_at}
 use Rattle.nf_forms.specs.Links as link

@@ -1,7 +1,7 @@
 -- What expressions find, in memory.
 use Rattle.std.specs.Prelude.{◌≡◌, ℕ, List, Option}
 use Rattle.nf_value.specs.Plain.{Plain}
-use Rattle.nf_calls.specs.Scope.{Env}
+use Rattle.nf_placed.specs.Scope.{Env}
 use Rattle.nf_eval.specs.Memory.{env_of}
 use Rattle.nf_eval.specs.declared.environment.Env as memory
 use Rattle.nf_forms.specs.declared.around.Around.{Around}

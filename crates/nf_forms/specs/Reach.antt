@@ -5,7 +5,7 @@ use Rattle.nf_ast.specs.Tree as tree
 use Rattle.nf_ast.specs.Tree.{Tree}
 use Rattle.nf_forms.specs.declared.reach.Reach.{Reach}
 use Rattle.nf_forms.specs.declared.reach.Reach.TheVariants as reach
-use Rattle.nf_calls.specs.Scope.{Env}
+use Rattle.nf_placed.specs.Scope.{Env}
 use Rattle.nf_forms.specs.Built.{Built, ◌>>=◌}
 use Rattle.nf_forms.specs.Leaf.{begins_at}
 use Rattle.nf_forms.specs.Links.{Role, calling, Made, is_channel, name_in, link_from, given_made}

@@ -8,10 +8,10 @@ use Rattle.nf_ast.specs.Tree as tree
 use Rattle.nf_ast.specs.Tree.{Tree}
 use Rattle.nf_pattern.specs.Wrapped.{wrapped}
 use Rattle.nf_pattern.specs.Whole.{IsPattern}
-use Rattle.nf_calls.specs.Placed.{Placed}
-use Rattle.nf_calls.specs.Scope.{Env}
+use Rattle.nf_placed.specs.Placed.{Placed}
+use Rattle.nf_placed.specs.Scope.{Env}
 use Rattle.nf_eval.specs.Evaluation.{eval_of}
-use Rattle.nf_bound.specs.Bound.{unbound_in}
+use Rattle.nf_names_bound.specs.Bound.{unbound_in}
 use Rattle.nf_forms.specs.Built.{Built, ◌>>=◌, unless, after_place, around_place}
 use Rattle.nf_forms.specs.Leaf.{LeafTree, First, closure, leaf_of, closure_place, label_at}
 

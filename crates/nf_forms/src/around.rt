@@ -4,14 +4,14 @@ ghost use Rattle.std.specs.Prelude.{◌≡◌, IfOk};
 ghost use Rattle.nf_ast.specs.View.{view, view_closure};
 ghost use Rattle.nf_pattern.specs.Whole.{IsPattern};
 ghost use Rattle.nf_pattern.specs.Wrapped.{wrapped};
-ghost use Rattle.nf_bound.specs.Bound.{unbound_in};
+ghost use Rattle.nf_names_bound.specs.Bound.{unbound_in};
 
 use nf_ast::{Closure, Expr, Script, Stmt, Top, Workflow, WorkflowBody};
-use nf_bound::{unbound, unbound_closure};
 use nf_builtins::Natives;
 use nf_eval::Env;
+use nf_names_bound::{unbound, unbound_closure};
+use nf_names_used::{Use, UseKind, stmts_uses};
 use nf_pattern::{PatternFault, WholeRe};
-use nf_uses::{Use, UseKind, stmts_uses};
 use nf_value::{Mem, Place, Txt};
 use std::alloc::Global;
 

@@ -7,7 +7,7 @@ use Rattle.nf_value.specs.declared.fault.EvalKind.TheVariants.{DivZero}
 use Rattle.nf_builtins.specs.Natives.{program_names, program_answer}
 use Rattle.nf_ast.specs.Tree as tree
 use Rattle.nf_ast.specs.Tree.{Tree, empty, cons}
-use Rattle.nf_calls.specs.Scope.{Env}
+use Rattle.nf_placed.specs.Scope.{Env}
 use Rattle.nf_eval.specs.Evaluation.{Closing}
 use Rattle.nf_run.specs.Meaning.{chain_images}
 

@@ -4,8 +4,8 @@ use Rattle.nf_value.specs.View.{plain_of, pair_of}
 use Rattle.nf_ast.specs.declared.expr.Expr.{the_lemmas as expr_lemmas, Expr}
 use Rattle.nf_ast.specs.Tree.{Tree}
 use Rattle.nf_ast.specs.View.{view, views, view_operand, view_branch, view_postfix, prefixes, operands, conditional, postfix, view_piece, trees, framed, ended, applied, view_closure, view_arg, with_name, view_body, params_tree, view_stmt, view_stmts, view_arm, choice, names}
-use Rattle.nf_calls.specs.Placed.{Evaluates, Placed, ◌>>=◌, made}
-use Rattle.nf_calls.specs.Scope.{Env, Function, value_of, inside, with_names}
+use Rattle.nf_placed.specs.Placed.{Evaluates, Placed, ◌>>=◌, made}
+use Rattle.nf_placed.specs.Scope.{Env, Function, value_of, inside, with_names}
 use Rattle.nf_eval.specs.Evaluation.{eval_of, meaning_of, matched, opening, body_of}
 use Rattle.nf_eval.specs.Memory.{seen, held}
 use Rattle.nf_eval.specs.Chains.{prefixed, going_on, closure_next, Stands, Comes, value_at, applied_at, callee_of, and_more}
@@ -15,14 +15,14 @@ use Rattle.nf_eval.proofs.Evaluating.{refused, fault_first, value_first, same, r
 use Rattle.nf_eval.proofs.Turning.{steps_refused, steps_fault}
 use Rattle.nf_eval.proofs.Reached.{comes_refused}
 use Rattle.nf_ast.specs.declared.expr.Piece.{Piece, the_lemmas as piece_lemmas}
-use Rattle.nf_marks.specs.Template.{IsWritten, hole_text}
+use Rattle.nf_infix.specs.Template.{IsWritten, hole_text}
 use Rattle.nf_eval.proofs.Lefts.{left_here, none_left}
 use Rattle.nf_eval.proofs.Writing.{writes_on}
 use Rattle.nf_eval.proofs.Gathering.{none_gathered, gathers_one}
 use Rattle.nf_eval.proofs.+value.Goals.{values::text-in-Plain+in_ok-push-in-Plain, values::text-in-Hole+in_ok-value-in-Hole+in_ok-put_hole-in-Hole, calls::arguments-in-Some+in_ok-push-in-Some, calls::arguments-in-None}
 use Rattle.std.proofs.lemmas.Bool.{false≢true}
 use Rattle.std.specs.Prelude.{Option, Some, not, option_map}
-use Rattle.nf_calls.specs.Body.{pattern_in, names_in, split, paired}
+use Rattle.nf_placed.specs.Body.{pattern_in, names_in, split, paired}
 use Rattle.nf_ast.specs.declared.marks.BranchMark.{BranchMark}
 use Rattle.nf_ast.specs.declared.expr.Branch.{Branch, the_lemmas as branch_lemmas}
 use Rattle.nf_eval.specs.Shapes.{is_nil, is_flat, is_closure, block_of}
@@ -30,9 +30,9 @@ use Rattle.nf_eval.proofs.Shaping.{prefixes_none, prefixes_some, operands_none, 
 use Rattle.nf_value.specs.declared.fault.EvalRefusal.{EvalRefusal}
 use Rattle.nf_ast.specs.declared.expr.Postfix.{Postfix, the_lemmas as postfix_lemmas}
 use Rattle.nf_eval.specs.declared.subjects.Subject.{Subject}
-use Rattle.nf_marks.specs.Read.{index}
+use Rattle.nf_infix.specs.Read.{index}
 use Rattle.std.proofs.lemmas.List.{length-map}
-use Rattle.nf_calls.specs.Calls.{called, images_of, plain, block, method, math, over_items, function, by_function}
+use Rattle.nf_placed.specs.Calls.{called, images_of, plain, block, method, math, over_items, function, by_function}
 use Rattle.nf_eval.proofs.Passing.{as_many, passed_refused, alone, no_values, one_more, none_before}
 use Rattle.nf_ast.specs.declared.expr.Closure.{the_lemmas as closure_lemmas}
 use Rattle.nf_value.specs.declared.value.Value.{Value}
@@ -46,7 +46,7 @@ use Rattle.nf_eval.specs.Functions.{definitions_in, called_env, depth, depths}
 use Rattle.nf_eval.specs.declared.around.Around.TheVariants as around
 use Rattle.nf_ast.specs.declared.expr.Stmt.{size-Stmt}
 use denote.Param.Weighed.{most}
-use Rattle.nf_calls.specs.Blocks.{row_method}
+use Rattle.nf_placed.specs.Blocks.{row_method}
 use Rattle.nf_eval.specs.Latest.{names_of}
 use Rattle.nf_eval.proofs.Running.{applied_is, goes_on, returns_from, stops_at, flows_refused, block_flows, block_refused}
 use Rattle.nf_ast.specs.declared.expr.Stmt.{Stmt, the_lemmas as stmt_lemmas}

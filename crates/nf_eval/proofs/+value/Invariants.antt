@@ -1,17 +1,17 @@
 use Rattle.std.proofs.Common.{◌+◌, ◌*◌, ◌≡◌, ◌++◌, map, drop, List, [], Ok, ◌≤◌, ℕ}
 use Rattle.nf_value.specs.View.{plain_of, pair_of}
 use Rattle.nf_ast.specs.View.{views, trees, view_pair, view_piece, view_operand, Frame, conditional, view_branch, postfix, view_postfix, view_arg, view_closure, view_stmts, choice, view_arm, view_label}
-use Rattle.nf_calls.specs.Placed.{◌>>=◌}
+use Rattle.nf_placed.specs.Placed.{◌>>=◌}
 use Rattle.nf_eval.specs.Evaluation.{meaning_of}
-use Rattle.nf_marks.specs.Gathering.{IsGathered}
-use Rattle.nf_marks.specs.Template.{IsWritten}
+use Rattle.nf_infix.specs.Gathering.{IsGathered}
+use Rattle.nf_infix.specs.Template.{IsWritten}
 use Rattle.nf_eval.specs.Chains.{going_on, closure_next, IsReady, Stands}
 use Rattle.nf_ast.specs.Tree.{Tree}
 use Rattle.nf_eval.specs.Turns.{IsAt, waits}
-use Rattle.nf_calls.specs.Calls.{Argument, any_of, every_of, found_of, all_found, images_of}
+use Rattle.nf_placed.specs.Calls.{Argument, any_of, every_of, found_of, all_found, images_of}
 use Rattle.nf_eval.specs.Gives.{Collects}
 use Rattle.nf_eval.specs.Shapes.{block_of}
-use Rattle.nf_calls.specs.Scope.{with_names, inside}
+use Rattle.nf_placed.specs.Scope.{with_names, inside}
 use Rattle.nf_eval.specs.Latest.{names_of}
 use Rattle.nf_eval.specs.Memory.{seen, held}
 use Rattle.nf_eval.specs.Functions.{depths}

@@ -1,6 +1,6 @@
 use Rattle.std.proofs.Common.{◌≡◌, sym, subst, rules}
 use Rattle.std.specs.Prelude.{None, Some, MatchOption}
-use Rattle.nf_calls.specs.Scope.{Env, function_in, with_names, inside}
+use Rattle.nf_placed.specs.Scope.{Env, function_in, with_names, inside}
 use Rattle.nf_eval.specs.declared.around.Around.{the_lemmas}
 use Rattle.nf_eval.specs.Latest.{names_of}
 use Rattle.nf_eval.specs.Functions.{definition_of, definitions_in, function_of}

@@ -1,5 +1,5 @@
 use Rattle.std.proofs.Common.{◌≡◌, ◌∙◌, ap, rules}
-use Rattle.nf_calls.specs.Scope.{Env, with_names, inside}
+use Rattle.nf_placed.specs.Scope.{Env, with_names, inside}
 use Rattle.nf_eval.specs.declared.around.Around.{the_lemmas}
 use Rattle.nf_eval.specs.Latest.{names_of}
 use Rattle.nf_eval.specs.Functions.{definitions_in, called_env}

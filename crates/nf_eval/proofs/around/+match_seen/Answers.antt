@@ -4,9 +4,9 @@ use Rattle.nf_value.specs.Plain.{Plain}
 use Rattle.nf_value.specs.View.{plain_of}
 use Rattle.nf_value.specs.declared.fault.EvalKind.TheVariants.{WrongKind}
 use Rattle.nf_builtins.specs.Natives.{is_among}
-use Rattle.nf_marks.specs.Compare.{matches}
-use Rattle.nf_calls.specs.Placed.{Evaluates, made, fault}
-use Rattle.nf_calls.specs.Scope.{Env, with_names, inside}
+use Rattle.nf_infix.specs.Compare.{matches}
+use Rattle.nf_placed.specs.Placed.{Evaluates, made, fault}
+use Rattle.nf_placed.specs.Scope.{Env, with_names, inside}
 use Rattle.nf_eval.specs.declared.around.Around.{the_lemmas}
 use Rattle.nf_eval.specs.Latest.{names_of}
 use Rattle.nf_eval.specs.Functions.{definitions_in, called_env}

@@ -4,7 +4,7 @@ use Rattle.std.proofs.lemmas.Result.{IfOk-weaker}
 use Rattle.std.proofs.lemmas.List.{append-nil}
 use Rattle.nf_value.specs.Plain.{Plain}
 use Rattle.nf_value.specs.View.{plain_of}
-use Rattle.nf_calls.specs.Scope.{value_in, value_of, with_names, inside}
+use Rattle.nf_placed.specs.Scope.{value_in, value_of, with_names, inside}
 use Rattle.nf_eval.specs.declared.around.Around.{the_lemmas}
 use Rattle.nf_eval.specs.Latest.{names_of}
 use Rattle.nf_eval.specs.Functions.{definitions_in, called_env}

@@ -1,7 +1,7 @@
 use Rattle.std.proofs.Common.{◌≡◌, ◌∙◌, suc, ◌<◌, ◌-◌, List, length, take, true, false, ap, sym, arith}
 use Rattle.std.specs.Str.{bytes_eq}
 use Rattle.std.proofs.lemmas.List.{length-take}
-use Rattle.nf_calls.specs.Scope.{function_in}
+use Rattle.nf_placed.specs.Scope.{function_in}
 use Rattle.nf_eval.specs.Evaluation.{Definition, functions_of}
 use Rattle.nf_eval.specs.Functions.{definition_of, definitions_in}
 use Rattle.nf_eval.proofs.Scripted.{depths_at, latest, this_one, not_this}

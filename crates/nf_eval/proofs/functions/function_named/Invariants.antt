@@ -1,7 +1,7 @@
 use Rattle.std.proofs.Common.{◌≡◌, ◌≤◌, ℕ, List, length}
 use Rattle.std.specs.Prelude.{Option}
 use Rattle.nf_value.specs.Plain.{Plain}
-use Rattle.nf_calls.specs.Scope.{function_in}
+use Rattle.nf_placed.specs.Scope.{function_in}
 use Rattle.nf_eval.specs.Evaluation.{functions_of}
 use Rattle.nf_eval.specs.Functions.{definitions_in, depths}
 use Rattle.nf_eval.proofs.functions.function_named.Given as goal

@@ -1,5 +1,5 @@
 use Rattle.std.proofs.Common.{◌∙◌, sym}
-use Rattle.nf_marks.proofs.Members.{items_of-plains_of}
+use Rattle.nf_infix.proofs.Members.{items_of-plains_of}
 use Rattle.nf_eval.proofs.reading.listed.Goals as goal
 
 pub returns-in-List : goal.returns-in-List

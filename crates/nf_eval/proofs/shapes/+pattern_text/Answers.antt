@@ -1,7 +1,7 @@
 use Rattle.std.proofs.Common.{◌≡◌, ◌∙◌, [], map, ap, sym, rules}
 use Rattle.nf_ast.specs.declared.expr.Expr.{the_lemmas}
 use Rattle.nf_ast.specs.View.{view, view_operand, view_branch, view_postfix, prefixes, operands, conditional, postfix}
-use Rattle.nf_calls.specs.Body.{pattern_in}
+use Rattle.nf_placed.specs.Body.{pattern_in}
 use Rattle.nf_eval.specs.Shapes.{is_nil}
 use Rattle.nf_eval.proofs.Shaping.{prefixes_none, prefixes_some, operands_none, operands_some, conditional_none, conditional_some, postfix_none, postfix_some}
 use Rattle.nf_eval.proofs.shapes.+pattern_text.Goals as goal

@@ -4,7 +4,7 @@ use Rattle.nf_value.specs.View.{plain_of}
 use Rattle.nf_eval.specs.declared.turns.Turn.{Turn}
 use Rattle.nf_value.specs.declared.fault.EvalRefusal.{EvalRefusal}
 use Rattle.nf_ast.specs.View.{ended}
-use Rattle.nf_calls.specs.Placed.{Evaluates}
+use Rattle.nf_placed.specs.Placed.{Evaluates}
 use Rattle.nf_eval.specs.Evaluation.{meaning_of}
 use Rattle.nf_eval.specs.Turns.{IsAt}
 use Rattle.nf_eval.proofs.Turning.{open_ends, shut_ends}

@@ -1,5 +1,0 @@
-use Rattle.nf_calls.proofs.Placing.{turned}
-use Rattle.nf_calls.proofs.marked.turned.Goals as goal
-
-pub returns-in-Not : goal.returns-in-Not
-returns-in-Not c = rw c.in-Not.is (turned c.truth.result _ c.truth.ensures)

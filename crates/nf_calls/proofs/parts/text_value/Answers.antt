@@ -1,7 +1,0 @@
-use Rattle.std.specs.Prelude.{Ok}
-use Rattle.nf_value.specs.Plain.{text}
-use Rattle.nf_calls.proofs.Placing.{evaluates}
-use Rattle.nf_calls.proofs.parts.text_value.Goals as goal
-
-pub returns : goal.returns
-returns c = λ t w. evaluates c.args.place (Ok (text t)) c.end.result c.placed.result c.placed.ensures (c.end.ensures t w)

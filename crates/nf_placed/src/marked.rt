@@ -1,0 +1,97 @@
+//! Marks at their places.
+
+ghost use Rattle.nf_value.specs.View.{plain_of};
+ghost use Rattle.nf_texts.specs.Outcome.{Gives};
+ghost use Rattle.nf_infix.specs.Compare.{matches as matches_of};
+ghost use Rattle.nf_placed.specs.Placed.{Evaluates, made};
+ghost use Rattle.nf_placed.specs.Marked.{infix_of, prefix_of};
+
+use crate::places::placed;
+use nf_ast::{InfixMark, PrefixMark};
+use nf_builtins::CallFault;
+use nf_infix::{
+    at_least, at_most, differs, greater, is_in, less, matches, minus, negative, plus, range,
+    remainder, same, times,
+};
+use nf_pattern::WholeRe;
+use nf_value::{EvalKind, EvalRefusal, Place, Value, truth};
+use std::alloc::Global;
+
+/// What a mark between two values gives, where both are evaluated and none of them has to be a pattern (Nextflow reference documentation, "Syntax",
+/// "Binary expressions").
+///
+/// # Errors
+///
+/// The fault of the mark at its place: `WrongKind` of values that it isn't for, and always of `||`, `&&`, `==~` and `|`, which are no marks of two
+/// values; `Overflow`, `DivZero`, `TooLarge` and `TooDeep` as `nf_infix` has them. `Mem` where there is no memory for the value.
+pub fn infix_value(
+    alloc: Global,
+    place: Place,
+    mark: InfixMark,
+    left: Value,
+    right: Value,
+) -> Result<Value, EvalRefusal>
+    ensures { Evaluates (made place (infix_of mark (plain_of left) (plain_of right))) result }
+{
+    placed(place, between(alloc, mark, left, right))
+}
+
+fn between(alloc: Global, mark: InfixMark, left: Value, right: Value) -> Result<Value, CallFault>
+    ensures { Gives (infix_of mark (plain_of left) (plain_of right)) result }
+{
+    match mark {
+        InfixMark::Same => same(&left, &right),
+        InfixMark::Differs => differs(&left, &right),
+        InfixMark::Less => less(&left, &right),
+        InfixMark::AtMost => at_most(&left, &right),
+        InfixMark::Greater => greater(&left, &right),
+        InfixMark::AtLeast => at_least(&left, &right),
+        InfixMark::In => is_in(&left, &right),
+        InfixMark::Range => range(alloc, &left, &right),
+        InfixMark::Plus => plus(alloc, left, right),
+        InfixMark::Minus => minus(left, &right),
+        InfixMark::Times => times(&left, &right),
+        InfixMark::Remainder => remainder(&left, &right),
+        InfixMark::Or | InfixMark::And | InfixMark::Pipe | InfixMark::Matches => {
+            Err(CallFault::Kind(EvalKind::WrongKind))
+        }
+    }
+}
+
+/// `a ==~ re` at the place of the mark: whether a whole text matches a regular expression (Nextflow reference documentation, "Syntax", "Binary
+/// expressions").
+///
+/// # Errors
+///
+/// `WrongKind` at its place where the value is no text (own). `Mem` for want of memory, which each search needs for itself.
+pub fn matches_value(
+    alloc: Global,
+    place: Place,
+    value: &Value,
+    re: &WholeRe,
+) -> Result<Value, EvalRefusal>
+    ensures { Evaluates (made place (matches_of (plain_of value.now) re.now)) result }
+{
+    placed(place, matches(alloc, value, re))
+}
+
+/// What a mark before a value gives (Nextflow reference documentation, "Syntax", "Unary expressions").
+///
+/// # Errors
+///
+/// The fault of the mark at its place: `WrongKind` of `-` before what is no number, `Overflow` where its negation leaves 64 signed bits (own). Takes
+/// no memory.
+pub fn prefix_value(place: Place, mark: PrefixMark, value: &Value) -> Result<Value, EvalRefusal>
+    ensures { Evaluates (made place (prefix_of mark (plain_of value.now))) result }
+{
+    placed(place, turned(mark, value))
+}
+
+fn turned(mark: PrefixMark, value: &Value) -> Result<Value, CallFault>
+    ensures { Gives (prefix_of mark (plain_of value.now)) result }
+{
+    match mark {
+        PrefixMark::Not => Ok(Value::Truth(!truth(value))),
+        PrefixMark::Minus => negative(value),
+    }
+}

@@ -1,5 +1,0 @@
-use Rattle.nf_roundtrip.proofs.Reading.{fixed, once}
-use Rattle.nf_roundtrip.proofs.laws.formatted_once.Goals as goal
-
-pub returns : goal.returns
-returns c = record { fixed = fixed; same = once c.one_list.ensures c.one_tree.ensures }

@@ -1,5 +1,0 @@
-use Rattle.nf_roundtrip.proofs.Told.{is_told, is_told_at_length}
-use Rattle.nf_roundtrip.proofs.laws.printed_spells_again.Goals as goal
-
-pub returns : goal.returns
-returns c = record { told = is_told; at_length = is_told_at_length }

@@ -1,7 +1,0 @@
-use Rattle.std.proofs.Common.{◌≡◌, ◌++◌, drop}
-use Rattle.nf_ast.specs.View.{names}
-use Rattle.nf_uses.specs.Uses.{again_uses}
-use Rattle.nf_uses.proofs.again.put_agains.Given as goal
-
-abbrev pub invariant-loop-place : goal.invariant-loop-place
-invariant-loop-place l = l.out.items ++ again_uses l.before.items (names (drop l.place-index l.names)) ≡ l.initial.out.items ++ again_uses l.known (names l.names)
