@@ -1,7 +1,7 @@
 -- What tokens of a canonical text come to.
 use Rattle.std.proofs.Common.{◌≡◌, ◌≢◌, ◌≤◌, ◌<◌, ◌↔◌, ℕ, List, length, Result, Ok, Err, IfOk, sym, subst, ap, ◌∙◌, refl, arith}
 use Rattle.nf_value.specs.declared.place.Place.{Place}
-use Rattle.nf_lexer.specs.declared.token.Lexeme.{Lexeme}
+use Rattle.nf_token.specs.declared.token.Lexeme.{Lexeme}
 use Rattle.nf_lexer.specs.declared.fault.LexFault.{LexFault}
 use Rattle.nf_lexer.specs.declared.fault.LexFault.TheVariants as lex
 use Rattle.nf_lexer.specs.Tokens.{IsTokensOf, Breaks, too_long, breaks_at, Refuses, most_bytes}

@@ -1,6 +1,6 @@
 -- The canonical text of a script that some text spells has tokens that spell it again.
 use Rattle.std.proofs.Common.{◌≤◌, ℕ, List, [], length, refl}
-use Rattle.nf_lexer.specs.declared.token.Lexeme.{Lexeme}
+use Rattle.nf_token.specs.declared.token.Lexeme.{Lexeme}
 use Rattle.nf_lexer.specs.Place.{place_after}
 use Rattle.nf_lexer.specs.Tokens.{IsTokensOf, most_bytes}
 use Rattle.nf_ast.specs.Tree.{Tree}

@@ -1,7 +1,7 @@
 -- What reading the canonical text of a script gives.
 use Rattle.std.specs.Prelude.{◌≡◌, ℕ, ◌<◌, ◌≤◌, List, length}
 use Rattle.nf_value.specs.declared.place.Place.{Place}
-use Rattle.nf_lexer.specs.declared.token.Lexeme.{Lexeme}
+use Rattle.nf_token.specs.declared.token.Lexeme.{Lexeme}
 use Rattle.nf_lexer.specs.declared.fault.LexFault.{LexFault}
 use Rattle.nf_lexer.specs.declared.fault.LexFault.TheVariants as lex
 use Rattle.nf_lexer.specs.Tokens.{IsTokensOf, most_bytes}

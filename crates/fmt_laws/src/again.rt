@@ -10,9 +10,10 @@ ghost use Rattle.fmt_trees.specs.Again.{SpellsAgain};
 ghost use Rattle.fmt_laws.specs.Again.{IsSpelled, IsReadAgain, IsLexLimit, IsTooLong, IsParseLimit, IsAtPlace};
 
 use nf_ast::Script;
-use nf_lexer::{LexFault, Tokens, laws, tokens};
+use nf_lexer::{LexFault, laws, tokens};
 use nf_parser::{ParseFault, script};
 use nf_printer::print;
+use nf_token::Tokens;
 use nf_value::{Mem, Place};
 use std::alloc::Global;
 

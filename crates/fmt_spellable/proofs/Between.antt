@@ -6,10 +6,10 @@ use Rattle.std.specs.Char.{is_ascii_digit}
 use Rattle.std.specs.Str.{is_utf8}
 use Rattle.std.proofs.lemmas.Str.{IsUtf8-nil}
 use Rattle.nf_value.specs.declared.place.Place.{Place}
-use Rattle.nf_lexer.specs.declared.token.PlainKind.TheVariants.{Single, TripleSingle, Slashes}
-use Rattle.nf_lexer.specs.declared.token.TemplateKind.TheVariants.{Double, TripleDouble}
-use Rattle.nf_lexer.specs.declared.open.TextKind.{TextKind}
-use Rattle.nf_lexer.specs.declared.open.TextKind.TheVariants.{Plain, Pattern, Template}
+use Rattle.nf_token.specs.declared.token.PlainKind.TheVariants.{Single, TripleSingle, Slashes}
+use Rattle.nf_token.specs.declared.token.TemplateKind.TheVariants.{Double, TripleDouble}
+use Rattle.nf_token.specs.declared.token.TextKind.{TextKind}
+use Rattle.nf_token.specs.declared.token.TextKind.TheVariants.{Plain, Pattern, Template}
 use Rattle.nf_lexer.specs.declared.open.Open.{Open}
 use Rattle.nf_lexer.specs.declared.open.Change.{Change}
 use Rattle.nf_lexer.specs.declared.open.Change.TheVariants.{Keep}
@@ -17,7 +17,7 @@ use Rattle.nf_lexer.specs.Bytes.{is_blank, begins_name, is_not_line_feed, is_in_
 use Rattle.nf_lexer.specs.Front.{silent, line_end, passes, checked}
 use Rattle.nf_lexer.specs.Joined.{nothing}
 use Rattle.nf_lexer.specs.Open.{changed, lets_lines_end}
-use Rattle.nf_lexer.specs.Spellings.{closing}
+use Rattle.nf_token.specs.Spellings.{closing}
 use Rattle.nf_lexer.specs.Word.{begins_property}
 use Rattle.nf_lexer.specs.Mark.{mark}
 use Rattle.nf_lexer.specs.First.{opens, quote, slash, tilde, in_code, in_named_hole, in_line_comment, star, in_comment}

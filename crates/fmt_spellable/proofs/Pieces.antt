@@ -1,10 +1,10 @@
 -- The parts of templates.
 use Rattle.std.proofs.Common.{◌≡◌, ℕ, Bool, true, false, List, [], ◌∷◌, Option, Some, refl}
 use Rattle.std.specs.Prelude.{◌&&◌}
-use Rattle.nf_lexer.specs.declared.token.Lexeme.{Lexeme}
-use Rattle.nf_lexer.specs.declared.token.TemplateKind.{TemplateKind}
-use Rattle.nf_lexer.specs.declared.token.Token.{Token}
-use Rattle.nf_lexer.specs.declared.token.Token.TheVariants as t
+use Rattle.nf_token.specs.declared.token.Lexeme.{Lexeme}
+use Rattle.nf_token.specs.declared.token.TemplateKind.{TemplateKind}
+use Rattle.nf_token.specs.declared.token.Token.{Token}
+use Rattle.nf_token.specs.declared.token.Token.TheVariants as t
 use Rattle.nf_value.specs.declared.place.Place.{Place}
 use Rattle.nf_grammar.specs.Gram.{token, gives, bind, either, only_where, many, rule, ◌>>=◌}
 use Rattle.nf_ast.specs.Tree as tree

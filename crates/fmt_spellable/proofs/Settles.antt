@@ -1,9 +1,9 @@
 -- What settling makes of fit pieces: fit tokens, and no two texts of a template in a row.
 use Rattle.std.proofs.Common.{◌≡◌, Bool, true, false, cond, List, [], ◌∷◌, refl}
 use Rattle.std.specs.Prelude.{not, ◌&&◌}
-use Rattle.nf_lexer.specs.declared.token.Token.{Token}
-use Rattle.nf_lexer.specs.declared.token.Token.TheVariants as t
-use Rattle.nf_lexer.specs.declared.token.Lexeme.{Lexeme}
+use Rattle.nf_token.specs.declared.token.Token.{Token}
+use Rattle.nf_token.specs.declared.token.Token.TheVariants as t
+use Rattle.nf_token.specs.declared.token.Lexeme.{Lexeme}
 use Rattle.nf_lexer.specs.Separators.{Piece, lexed, line_end_at, is_separator, is_after_separator, line_end_separates, separator, is_extra, settled}
 use Rattle.fmt_tokens.proofs.Tests.{not_not}
 use Rattle.fmt_spellable.specs.Fit.{FitToken, is_text, text_next, AreFit}

@@ -1,6 +1,6 @@
 -- Every tree that fit tokens spell is of its rule's sort, and its words, numbers and strings are such as a text can spell.
 use Rattle.std.proofs.Common.{ℕ, List, arith}
-use Rattle.nf_lexer.specs.declared.token.Lexeme.{Lexeme}
+use Rattle.nf_token.specs.declared.token.Lexeme.{Lexeme}
 use Rattle.nf_grammar.specs.Gram.{rule}
 use Rattle.nf_grammar.specs.Reads.{Reads}
 use Rattle.nf_ast.specs.Tree.{Tree}

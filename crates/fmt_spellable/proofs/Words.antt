@@ -8,16 +8,16 @@ use Rattle.std.specs.Str.Parse.{digits_value}
 use Rattle.std.proofs.lemmas.Bool.Decides.{nat_tests}
 use Rattle.std.proofs.lemmas.List.Sums.{take_while-cons}
 use Rattle.nf_value.specs.declared.place.Place.{Place}
-use Rattle.nf_lexer.specs.declared.token.Keyword.{Keyword}
-use Rattle.nf_lexer.specs.declared.token.Mark.{Mark}
-use Rattle.nf_lexer.specs.declared.token.Mark.TheVariants as m
-use Rattle.nf_lexer.specs.declared.token.Token.{Token}
+use Rattle.nf_token.specs.declared.token.Keyword.{Keyword}
+use Rattle.nf_token.specs.declared.token.Mark.{Mark}
+use Rattle.nf_token.specs.declared.token.Mark.TheVariants as m
+use Rattle.nf_token.specs.declared.token.Token.{Token}
 use Rattle.nf_lexer.specs.declared.open.Open.{Open}
 use Rattle.nf_lexer.specs.declared.open.Open.TheVariants.{Round, Square, Hole}
 use Rattle.nf_lexer.specs.Bytes.{begins_name, is_in_name}
 use Rattle.nf_lexer.specs.Joined.{nothing}
 use Rattle.nf_lexer.specs.Open.{innermost, around_nearest, after_brace, nearest, changed, is_brace_or_hole}
-use Rattle.nf_lexer.specs.Spellings.{keywords}
+use Rattle.nf_token.specs.Spellings.{keywords}
 use Rattle.nf_lexer.specs.Word.{keyword_in, keyword_or_name, word_token, word, limit, number}
 use Rattle.nf_lexer.specs.Mark.{brace_token, mark_token, leaves_round, leaves_square, mark_change, marked}
 use Rattle.nf_lexer.proofs.Runs.{all_of_run}

@@ -1,8 +1,8 @@
 -- What tokens of a text hold.
 use Rattle.std.specs.Prelude.{◌≡◌, Bool, true, false, ◌&&◌, List, [], ◌∷◌}
-use Rattle.nf_lexer.specs.declared.token.Token.{Token}
-use Rattle.nf_lexer.specs.declared.token.Token.TheVariants as t
-use Rattle.nf_lexer.specs.declared.token.Lexeme.{Lexeme}
+use Rattle.nf_token.specs.declared.token.Token.{Token}
+use Rattle.nf_token.specs.declared.token.Token.TheVariants as t
+use Rattle.nf_token.specs.declared.token.Lexeme.{Lexeme}
 use Rattle.fmt_tokens.specs.Fits.{IsName, IsNumber, IsPlain, IsSlashed, IsPiece}
 
 -- a name is a word and no keyword, a number is within its limit, and a string holds what its kind can spell

@@ -1,6 +1,6 @@
 -- What the rules of the grammar make.
 use Rattle.std.specs.Prelude.{List}
-use Rattle.nf_lexer.specs.declared.token.Lexeme.{Lexeme}
+use Rattle.nf_token.specs.declared.token.Lexeme.{Lexeme}
 use Rattle.nf_ast.specs.Tree.{Tree}
 use Rattle.nf_exprs.specs.Level as level
 use Rattle.nf_exprs.specs.Level.{Level}

@@ -12,9 +12,9 @@ use Rattle.std.proofs.lemmas.List.{append-nil, drop_at}
 use Rattle.std.proofs.lemmas.List.Sums.{take_while-cons}
 use Rattle.std.proofs.lemmas.Str.Parse.{digit_from_value}
 use Rattle.nf_value.specs.declared.place.Place.{Place}
-use Rattle.nf_lexer.specs.declared.token.Keyword.{Keyword}
-use Rattle.nf_lexer.specs.declared.token.Keyword.TheVariants as k
-use Rattle.nf_lexer.specs.declared.token.Token.TheVariants as t
+use Rattle.nf_token.specs.declared.token.Keyword.{Keyword}
+use Rattle.nf_token.specs.declared.token.Keyword.TheVariants as k
+use Rattle.nf_token.specs.declared.token.Token.TheVariants as t
 use Rattle.nf_lexer.specs.declared.open.Open.{Open}
 use Rattle.nf_lexer.specs.declared.open.Open.TheVariants.{Round, Square, Brace, Hole, NamedHole, Text, Comment, LineComment}
 use Rattle.nf_lexer.specs.declared.open.Change.{Change}
@@ -24,7 +24,7 @@ use Rattle.nf_lexer.specs.Front.{Item, lexed, passes}
 use Rattle.nf_lexer.specs.Joined.{at}
 use Rattle.nf_lexer.specs.Open.{innermost, changed}
 use Rattle.nf_lexer.specs.Place.{place_of}
-use Rattle.nf_lexer.specs.Spellings.{keywords}
+use Rattle.nf_token.specs.Spellings.{keywords}
 use Rattle.nf_lexer.specs.Word.{keyword_in, keyword_or_name, word_token, limit, number}
 use Rattle.nf_lexer.specs.First.{in_code, in_open, broken_or, fault_at, first}
 use Rattle.nf_printer.specs.Ink.{keyword_text}

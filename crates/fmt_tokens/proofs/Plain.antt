@@ -7,11 +7,11 @@ use lib.Pointwise.{bytes_decides}
 use Rattle.std.proofs.lemmas.Bool.Decides.{nat_tests}
 use Rattle.std.proofs.lemmas.List.{append_assoc, append-nil, take_at, drop_at}
 use Rattle.nf_value.specs.declared.place.Place.{Place}
-use Rattle.nf_lexer.specs.declared.token.PlainKind.{PlainKind}
-use Rattle.nf_lexer.specs.declared.token.PlainKind.TheVariants.{Single, TripleSingle, Slashes}
-use Rattle.nf_lexer.specs.declared.token.Token.TheVariants as t
-use Rattle.nf_lexer.specs.declared.open.TextKind.{TextKind}
-use Rattle.nf_lexer.specs.declared.open.TextKind.TheVariants.{Plain, Pattern, Template}
+use Rattle.nf_token.specs.declared.token.PlainKind.{PlainKind}
+use Rattle.nf_token.specs.declared.token.PlainKind.TheVariants.{Single, TripleSingle, Slashes}
+use Rattle.nf_token.specs.declared.token.Token.TheVariants as t
+use Rattle.nf_token.specs.declared.token.TextKind.{TextKind}
+use Rattle.nf_token.specs.declared.token.TextKind.TheVariants.{Plain, Pattern, Template}
 use Rattle.nf_lexer.specs.declared.open.Open.{Open}
 use Rattle.nf_lexer.specs.declared.open.Open.TheVariants.{Text}
 use Rattle.nf_lexer.specs.declared.open.Change.TheVariants.{Enter, Leave}
@@ -20,7 +20,7 @@ use Rattle.nf_lexer.specs.Joined.{Placed, at, text, joined, lexeme}
 use Rattle.nf_lexer.specs.Separators as s
 use Rattle.nf_lexer.specs.Open.{outermost, line_fault}
 use Rattle.nf_lexer.specs.Place.{place_of}
-use Rattle.nf_lexer.specs.Spellings.{closing}
+use Rattle.nf_token.specs.Spellings.{closing}
 use Rattle.nf_lexer.specs.First.{opens, slash, in_code, ended, has_escapes, in_text}
 use Rattle.nf_printer.specs.Ink.{letter, with_letter, byte_text, escaped, quoted}
 use Rattle.fmt_tokens.specs.Leads.{Leads}

@@ -10,10 +10,10 @@ use Rattle.std.proofs.lemmas.List.Concat.{flat_map-append}
 use Rattle.std.proofs.lemmas.Str.{is_utf8-from_IsUtf8}
 use Rattle.nf_value.specs.declared.place.Place.{Place}
 use Rattle.nf_lexer.specs.declared.fault.LexFault.{LexFault}
-use Rattle.nf_lexer.specs.declared.token.PlainKind.TheVariants.{Single, TripleSingle, Slashes}
-use Rattle.nf_lexer.specs.declared.token.TemplateKind.TheVariants.{Double, TripleDouble}
-use Rattle.nf_lexer.specs.declared.open.TextKind.{TextKind}
-use Rattle.nf_lexer.specs.declared.open.TextKind.TheVariants.{Plain, Pattern, Template}
+use Rattle.nf_token.specs.declared.token.PlainKind.TheVariants.{Single, TripleSingle, Slashes}
+use Rattle.nf_token.specs.declared.token.TemplateKind.TheVariants.{Double, TripleDouble}
+use Rattle.nf_token.specs.declared.token.TextKind.{TextKind}
+use Rattle.nf_token.specs.declared.token.TextKind.TheVariants.{Plain, Pattern, Template}
 use Rattle.nf_lexer.specs.declared.open.Open.{Open}
 use Rattle.nf_lexer.specs.declared.open.Open.TheVariants.{Text}
 use Rattle.nf_lexer.specs.declared.open.Change.TheVariants.{Keep}
@@ -22,7 +22,7 @@ use Rattle.nf_lexer.specs.Front.{written, passes}
 use Rattle.nf_lexer.specs.Joined.{Placed, at}
 use Rattle.nf_lexer.specs.Open.{outermost, line_fault}
 use Rattle.nf_lexer.specs.Place.{place_of}
-use Rattle.nf_lexer.specs.Spellings.{closing}
+use Rattle.nf_token.specs.Spellings.{closing}
 use Rattle.nf_lexer.specs.First.{has_escapes, in_text, broken_or, fault_at, first}
 use Rattle.nf_printer.specs.Ink.{letter, with_letter, byte_text, escaped}
 use Rattle.fmt_tokens.specs.Leads.{Leads, stays, goes}

@@ -3,11 +3,11 @@ use Rattle.std.proofs.Common.{◌≡◌, ℕ, Bool, true, List, [], ◌∷◌, �
 use Rattle.std.specs.Prelude.{nat_eq}
 use Rattle.std.specs.List.{starts_with}
 use Rattle.nf_value.specs.declared.place.Place.{Place}
-use Rattle.nf_lexer.specs.declared.token.TemplateKind.{TemplateKind}
-use Rattle.nf_lexer.specs.declared.token.TemplateKind.TheVariants.{Double, TripleDouble}
-use Rattle.nf_lexer.specs.declared.token.Mark.TheVariants as m
-use Rattle.nf_lexer.specs.declared.token.Token.TheVariants as t
-use Rattle.nf_lexer.specs.declared.open.TextKind.TheVariants.{Template}
+use Rattle.nf_token.specs.declared.token.TemplateKind.{TemplateKind}
+use Rattle.nf_token.specs.declared.token.TemplateKind.TheVariants.{Double, TripleDouble}
+use Rattle.nf_token.specs.declared.token.Mark.TheVariants as m
+use Rattle.nf_token.specs.declared.token.Token.TheVariants as t
+use Rattle.nf_token.specs.declared.token.TextKind.TheVariants.{Template}
 use Rattle.nf_lexer.specs.declared.open.Open.{Open}
 use Rattle.nf_lexer.specs.declared.open.Open.TheVariants.{Hole, Text}
 use Rattle.nf_lexer.specs.declared.open.Change.TheVariants.{Enter}
@@ -15,9 +15,9 @@ use Rattle.nf_lexer.specs.Front.{lexed, passes}
 use Rattle.nf_lexer.specs.Joined.{Placed, at, nothing, text, joined, lexeme, text_before}
 use Rattle.nf_lexer.specs.Separators as s
 use Rattle.nf_lexer.specs.Separators.{Piece}
-use Rattle.nf_lexer.specs.declared.token.Token.{Token}
+use Rattle.nf_token.specs.declared.token.Token.{Token}
 use Rattle.nf_lexer.specs.Place.{place_of}
-use Rattle.nf_lexer.specs.Spellings.{closing}
+use Rattle.nf_token.specs.Spellings.{closing}
 use Rattle.nf_lexer.specs.First.{opens, in_code, in_text}
 use Rattle.fmt_tokens.specs.Leads.{Leads}
 use Rattle.fmt_tokens.proofs.Tests.{if_true, if_false}

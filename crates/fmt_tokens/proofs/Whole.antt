@@ -4,7 +4,7 @@ use Rattle.std.specs.Prelude.{not, ◌==◌, map, nat_eq, codes}
 use Rattle.std.specs.List.{starts_with}
 use Rattle.std.proofs.lemmas.Bool.Decides.{nat_tests}
 use Rattle.std.proofs.lemmas.List.{append-nil}
-use Rattle.nf_lexer.specs.declared.token.Lexeme.{Lexeme}
+use Rattle.nf_token.specs.declared.token.Lexeme.{Lexeme}
 use Rattle.nf_lexer.specs.First.{first}
 use Rattle.nf_lexer.specs.Joined.{nothing, joined}
 use Rattle.nf_lexer.specs.Separators.{settled}

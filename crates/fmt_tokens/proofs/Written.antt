@@ -6,14 +6,14 @@ use Rattle.std.specs.Str.{is_utf8}
 use lib.Pointwise.{bytes_decides}
 use Rattle.std.proofs.lemmas.Bool.Decides.{nat_tests, Decides-eqb}
 use Rattle.nf_value.specs.declared.place.Place.{Place}
-use Rattle.nf_lexer.specs.declared.token.PlainKind.TheVariants.{Single, TripleSingle, Slashes}
-use Rattle.nf_lexer.specs.declared.token.TemplateKind.TheVariants.{Double, TripleDouble}
-use Rattle.nf_lexer.specs.declared.open.TextKind.{TextKind}
-use Rattle.nf_lexer.specs.declared.open.TextKind.TheVariants.{Plain, Pattern, Template}
+use Rattle.nf_token.specs.declared.token.PlainKind.TheVariants.{Single, TripleSingle, Slashes}
+use Rattle.nf_token.specs.declared.token.TemplateKind.TheVariants.{Double, TripleDouble}
+use Rattle.nf_token.specs.declared.token.TextKind.{TextKind}
+use Rattle.nf_token.specs.declared.token.TextKind.TheVariants.{Plain, Pattern, Template}
 use Rattle.nf_lexer.specs.declared.open.Change.TheVariants.{Keep}
 use Rattle.nf_lexer.specs.Bytes.{is_special, is_ordinary}
 use Rattle.nf_lexer.specs.Front.{written, passes, checked}
-use Rattle.nf_lexer.specs.Spellings.{closing}
+use Rattle.nf_token.specs.Spellings.{closing}
 use Rattle.nf_lexer.specs.Escape.{escaped, escape, written_or_bad, kept}
 use Rattle.nf_lexer.specs.First.{has_escapes, has_holes, in_text}
 use Rattle.nf_printer.specs.Ink.{blank_letter, line_letter, letter}

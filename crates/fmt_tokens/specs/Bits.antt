@@ -1,7 +1,7 @@
 -- The tokens and line ends that items come to.
 use Rattle.std.specs.Prelude.{◌≡◌, List, ◌++◌, map}
-use Rattle.nf_lexer.specs.declared.token.Token.{Token}
-use Rattle.nf_lexer.specs.declared.token.Lexeme.{Lexeme}
+use Rattle.nf_token.specs.declared.token.Token.{Token}
+use Rattle.nf_token.specs.declared.token.Lexeme.{Lexeme}
 use Rattle.nf_lexer.specs.Joined.{Placed, nothing, joined}
 use Rattle.nf_lexer.specs.Separators as s
 use Rattle.nf_lexer.specs.Separators.{Piece}

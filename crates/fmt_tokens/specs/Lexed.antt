@@ -1,6 +1,6 @@
 -- The tokens of a text, however long it is.
 use Rattle.std.specs.Prelude.{◌≡◌, ℕ, List, [], None}
-use Rattle.nf_lexer.specs.declared.token.Lexeme.{Lexeme}
+use Rattle.nf_token.specs.declared.token.Lexeme.{Lexeme}
 use Rattle.nf_lexer.specs.Joined.{Placed, nothing, joined}
 use Rattle.nf_lexer.specs.Separators.{settled}
 use Rattle.nf_lexer.specs.Tokens.{Reads, at_start}

@@ -1,8 +1,8 @@
 -- The tokens that printed inks come to, apart from their places.
 use Rattle.std.specs.Prelude.{ℕ, Bool, false, not, ◌&&◌, List, [], ◌∷◌, if◌then◌else◌}
 use Rattle.std.specs.List.{flat_map}
-use Rattle.nf_lexer.specs.declared.token.Token.{Token}
-use Rattle.nf_lexer.specs.declared.token.Token.TheVariants as t
+use Rattle.nf_token.specs.declared.token.Token.{Token}
+use Rattle.nf_token.specs.declared.token.Token.TheVariants as t
 use Rattle.nf_lexer.specs.Separators.{awaits_more, goes_on, is_separator}
 use Rattle.nf_printer.specs.Ink as ink
 use Rattle.nf_printer.specs.Ink.{Ink}

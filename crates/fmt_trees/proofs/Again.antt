@@ -1,6 +1,6 @@
 -- The tokens of a script's canonical text spell the script again, places aside.
 use Rattle.std.proofs.Common.{◌≡◌, List, [], ◌∷◌, map, refl, sym, subst, ap, ◌∙◌}
-use Rattle.nf_lexer.specs.declared.token.Lexeme.{Lexeme}
+use Rattle.nf_token.specs.declared.token.Lexeme.{Lexeme}
 use Rattle.nf_grammar.specs.Gram.{rule}
 use Rattle.nf_grammar.specs.Reads.{Reads}
 use Rattle.nf_ast.specs.Tree.{Tree}

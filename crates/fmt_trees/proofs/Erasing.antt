@@ -1,7 +1,7 @@
 -- A reading depends on no place: what tokens without places spell, tokens with places spell, but for the places.
 use Rattle.std.proofs.Common.{◌≡◌, ℕ, Bool, List, [], ◌∷◌, map, Option, Some, None, refl, sym, subst, ap, ◌∙◌}
 use Rattle.std.specs.Prelude.{option_map}
-use Rattle.nf_lexer.specs.declared.token.Lexeme.{Lexeme}
+use Rattle.nf_token.specs.declared.token.Lexeme.{Lexeme}
 use Rattle.nf_grammar.specs.Gram.{token, gives, bind, either, only_where, many, rule}
 use Rattle.nf_grammar.specs.Reads.{Reads, reads_token, reads_gives, reads_bind, reads_left, reads_right, reads_where, reads_end, reads_more, reads_rule}
 use Rattle.nf_ast.specs.Tree.{Tree}

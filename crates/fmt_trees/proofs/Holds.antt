@@ -1,9 +1,9 @@
 -- What it is for a tree of each sort to be read from its tokens.
 use Rattle.std.proofs.Common.{◌≡◌, ℕ, Bool, true, false, List}
 use Rattle.nf_value.specs.declared.place.Place.{Place}
-use Rattle.nf_lexer.specs.declared.token.Keyword.TheVariants as k
-use Rattle.nf_lexer.specs.declared.token.Mark.TheVariants as m
-use Rattle.nf_lexer.specs.declared.token.Lexeme.{Lexeme}
+use Rattle.nf_token.specs.declared.token.Keyword.TheVariants as k
+use Rattle.nf_token.specs.declared.token.Mark.TheVariants as m
+use Rattle.nf_token.specs.declared.token.Lexeme.{Lexeme}
 use Rattle.nf_grammar.specs.Gram.{many, rule, either}
 use Rattle.nf_grammar.specs.Parts.{no_next}
 use Rattle.nf_grammar.specs.Reads.{Reads}

@@ -1,8 +1,8 @@
 -- What it is for an expression to be read from its tokens, and how one is read where brackets may stand round it.
 use Rattle.std.proofs.Common.{◌≡◌, ℕ, zero, suc, Bool, true, false, List, ◌+◌, ◌-◌, ◌≤◌, refl, subst, arith, ltb-true, ltb-false}
 use Rattle.std.proofs.lemmas.Bool.{le-ltb}
-use Rattle.nf_lexer.specs.declared.token.Mark.TheVariants as m
-use Rattle.nf_lexer.specs.declared.token.Lexeme.{Lexeme}
+use Rattle.nf_token.specs.declared.token.Mark.TheVariants as m
+use Rattle.nf_token.specs.declared.token.Lexeme.{Lexeme}
 use Rattle.nf_grammar.specs.Reads.{reads_token, reads_gives, reads_bind, reads_left, reads_right, reads_rule}
 use Rattle.nf_ast.specs.Tree.{Tree}
 use Rattle.nf_exprs.specs.Rules.{rules}

@@ -2,9 +2,9 @@
 use Rattle.std.proofs.Common.{◌≡◌, ℕ, ℤ, suc, Bool, true, false, List, ◌∷◌, ◌≤◌, refl, sym, subst, arith}
 use Rattle.std.specs.Prelude.{not, ◌&&◌}
 use Rattle.nf_value.specs.declared.place.Place.{Place}
-use Rattle.nf_lexer.specs.declared.token.Mark.TheVariants as m
-use Rattle.nf_lexer.specs.declared.token.Lexeme.{Lexeme}
-use Rattle.nf_lexer.specs.declared.token.PlainKind.{PlainKind}
+use Rattle.nf_token.specs.declared.token.Mark.TheVariants as m
+use Rattle.nf_token.specs.declared.token.Lexeme.{Lexeme}
+use Rattle.nf_token.specs.declared.token.PlainKind.{PlainKind}
 use Rattle.nf_grammar.specs.Reads.{reads_token, reads_gives, reads_bind, reads_left, reads_right, reads_rule}
 use Rattle.nf_ast.specs.declared.marks.InfixMark.{InfixMark}
 use Rattle.nf_ast.specs.declared.marks.InfixMark.TheVariants as i

@@ -1,8 +1,8 @@
 -- Which expressions a statement can begin with, and not be one that prints.
 use Rattle.std.proofs.Common.{◌≡◌, ℕ, Bool, true, false, List, ◌∷◌, Some, None, refl, ap, ◌∙◌}
 use Rattle.std.specs.Prelude.{not, ◌&&◌, ◌||◌, codes, bytes_eq, if◌then◌else◌}
-use Rattle.nf_lexer.specs.declared.token.Mark.TheVariants as m
-use Rattle.nf_lexer.specs.declared.token.Lexeme.{Lexeme}
+use Rattle.nf_token.specs.declared.token.Mark.TheVariants as m
+use Rattle.nf_token.specs.declared.token.Lexeme.{Lexeme}
 use Rattle.nf_grammar.specs.Parts.{none_of}
 use Rattle.nf_ast.specs.declared.marks.InfixMark.{InfixMark}
 use Rattle.nf_ast.specs.declared.marks.InfixMark.TheVariants as i

@@ -1,6 +1,6 @@
 -- Tokens that spell a script again, places aside.
 use Rattle.std.specs.Prelude.{◌≡◌, List, []}
-use Rattle.nf_lexer.specs.declared.token.Lexeme.{Lexeme}
+use Rattle.nf_token.specs.declared.token.Lexeme.{Lexeme}
 use Rattle.nf_grammar.specs.Gram.{rule}
 use Rattle.nf_grammar.specs.Reads.{Reads}
 use Rattle.nf_ast.specs.Tree.{Tree}

@@ -1,8 +1,8 @@
 -- Which trees some tokens spell, as the rows of the grammar make them.
 use Rattle.std.specs.Prelude.{ℕ, ℤ, Bool, List, ◌∷◌}
 use Rattle.nf_value.specs.declared.place.Place.{Place}
-use Rattle.nf_lexer.specs.declared.token.PlainKind.{PlainKind}
-use Rattle.nf_lexer.specs.declared.token.TemplateKind.{TemplateKind}
+use Rattle.nf_token.specs.declared.token.PlainKind.{PlainKind}
+use Rattle.nf_token.specs.declared.token.TemplateKind.{TemplateKind}
 use Rattle.nf_ast.specs.declared.marks.InfixMark.{InfixMark}
 use Rattle.nf_ast.specs.declared.marks.PrefixMark.{PrefixMark}
 use Rattle.nf_ast.specs.Tree as tree

@@ -3,8 +3,8 @@ use Rattle.std.specs.Prelude.{ℤ, ℕ, Bool, List}
 use Rattle.nf_value.specs.declared.place.Place.{Place}
 use Rattle.nf_ast.specs.declared.marks.InfixMark.{InfixMark}
 use Rattle.nf_ast.specs.declared.marks.PrefixMark.{PrefixMark}
-use Rattle.nf_lexer.specs.declared.token.PlainKind.{PlainKind}
-use Rattle.nf_lexer.specs.declared.token.TemplateKind.{TemplateKind}
+use Rattle.nf_token.specs.declared.token.PlainKind.{PlainKind}
+use Rattle.nf_token.specs.declared.token.TemplateKind.{TemplateKind}
 
 pub data Tree : Type 0 where
   -- no part, and a part with those after it

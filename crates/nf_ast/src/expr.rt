@@ -5,7 +5,7 @@ ghost use Rattle.nf_ast.specs.Tree as tree;
 ghost use Rattle.nf_ast.specs.View.{view, views, view_stmts, view_operand, view_branch, view_postfix, view_piece, view_pair, view_arg, view_closure, view_body, view_label, view_stmt, view_arm, trees, operands, conditional, postfix, prefixes, choice, last_arm, params_tree, key_tree, with_name, names};
 
 use crate::marks::{BranchMark, InfixMark, PrefixMark};
-use nf_lexer::{PlainKind, TemplateKind};
+use nf_token::{PlainKind, TemplateKind};
 use nf_value::{Mem, Place, Txt};
 use std::alloc::Global;
 

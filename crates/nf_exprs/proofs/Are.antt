@@ -4,15 +4,15 @@ use Rattle.std.specs.Prelude.{bytes_eq}
 use Rattle.std.proofs.lemmas.Slice.Eq.{bytes_eq-Decides}
 use denote.Enum.Bare.{same_true}
 use Rattle.nf_value.specs.declared.place.Place.{Place}
-use Rattle.nf_lexer.specs.contracts.token.Mark.{the_type}
-use Rattle.nf_lexer.specs.contracts.token.Keyword as keyword
-use Rattle.nf_lexer.specs.declared.token.Mark.{Mark}
-use Rattle.nf_lexer.specs.declared.token.Keyword.{Keyword}
-use Rattle.nf_lexer.specs.declared.token.PlainKind.{PlainKind}
-use Rattle.nf_lexer.specs.declared.token.TemplateKind.{TemplateKind}
-use Rattle.nf_lexer.specs.declared.token.Token.{Token}
-use Rattle.nf_lexer.specs.declared.token.Token.TheVariants as t
-use Rattle.nf_lexer.specs.declared.token.Lexeme.{Lexeme}
+use Rattle.nf_token.specs.contracts.token.Mark.{the_type}
+use Rattle.nf_token.specs.contracts.token.Keyword as keyword
+use Rattle.nf_token.specs.declared.token.Mark.{Mark}
+use Rattle.nf_token.specs.declared.token.Keyword.{Keyword}
+use Rattle.nf_token.specs.declared.token.PlainKind.{PlainKind}
+use Rattle.nf_token.specs.declared.token.TemplateKind.{TemplateKind}
+use Rattle.nf_token.specs.declared.token.Token.{Token}
+use Rattle.nf_token.specs.declared.token.Token.TheVariants as t
+use Rattle.nf_token.specs.declared.token.Lexeme.{Lexeme}
 use Rattle.nf_ast.specs.Tree.{empty, point, name, text, template, piece}
 use Rattle.nf_exprs.specs.Tokens.{same_mark, same_keyword, mark_at, mark_of, keyword_at, keyword_of, name_at, name_of, word_at, word_of, separator_at, separator, plain_at, plain, open_template_at, open_template, template_text_at, template_text, open_hole_at, open_hole, close_hole_at, close_hole}
 use Rattle.nf_exprs.specs.Parses.{Takes}

@@ -2,10 +2,10 @@
 use Rattle.std.proofs.Common.{◌≡◌, ℕ, suc, ◌≤◌, Bool, true, false, List, [], ◌∷◌, length, refl, subst, arith, ap}
 use Rattle.std.specs.Prelude.{not, ◌&&◌}
 use Rattle.nf_value.specs.declared.place.Place.{Place}
-use Rattle.nf_lexer.specs.declared.token.Mark.TheVariants as m
-use Rattle.nf_lexer.specs.declared.token.Token.{Token}
-use Rattle.nf_lexer.specs.declared.token.Token.TheVariants as t
-use Rattle.nf_lexer.specs.declared.token.Lexeme.{Lexeme}
+use Rattle.nf_token.specs.declared.token.Mark.TheVariants as m
+use Rattle.nf_token.specs.declared.token.Token.{Token}
+use Rattle.nf_token.specs.declared.token.Token.TheVariants as t
+use Rattle.nf_token.specs.declared.token.Lexeme.{Lexeme}
 use Rattle.nf_grammar.specs.Gram.{rule, gives, only_where, ◌>>=◌}
 use Rattle.nf_grammar.specs.Parts.{no_next}
 use Rattle.nf_grammar.specs.Outcome.{Out, got, unexpected}

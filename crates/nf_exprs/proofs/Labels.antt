@@ -3,10 +3,10 @@ use Rattle.std.proofs.Common.{◌≡◌, ℕ, ◌≤◌, Bool, true, false, List
 use Rattle.std.specs.Prelude.{not, ◌&&◌}
 use denote.Bor.{Bor}
 use Rattle.nf_value.specs.declared.place.Place.{Place}
-use Rattle.nf_lexer.specs.declared.token.Mark.TheVariants as m
-use Rattle.nf_lexer.specs.declared.token.Token.{Token}
-use Rattle.nf_lexer.specs.declared.token.Token.TheVariants as t
-use Rattle.nf_lexer.specs.declared.token.Lexeme.{Lexeme}
+use Rattle.nf_token.specs.declared.token.Mark.TheVariants as m
+use Rattle.nf_token.specs.declared.token.Token.{Token}
+use Rattle.nf_token.specs.declared.token.Token.TheVariants as t
+use Rattle.nf_token.specs.declared.token.Lexeme.{Lexeme}
 use Rattle.nf_grammar.specs.Gram.{bind, gives}
 use Rattle.nf_grammar.specs.Parts.{none_of}
 use Rattle.nf_grammar.specs.Outcome.{got, unexpected, too_deep}

@@ -1,6 +1,6 @@
 -- What is left to read of a part leads to how the part ends.
 use Rattle.std.specs.Prelude.{List, length}
-use Rattle.nf_lexer.specs.declared.token.Lexeme.{Lexeme}
+use Rattle.nf_token.specs.declared.token.Lexeme.{Lexeme}
 use Rattle.nf_grammar.specs.Outcome.{Out, got}
 use Rattle.nf_ast.specs.Tree.{Tree}
 use Rattle.nf_exprs.specs.Level.{Gram}

@@ -2,8 +2,8 @@
 use Rattle.std.proofs.Common.{◌≡◌, ℕ, suc, ◌+◌, ◌≤◌, ◌<◌, Bool, true, false, List, [], ◌∷◌, ◌++◌, length, map, Option, Some, None, Result, Ok, Err, refl, sym, subst, arith, ap, ◌∙◌}
 use Rattle.std.specs.Prelude.{MatchOption, ok_or, is_some, ◌||◌}
 use Rattle.std.proofs.lemmas.Bool.{le-leb, lt-leb}
-use Rattle.nf_lexer.specs.declared.token.Lexeme.{Lexeme}
-use Rattle.nf_lexer.specs.declared.token.Mark.TheVariants as m
+use Rattle.nf_token.specs.declared.token.Lexeme.{Lexeme}
+use Rattle.nf_token.specs.declared.token.Mark.TheVariants as m
 use Rattle.nf_grammar.specs.Gram.{token, bind, gives, many, ◌>>=◌}
 use Rattle.nf_grammar.specs.Parts.{no_next, none_of}
 use Rattle.nf_grammar.specs.Outcome.{Out, got, unexpected, too_deep}

@@ -1,7 +1,7 @@
 -- The rules of the grammar, each at a number of open brackets.
 use Rattle.std.specs.Prelude.{ℕ}
 use Rattle.nf_value.specs.declared.place.Place.{Place}
-use Rattle.nf_lexer.specs.declared.token.Lexeme.{Lexeme}
+use Rattle.nf_token.specs.declared.token.Lexeme.{Lexeme}
 use Rattle.nf_grammar.specs.Gram as grammar
 use Rattle.nf_exprs.specs.declared.band.Band.{Band}
 use Rattle.nf_ast.specs.Tree.{Tree}

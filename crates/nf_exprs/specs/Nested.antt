@@ -1,7 +1,7 @@
 -- How many `?` and `?:` stand round an operand of a conditional expression.
 use Rattle.std.specs.Prelude.{◌≡◌, ℕ, suc, Bool, true, false, List, [], ◌∷◌, ◌++◌, Option, Some, None, ◌≤◌}
 use denote.Bor.{Bor}
-use Rattle.nf_lexer.specs.declared.token.Lexeme.{Lexeme}
+use Rattle.nf_token.specs.declared.token.Lexeme.{Lexeme}
 use Rattle.nf_value.specs.declared.place.Place.{Place}
 use Rattle.nf_grammar.specs.Parts.{no_next}
 use Rattle.nf_ast.specs.declared.marks.BranchMark.{BranchMark}

@@ -1,6 +1,6 @@
 -- What a function of the parser answers.
 use Rattle.std.specs.Prelude.{◌≡◌, ℕ, Bool, true, List, ◌∷◌, length, Some, Result, Ok, Err, if◌then◌else◌}
-use Rattle.nf_lexer.specs.declared.token.Lexeme.{Lexeme}
+use Rattle.nf_token.specs.declared.token.Lexeme.{Lexeme}
 use Rattle.nf_grammar.specs.Gram.{gives, ◌>>=◌}
 use Rattle.nf_grammar.specs.Outcome as grammar
 use Rattle.nf_grammar.specs.Outcome.{Out, got, unexpected, too_deep}
@@ -15,7 +15,7 @@ use Rattle.nf_exprs.specs.Level.{Gram}
 use Rattle.nf_exprs.specs.Rules.{rules}
 use Rattle.nf_ast.specs.declared.marks.BranchMark.{BranchMark}
 use Rattle.nf_ast.specs.declared.marks.BranchMark.TheVariants as branch
-use Rattle.nf_lexer.specs.declared.token.Mark.TheVariants as m
+use Rattle.nf_token.specs.declared.token.Mark.TheVariants as m
 use Rattle.nf_exprs.specs.Tokens.{Kind, mark_of, labels, after}
 
 -- how a part of this grammar ends

@@ -1,7 +1,7 @@
 -- The expression with which tokens begin, and where they go wrong.
 use Rattle.std.specs.Prelude.{◌≡◌, ◌≤◌, List, [], ◌∷◌, length}
 use Rattle.nf_value.specs.declared.place.Place.{Place}
-use Rattle.nf_lexer.specs.declared.token.Lexeme.{Lexeme}
+use Rattle.nf_token.specs.declared.token.Lexeme.{Lexeme}
 use Rattle.nf_grammar.specs.Gram.{rule}
 use Rattle.nf_grammar.specs.Reads as grammar
 use Rattle.nf_ast.specs.Tree.{Tree}

@@ -3,15 +3,15 @@ use Rattle.std.specs.Prelude.{ℕ, ℤ, pos, Bool, true, false, not, ◌||◌, �
 use Rattle.std.specs.Ordering.{int_eq}
 use Rattle.nf_value.specs.declared.place.Place.{Place}
 use denote.Enum.Bare.{sameb}
-use Rattle.nf_lexer.specs.contracts.token.Mark.{the_type}
-use Rattle.nf_lexer.specs.contracts.token.Keyword as keyword
-use Rattle.nf_lexer.specs.declared.token.Mark.{Mark}
-use Rattle.nf_lexer.specs.declared.token.Mark.TheVariants as m
-use Rattle.nf_lexer.specs.declared.token.Keyword.{Keyword}
-use Rattle.nf_lexer.specs.declared.token.Keyword.TheVariants as k
-use Rattle.nf_lexer.specs.declared.token.Token.{Token}
-use Rattle.nf_lexer.specs.declared.token.Token.TheVariants as t
-use Rattle.nf_lexer.specs.declared.token.Lexeme.{Lexeme}
+use Rattle.nf_token.specs.contracts.token.Mark.{the_type}
+use Rattle.nf_token.specs.contracts.token.Keyword as keyword
+use Rattle.nf_token.specs.declared.token.Mark.{Mark}
+use Rattle.nf_token.specs.declared.token.Mark.TheVariants as m
+use Rattle.nf_token.specs.declared.token.Keyword.{Keyword}
+use Rattle.nf_token.specs.declared.token.Keyword.TheVariants as k
+use Rattle.nf_token.specs.declared.token.Token.{Token}
+use Rattle.nf_token.specs.declared.token.Token.TheVariants as t
+use Rattle.nf_token.specs.declared.token.Lexeme.{Lexeme}
 use Rattle.nf_grammar.specs.Parts.{no_next}
 use Rattle.nf_ast.specs.declared.marks.InfixMark.{InfixMark}
 use Rattle.nf_ast.specs.declared.marks.InfixMark.TheVariants as i

@@ -12,7 +12,7 @@ ghost use Rattle.nf_exprs.specs.Parses.{Parses};
 use crate::fault::Fault;
 use crate::{expect, exprs, peek, stmts};
 use nf_ast::{Closure, ClosureBody, Label};
-use nf_lexer::{Lexeme, Mark};
+use nf_token::{Lexeme, Mark};
 use nf_value::{Place, Txt};
 use std::alloc::Global;
 

@@ -1,7 +1,7 @@
 //! Tokens that must come.
 
 ghost use Rattle.std.specs.Prelude.{length, IfOk, ◌<◌, ◌≤◌, List};
-ghost use Rattle.nf_lexer.specs.declared.token.Lexeme as lexeme;
+ghost use Rattle.nf_token.specs.declared.token.Lexeme as lexeme;
 ghost use Rattle.nf_grammar.specs.Gram.{bind, gives};
 ghost use Rattle.nf_grammar.specs.Outcome.{got};
 ghost use Rattle.nf_ast.specs.Tree.{Tree, empty, point, name as name_tree};
@@ -14,7 +14,7 @@ ghost use Rattle.nf_exprs.specs.Parses.{Outcome, Parses, past_label};
 
 use crate::fault::Fault;
 use crate::peek;
-use nf_lexer::{Keyword, Lexeme, Mark};
+use nf_token::{Keyword, Lexeme, Mark};
 use nf_value::{Place, Txt};
 
 /// How many brackets may be open at once (own).

@@ -13,7 +13,7 @@ use crate::expect::MOST_PARTS;
 use crate::fault::Fault;
 use crate::{peek, posts};
 use nf_ast::{Branch, BranchMark, Expr, InfixMark, Operand, Prefix};
-use nf_lexer::Lexeme;
+use nf_token::Lexeme;
 use nf_value::{Mem, Place};
 use std::alloc::Global;
 

@@ -3,7 +3,7 @@
 ghost use Rattle.std.specs.Prelude.{◌≡◌, true, false, not, length, MatchOption, Some, IfOk, option_map};
 ghost use Rattle.nf_grammar.specs.Parts.{no_next};
 ghost use Rattle.nf_ast.specs.Tree as tree;
-ghost use Rattle.nf_lexer.specs.declared.token.Mark.TheVariants as m;
+ghost use Rattle.nf_token.specs.declared.token.Mark.TheVariants as m;
 ghost use Rattle.nf_exprs.specs.Rules as row;
 ghost use Rattle.nf_exprs.specs.Tokens as kind;
 ghost use Rattle.nf_exprs.specs.Tokens.{operator};
@@ -12,7 +12,7 @@ ghost use Rattle.nf_ast.specs.View.{view};
 
 use crate::band::Band;
 use nf_ast::{BranchMark, Expr, InfixMark, PrefixMark};
-use nf_lexer::{Keyword, Lexeme, Mark, PlainKind, TemplateKind, Token};
+use nf_token::{Keyword, Lexeme, Mark, PlainKind, TemplateKind, Token};
 use nf_value::{Mem, Place, Txt};
 
 /// The mark, with its place, and what stands after it.

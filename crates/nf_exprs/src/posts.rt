@@ -13,7 +13,7 @@ use crate::expect::MOST_PARTS;
 use crate::fault::Fault;
 use crate::{closures, expect, exprs, peek, prims};
 use nf_ast::{Arg, Expr, Postfix};
-use nf_lexer::{Lexeme, Mark};
+use nf_token::{Lexeme, Mark};
 use nf_value::Mem;
 use std::alloc::Global;
 

@@ -11,7 +11,7 @@ ghost use Rattle.nf_exprs.specs.Parses.{Parses};
 use crate::fault::Fault;
 use crate::{closures, expect, exprs, peek};
 use nf_ast::{Expr, Key, Pair, Piece};
-use nf_lexer::{Lexeme, Mark};
+use nf_token::{Lexeme, Mark};
 use nf_value::{Place, Txt};
 use std::alloc::Global;
 

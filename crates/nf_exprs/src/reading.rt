@@ -7,7 +7,7 @@ ghost use Rattle.nf_exprs.specs.Spells.{IsExpr, Refuses, first_place};
 use crate::exprs;
 use crate::fault::{Fault, ParseFault};
 use nf_ast::Expr;
-use nf_lexer::{Lexeme, Tokens};
+use nf_token::{Lexeme, Tokens};
 use nf_value::Place;
 use std::alloc::Global;
 

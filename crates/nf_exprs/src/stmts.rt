@@ -12,7 +12,7 @@ use crate::expect::MOST_PARTS;
 use crate::fault::Fault;
 use crate::{closures, expect, exprs, peek, prims};
 use nf_ast::{Arm, Stmt};
-use nf_lexer::{Keyword, Lexeme, Mark};
+use nf_token::{Keyword, Lexeme, Mark};
 use std::alloc::Global;
 
 /// Statements, each with its separator.

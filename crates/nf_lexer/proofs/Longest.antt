@@ -3,9 +3,9 @@ use Rattle.std.proofs.Common.{◌≡◌, ℕ, zero, suc, ◌≤◌, Bool, true, 
 use Rattle.std.specs.Prelude.{◌&&◌, ◌==◌, cond, not, is_some}
 use Rattle.std.proofs.lemmas.Bool.Decides.{Decides-eqb}
 use Rattle.std.specs.List.{Contains}
-use Rattle.nf_lexer.specs.declared.token.Mark.{Mark}
+use Rattle.nf_token.specs.declared.token.Mark.{Mark}
 use Rattle.nf_lexer.specs.Mark.{mark, mark_in, mark_or, past}
-use Rattle.nf_lexer.specs.Spellings.{marks}
+use Rattle.nf_token.specs.Spellings.{marks}
 use Rattle.nf_lexer.specs.Longest.{IsLongest}
 
 past_if : (c : Bool) (b x : ℕ) (w bs rest : List ℕ) → (c ≡ true → b ≡ x) → (past w bs ≡ Some rest → bs ≡ w ++ rest) → cond c (past w bs) None ≡ Some rest → b ∷ bs ≡ x ∷ (w ++ rest)

@@ -11,11 +11,11 @@ use Rattle.std.proofs.lemmas.List.{length-take, length-drop}
 use Rattle.nf_value.specs.declared.place.Place.{Place}
 use Rattle.nf_lexer.specs.declared.fault.LexFault.{LexFault}
 use Rattle.nf_lexer.specs.declared.fault.LexFault.TheVariants.{BadByte, OpenString, OpenComment, BadEscape, BigNumber, ScriptTooLong, Mem}
-use Rattle.nf_lexer.specs.declared.token.Mark.{Mark}
-use Rattle.nf_lexer.specs.declared.token.PlainKind.TheVariants.{Single, TripleSingle, Slashes}
-use Rattle.nf_lexer.specs.declared.token.TemplateKind.TheVariants.{Double, TripleDouble}
-use Rattle.nf_lexer.specs.declared.open.TextKind.{TextKind}
-use Rattle.nf_lexer.specs.declared.open.TextKind.TheVariants.{Plain, Pattern, Template}
+use Rattle.nf_token.specs.declared.token.Mark.{Mark}
+use Rattle.nf_token.specs.declared.token.PlainKind.TheVariants.{Single, TripleSingle, Slashes}
+use Rattle.nf_token.specs.declared.token.TemplateKind.TheVariants.{Double, TripleDouble}
+use Rattle.nf_token.specs.declared.token.TextKind.{TextKind}
+use Rattle.nf_token.specs.declared.token.TextKind.TheVariants.{Plain, Pattern, Template}
 use Rattle.nf_lexer.specs.declared.open.Open.{Open}
 use Rattle.nf_lexer.specs.declared.open.Open.TheVariants.{Round, Square, Brace, Hole, NamedHole, Text, Comment, LineComment}
 use Rattle.nf_lexer.specs.declared.open.Change.{Change}
@@ -23,7 +23,7 @@ use Rattle.nf_lexer.specs.declared.open.Change.TheVariants.{Keep, Enter, Leave, 
 use Rattle.nf_lexer.specs.Bytes.{is_blank, begins_name, is_in_name, is_not_line_feed, is_special, is_ordinary, is_in_comment}
 use Rattle.nf_lexer.specs.Front.{Item, silent, First, passes, finished, broken, checked}
 use Rattle.nf_lexer.specs.Open.{around, around_nearest, after_brace, nearest, changed, is_brace_or_hole, innermost, outermost, is_one_line, line_fault, end_fault, rather}
-use Rattle.nf_lexer.specs.Spellings.{marks, closing}
+use Rattle.nf_token.specs.Spellings.{marks, closing}
 use Rattle.nf_lexer.specs.Word.{word, number, limit, begins_property}
 use Rattle.nf_lexer.specs.Mark.{past, mark_or, mark_in, mark, marked}
 use Rattle.nf_lexer.specs.Escape.{escaped, hex_number, character, written_or_bad, escape, kept}

@@ -5,19 +5,19 @@ use Rattle.std.specs.Char.{is_ascii_digit}
 use Rattle.nf_value.specs.declared.place.Place.{Place}
 use Rattle.nf_lexer.specs.declared.fault.LexFault.{LexFault}
 use Rattle.nf_lexer.specs.declared.fault.LexFault.TheVariants.{BadByte}
-use Rattle.nf_lexer.specs.declared.token.Mark.TheVariants as m
-use Rattle.nf_lexer.specs.declared.token.Token.TheVariants as t
-use Rattle.nf_lexer.specs.declared.token.PlainKind.TheVariants.{Single, TripleSingle, Slashes}
-use Rattle.nf_lexer.specs.declared.token.TemplateKind.TheVariants.{Double, TripleDouble}
-use Rattle.nf_lexer.specs.declared.open.TextKind.{TextKind}
-use Rattle.nf_lexer.specs.declared.open.TextKind.TheVariants.{Plain, Pattern, Template}
+use Rattle.nf_token.specs.declared.token.Mark.TheVariants as m
+use Rattle.nf_token.specs.declared.token.Token.TheVariants as t
+use Rattle.nf_token.specs.declared.token.PlainKind.TheVariants.{Single, TripleSingle, Slashes}
+use Rattle.nf_token.specs.declared.token.TemplateKind.TheVariants.{Double, TripleDouble}
+use Rattle.nf_token.specs.declared.token.TextKind.{TextKind}
+use Rattle.nf_token.specs.declared.token.TextKind.TheVariants.{Plain, Pattern, Template}
 use Rattle.nf_lexer.specs.declared.open.Open.{Open}
 use Rattle.nf_lexer.specs.declared.open.Open.TheVariants.{Hole, NamedHole, Text, Comment, LineComment}
 use Rattle.nf_lexer.specs.declared.open.Change.TheVariants.{Keep, Enter, Leave}
 use Rattle.nf_lexer.specs.Bytes.{is_blank, begins_name, is_not_line_feed, is_special, is_ordinary, is_in_comment}
 use Rattle.nf_lexer.specs.Front.{Item, silent, line_end, written, lexed, string_end, pattern_end, First, passes, finished, broken, checked}
 use Rattle.nf_lexer.specs.Open.{innermost, lets_lines_end, outermost, line_fault, end_fault}
-use Rattle.nf_lexer.specs.Spellings.{closing}
+use Rattle.nf_token.specs.Spellings.{closing}
 use Rattle.nf_lexer.specs.Word.{word, number, begins_property}
 use Rattle.nf_lexer.specs.Mark.{mark, marked}
 use Rattle.nf_lexer.specs.Escape.{escape, kept}

@@ -5,8 +5,8 @@ use Rattle.std.specs.Str.Lossy.{utf8_valid_len}
 use Rattle.nf_value.specs.declared.place.Place.{Place}
 use Rattle.nf_lexer.specs.declared.fault.LexFault.{LexFault}
 use Rattle.nf_lexer.specs.declared.fault.LexFault.TheVariants.{BadByte}
-use Rattle.nf_lexer.specs.declared.token.Token.{Token}
-use Rattle.nf_lexer.specs.declared.token.PlainKind.{PlainKind}
+use Rattle.nf_token.specs.declared.token.Token.{Token}
+use Rattle.nf_token.specs.declared.token.PlainKind.{PlainKind}
 use Rattle.nf_lexer.specs.declared.open.Change.{Change}
 use Rattle.nf_lexer.specs.Place.{beyond}
 

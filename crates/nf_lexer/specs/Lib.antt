@@ -1,5 +1,4 @@
 pub mod Bytes
-pub mod Spellings
 pub mod Place
 pub mod Fault
 pub mod Open

@@ -1,7 +1,7 @@
 -- What it is to take the longest mark.
 use Rattle.std.specs.Prelude.{◌≡◌, ℕ, ◌≤◌, List, ◌++◌, length, Option, Some}
 use Rattle.std.specs.List.{Contains}
-use Rattle.nf_lexer.specs.declared.token.Mark.{Mark}
+use Rattle.nf_token.specs.declared.token.Mark.{Mark}
 
 -- what was found is a mark of the list that stands in front, and no shorter than this one
 pub record IsLongest (ms : List (List ℕ × Mark)) (found : Option (Mark × ℕ)) (bs : List ℕ) (x : List ℕ × Mark) : Type 0 where

@@ -2,17 +2,17 @@
 use Rattle.std.specs.Prelude.{ℕ, List, [], ◌∷◌, length, Option, Some, None, ◌==◌, if◌then◌else◌}
 use Rattle.nf_value.specs.declared.place.Place.{Place}
 use Rattle.nf_lexer.specs.declared.fault.LexFault.TheVariants.{BadByte}
-use Rattle.nf_lexer.specs.declared.token.Mark.{Mark}
-use Rattle.nf_lexer.specs.declared.token.Mark.TheVariants as m
-use Rattle.nf_lexer.specs.declared.token.Token.{Token}
-use Rattle.nf_lexer.specs.declared.token.Token.TheVariants as t
+use Rattle.nf_token.specs.declared.token.Mark.{Mark}
+use Rattle.nf_token.specs.declared.token.Mark.TheVariants as m
+use Rattle.nf_token.specs.declared.token.Token.{Token}
+use Rattle.nf_token.specs.declared.token.Token.TheVariants as t
 use Rattle.nf_lexer.specs.declared.open.Open.{Open}
 use Rattle.nf_lexer.specs.declared.open.Open.TheVariants.{Round, Square, Brace, Hole}
 use Rattle.nf_lexer.specs.declared.open.Change.{Change}
 use Rattle.nf_lexer.specs.declared.open.Change.TheVariants.{Keep, Enter, Leave, LeaveBrace}
 use Rattle.nf_lexer.specs.Front.{First, lexed, passes, broken}
 use Rattle.nf_lexer.specs.Open.{innermost, nearest}
-use Rattle.nf_lexer.specs.Spellings.{marks}
+use Rattle.nf_token.specs.Spellings.{marks}
 
 -- what follows a spelling, where the bytes begin with it
 abbrev pub past : List ℕ → List ℕ → Option (List ℕ)

@@ -2,10 +2,10 @@
 use Rattle.std.specs.Prelude.{Bool, true, false, List, [], ◌∷◌, Option, Some, None, if◌then◌else◌}
 use Rattle.nf_lexer.specs.declared.fault.LexFault.{LexFault}
 use Rattle.nf_lexer.specs.declared.fault.LexFault.TheVariants.{OpenString, OpenComment}
-use Rattle.nf_lexer.specs.declared.token.PlainKind.TheVariants.{TripleSingle}
-use Rattle.nf_lexer.specs.declared.token.TemplateKind.TheVariants.{TripleDouble}
-use Rattle.nf_lexer.specs.declared.open.TextKind.{TextKind}
-use Rattle.nf_lexer.specs.declared.open.TextKind.TheVariants.{Plain, Template}
+use Rattle.nf_token.specs.declared.token.PlainKind.TheVariants.{TripleSingle}
+use Rattle.nf_token.specs.declared.token.TemplateKind.TheVariants.{TripleDouble}
+use Rattle.nf_token.specs.declared.token.TextKind.{TextKind}
+use Rattle.nf_token.specs.declared.token.TextKind.TheVariants.{Plain, Template}
 use Rattle.nf_lexer.specs.declared.open.Open.{Open}
 use Rattle.nf_lexer.specs.declared.open.Open.TheVariants.{Brace, Hole, Text, Comment}
 use Rattle.nf_lexer.specs.declared.open.Change.{Change}

@@ -7,12 +7,12 @@ use Rattle.std.specs.Str.Parse.{digits_value}
 use Rattle.nf_value.specs.declared.place.Place.{Place}
 use Rattle.nf_lexer.specs.declared.fault.LexFault.TheVariants.{BigNumber}
 use Rattle.nf_lexer.specs.declared.open.Change.TheVariants.{Keep}
-use Rattle.nf_lexer.specs.declared.token.Keyword.{Keyword}
-use Rattle.nf_lexer.specs.declared.token.Token.{Token}
-use Rattle.nf_lexer.specs.declared.token.Token.TheVariants as t
+use Rattle.nf_token.specs.declared.token.Keyword.{Keyword}
+use Rattle.nf_token.specs.declared.token.Token.{Token}
+use Rattle.nf_token.specs.declared.token.Token.TheVariants as t
 use Rattle.nf_lexer.specs.Bytes.{begins_name, is_in_name}
 use Rattle.nf_lexer.specs.Front.{First, lexed, passes, broken}
-use Rattle.nf_lexer.specs.Spellings.{keywords}
+use Rattle.nf_token.specs.Spellings.{keywords}
 
 -- the keyword of the list that is spelled so
 abbrev pub keyword_in : List (List ℕ × Keyword) → List ℕ → Option Keyword

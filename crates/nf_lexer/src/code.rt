@@ -9,10 +9,10 @@ ghost use Rattle.nf_lexer.specs.View.{front_view, part_view};
 
 use crate::front::{Bit, Front, Part, Raw, bad_byte, next};
 use crate::marks::marked;
-use crate::open::{Change, Open, Opened, TextKind};
+use crate::open::{Change, Open, Opened};
 use crate::quoted::closing;
-use crate::token::{PlainKind, TemplateKind};
 use crate::word::{begins_name, number, word};
+use nf_token::{PlainKind, TemplateKind, TextKind};
 use nf_value::Place;
 
 /// What stands first between tokens.

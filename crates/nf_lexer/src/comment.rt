@@ -8,8 +8,8 @@ ghost use Rattle.nf_lexer.specs.View.{front_view};
 
 use crate::front::{Front, Part, Raw, checked, next};
 use crate::open::Change;
-use crate::token::Mark;
 use crate::word::{begins_name, begins_property, word};
+use nf_token::Mark;
 use nf_value::Place;
 
 /// In a comment `//`, or in the first line.

@@ -13,7 +13,7 @@ use crate::fault::LexFault;
 use crate::open::{Change, Open, Opened};
 use crate::place::further;
 use crate::quoted::in_text;
-use crate::token::{Mark, PlainKind, TemplateKind};
+use nf_token::{Mark, PlainKind, TemplateKind};
 use nf_value::Place;
 
 /// A token whose text isn't made yet.

@@ -9,8 +9,8 @@ ghost use Rattle.std.specs.String.{string_bytes};
 
 use crate::front::{Bit, Part, Raw};
 use crate::settler::Settler;
-use crate::token::{Lexeme, PlainKind, Token};
 use crate::word::token_of;
+use nf_token::{Lexeme, PlainKind, Token};
 use nf_value::{Mem, Place, Txt};
 use std::alloc::Global;
 

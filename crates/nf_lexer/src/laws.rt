@@ -6,11 +6,11 @@ ghost use Rattle.std.specs.Str.{IsUtf8};
 ghost use Rattle.nf_value.specs.declared.place.Place.{Place};
 ghost use Rattle.nf_lexer.specs.declared.fault.LexFault.{LexFault};
 ghost use Rattle.nf_lexer.specs.declared.fault.LexFault.TheVariants.{ScriptTooLong};
-ghost use Rattle.nf_lexer.specs.declared.token.Lexeme.{Lexeme};
-ghost use Rattle.nf_lexer.specs.declared.token.Mark.{Mark};
+ghost use Rattle.nf_token.specs.declared.token.Lexeme.{Lexeme};
+ghost use Rattle.nf_token.specs.declared.token.Mark.{Mark};
 ghost use Rattle.nf_lexer.specs.Longest.{IsLongest};
 ghost use Rattle.nf_lexer.specs.Mark.{mark};
-ghost use Rattle.nf_lexer.specs.Spellings.{marks};
+ghost use Rattle.nf_token.specs.Spellings.{marks};
 ghost use Rattle.nf_lexer.specs.Tokens.{IsTokensOf, Breaks, most_bytes};
 
 /// A text has a list of tokens and an end, or breaks a rule first.

@@ -8,9 +8,9 @@ use crate::fault::LexFault;
 use crate::front;
 use crate::front::Front;
 use crate::joiner::Joiner;
-use crate::list::Tokens;
 use crate::open::{Change, Open, Opened};
 use crate::place::past;
+use nf_token::Tokens;
 use nf_value::{Mem, Place};
 use std::alloc::Global;
 

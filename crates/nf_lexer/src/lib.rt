@@ -9,16 +9,12 @@ mod front;
 mod joiner;
 pub mod laws;
 mod lexer;
-mod list;
 mod marks;
 mod open;
 mod place;
 mod quoted;
 mod settler;
-mod token;
 mod word;
 
 pub use fault::LexFault;
 pub use lexer::tokens;
-pub use list::Tokens;
-pub use token::{Keyword, Lexeme, Mark, PlainKind, TemplateKind, Token};

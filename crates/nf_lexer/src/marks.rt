@@ -6,7 +6,7 @@ ghost use Rattle.nf_lexer.specs.View.{front_view, raw_view};
 
 use crate::front::{Front, Part, Raw, bad_byte, next};
 use crate::open::{Change, Open, Opened};
-use crate::token::Mark;
+use nf_token::Mark;
 use nf_value::Place;
 
 /// The longest mark in front, with what it opens or closes.

@@ -5,18 +5,10 @@ ghost use Rattle.nf_lexer.specs.Open.{innermost as innermost_of, around, lets_li
 ghost use Rattle.nf_lexer.specs.View.{opens, IsSummed};
 
 use crate::fault::LexFault;
-use crate::token::{PlainKind, TemplateKind};
+use nf_token::TextKind;
 use nf_value::{Mem, Place};
 use std::alloc::Global;
 use std::marker::Model;
-
-/// What stands between quote marks.
-#[derive(Clone, Copy)]
-pub enum TextKind {
-    Plain(PlainKind),
-    Pattern,
-    Template(TemplateKind),
-}
 
 /// Something that is open, with the place of its opening where a fault may name it.
 #[derive(Clone, Copy)]

@@ -6,16 +6,16 @@ ghost use Rattle.nf_lexer.specs.Bytes.{is_special as is_special_of, is_ordinary}
 ghost use Rattle.nf_lexer.specs.Escape.{escape as escape_of, kept as kept_of};
 ghost use Rattle.nf_lexer.specs.First.{in_text as in_text_of, ended as ended_of, has_escapes as has_escapes_of, has_holes as has_holes_of, hole as hole_of};
 ghost use Rattle.nf_lexer.specs.Front.{written, passes, checked};
-ghost use Rattle.nf_lexer.specs.Spellings.{closing as closing_of};
+ghost use Rattle.nf_token.specs.Spellings.{closing as closing_of};
 ghost use Rattle.nf_lexer.specs.View.{front_view, part_view};
 ghost use Rattle.nf_lexer.specs.declared.open.Change.TheVariants.{Keep};
 
 use crate::escape::{escape, kept};
 use crate::front::{Bit, Front, Part, Raw, bad_byte, next};
-use crate::open::{Change, Open, TextKind};
+use crate::open::{Change, Open};
 use crate::place::further;
-use crate::token::{PlainKind, TemplateKind};
 use crate::word::begins_name;
+use nf_token::{PlainKind, TemplateKind, TextKind};
 use nf_value::Place;
 
 /// In a string, pattern or template of this kind.

@@ -4,7 +4,7 @@ ghost use Rattle.std.specs.Prelude.{◌≡◌, [], ◌∷◌, ◌++◌, List, No
 ghost use Rattle.nf_lexer.specs.Separators.{Piece, lexed, line_end_at, settled, last_awaits_more as last_awaits_more_of, is_after_separator as is_after_separator_of, next_goes_on, awaits_more as awaits_more_of, mark_awaits_more as mark_awaits_more_of, goes_on as goes_on_of, mark_goes_on as mark_goes_on_of, is_separator as is_separator_of};
 ghost use Rattle.nf_lexer.specs.View.{outcome};
 
-use crate::token::{Keyword, Lexeme, Mark, Token};
+use nf_token::{Keyword, Lexeme, Mark, Token};
 use nf_value::{Mem, Place};
 use std::alloc::Global;
 

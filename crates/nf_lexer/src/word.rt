@@ -5,14 +5,14 @@ ghost use Rattle.std.specs.List.{prefix_len, AllPass};
 ghost use Rattle.std.specs.Str.Parse.{digits_value};
 ghost use Rattle.std.specs.Char.{is_ascii_digit};
 ghost use Rattle.nf_lexer.specs.Bytes.{is_in_name as is_in_name_of, begins_name as begins_name_of};
-ghost use Rattle.nf_lexer.specs.Spellings.{keywords};
+ghost use Rattle.nf_token.specs.Spellings.{keywords};
 ghost use Rattle.nf_lexer.specs.View.{front_view, raw_view};
 ghost use Rattle.nf_lexer.specs.Word.{word as word_of, number as number_of, word_token as word_token_of, keyword_in, limit, begins_property as begins_property_of};
 
 use crate::fault::LexFault;
 use crate::front::{Front, Part, Raw, next};
 use crate::open::Change;
-use crate::token::{Keyword, Token};
+use nf_token::{Keyword, Token};
 use nf_value::{Mem, Place, Txt};
 use std::alloc::Global;
 

@@ -2,11 +2,11 @@
 use Rattle.std.proofs.Common.{◌≡◌, ℕ, Bool, true, false, List, ◌∷◌, length, Some, None, refl, sym, subst, ap, arith}
 use Rattle.std.specs.Prelude.{codes, not, ◌&&◌, ◌||◌}
 use Rattle.nf_value.specs.declared.place.Place.{Place}
-use Rattle.nf_lexer.specs.declared.token.Mark.TheVariants as m
-use Rattle.nf_lexer.specs.declared.token.Keyword.TheVariants as k
-use Rattle.nf_lexer.specs.declared.token.Token.{Token}
-use Rattle.nf_lexer.specs.declared.token.Token.TheVariants as t
-use Rattle.nf_lexer.specs.declared.token.Lexeme.{Lexeme}
+use Rattle.nf_token.specs.declared.token.Mark.TheVariants as m
+use Rattle.nf_token.specs.declared.token.Keyword.TheVariants as k
+use Rattle.nf_token.specs.declared.token.Token.{Token}
+use Rattle.nf_token.specs.declared.token.Token.TheVariants as t
+use Rattle.nf_token.specs.declared.token.Lexeme.{Lexeme}
 use Rattle.nf_grammar.specs.Gram.{token, gives, either, rule}
 use Rattle.nf_grammar.specs.Parts.{no_next, none_of}
 use Rattle.nf_grammar.specs.Outcome.{got, unexpected}

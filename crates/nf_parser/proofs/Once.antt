@@ -1,6 +1,6 @@
 -- Any tokens are read as one script at most.
 use Rattle.std.proofs.Common.{◌≡◌, suc, Bool, true, List, [], refl, sym, subst}
-use Rattle.nf_lexer.specs.declared.token.Lexeme.{Lexeme}
+use Rattle.nf_token.specs.declared.token.Lexeme.{Lexeme}
 use Rattle.nf_grammar.specs.Gram.{many}
 use Rattle.nf_grammar.specs.Reads.{Reads, reads_token, reads_gives, reads_bind, reads_left, reads_right, reads_where, reads_end, reads_more, reads_rule}
 use Rattle.nf_ast.specs.Tree.{Tree}

@@ -1,8 +1,8 @@
 -- What a function of the parser answers whose part ends only with what comes after it.
 use Rattle.std.specs.Prelude.{◌≡◌, ℕ, Bool, true, false, not, List, [], ◌∷◌, length, Result, Ok, Err, codes, ◌⊎◌, ◌&&◌, ◌||◌}
 use Rattle.nf_value.specs.declared.place.Place.{Place}
-use Rattle.nf_lexer.specs.declared.token.Mark.TheVariants as m
-use Rattle.nf_lexer.specs.declared.token.Lexeme.{Lexeme}
+use Rattle.nf_token.specs.declared.token.Mark.TheVariants as m
+use Rattle.nf_token.specs.declared.token.Lexeme.{Lexeme}
 use Rattle.nf_grammar.specs.Gram.{◌>>=◌}
 use Rattle.nf_grammar.specs.Outcome.{Out, got}
 use Rattle.nf_ast.specs.Tree.{Tree, point, tuple}

@@ -13,7 +13,7 @@ ghost use Rattle.nf_exprs.specs.Parses.{Parses, Takes};
 
 use nf_ast::{Function, Parameter, Stmt, Top};
 use nf_exprs::{Fault, closures, expect, exprs, stmts};
-use nf_lexer::{Keyword, Lexeme, Mark, Token};
+use nf_token::{Keyword, Lexeme, Mark, Token};
 use nf_value::Place;
 use std::alloc::Global;
 

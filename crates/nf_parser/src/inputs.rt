@@ -12,7 +12,7 @@ ghost use Rattle.nf_exprs.specs.Parses.{Parses};
 use crate::sections;
 use nf_ast::{Input, InputPart, Inputs};
 use nf_exprs::{Fault, expect, peek};
-use nf_lexer::{Lexeme, Mark};
+use nf_token::{Lexeme, Mark};
 use nf_value::{Place, Txt};
 use std::alloc::Global;
 

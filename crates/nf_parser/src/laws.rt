@@ -2,7 +2,7 @@
 
 ghost use Rattle.std.specs.Prelude.{◌≡◌, List};
 ghost use Rattle.nf_value.specs.declared.place.Place.{Place};
-ghost use Rattle.nf_lexer.specs.declared.token.Lexeme.{Lexeme};
+ghost use Rattle.nf_token.specs.declared.token.Lexeme.{Lexeme};
 ghost use Rattle.nf_ast.specs.Tree.{Tree};
 ghost use Rattle.nf_parser.specs.Spells.{Whole, Spells, IsUnexpected, IsTooDeep};
 

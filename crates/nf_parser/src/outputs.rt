@@ -9,7 +9,7 @@ ghost use Rattle.nf_exprs.specs.Level as level;
 ghost use Rattle.nf_exprs.specs.Tokens as kind;
 ghost use Rattle.nf_exprs.specs.Rules as row;
 ghost use Rattle.nf_exprs.specs.Parses.{Parses, Outcome};
-ghost use Rattle.nf_lexer.specs.declared.token.Mark.TheVariants as m;
+ghost use Rattle.nf_token.specs.declared.token.Mark.TheVariants as m;
 ghost use Rattle.nf_grammar.specs.Outcome.{got};
 ghost use Rattle.nf_ast.specs.Tree.{empty};
 ghost use Rattle.nf_parser.specs.Ends.{ParsesBefore, TakesComma, tuple_end};
@@ -17,7 +17,7 @@ ghost use Rattle.nf_parser.specs.Ends.{ParsesBefore, TakesComma, tuple_end};
 use crate::sections;
 use nf_ast::{Label, Output, OutputPart, OutputValue, Outputs};
 use nf_exprs::{Fault, closures, expect, exprs, peek};
-use nf_lexer::{Lexeme, Mark};
+use nf_token::{Lexeme, Mark};
 use nf_value::Place;
 use std::alloc::Global;
 

@@ -8,7 +8,7 @@ ghost use Rattle.nf_parser.specs.Spells.{Whole, Spells, Answers, Refuses};
 use crate::tops;
 use nf_ast::Script;
 use nf_exprs::{Fault, ParseFault, place_at};
-use nf_lexer::{Lexeme, Tokens};
+use nf_token::{Lexeme, Tokens};
 use std::alloc::Global;
 
 /// The script that the tokens spell, all of the tokens (Nextflow reference documentation, "Syntax"; the part of it that is read, and

@@ -16,7 +16,7 @@ ghost use Rattle.nf_parser.specs.Ends.{ParsesAs, section_next, task_left, IsStra
 use crate::{inputs, outputs, sections};
 use nf_ast::{Arg, Directive, Expr, Inputs, Outputs, Process, Section, Task, Top};
 use nf_exprs::{Fault, expect, peek, posts, prims};
-use nf_lexer::{Lexeme, Mark};
+use nf_token::{Lexeme, Mark};
 use std::alloc::Global;
 
 /// What stands in a process after its directives.

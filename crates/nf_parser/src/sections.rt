@@ -10,7 +10,7 @@ ghost use Rattle.nf_parser.specs.Ends.{IsStray};
 
 use nf_ast::Section;
 use nf_exprs::{Fault, expect, peek, stmts};
-use nf_lexer::{Lexeme, Mark};
+use nf_token::{Lexeme, Mark};
 use nf_value::Place;
 use std::alloc::Global;
 

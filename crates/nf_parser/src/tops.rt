@@ -11,7 +11,7 @@ ghost use Rattle.nf_exprs.specs.Parses.{Parses};
 use crate::{definitions, processes, workflows};
 use nf_ast::{Script, Top};
 use nf_exprs::{Fault, expect, peek};
-use nf_lexer::{Keyword, Lexeme};
+use nf_token::{Keyword, Lexeme};
 use std::alloc::Global;
 
 /// A script, up to where nothing goes on with it.

@@ -15,7 +15,7 @@ ghost use Rattle.nf_parser.specs.Ends.{parts_next};
 use crate::sections;
 use nf_ast::{Emit, Emits, Parts, Section, Take, Top, Workflow, WorkflowBody};
 use nf_exprs::{Fault, expect, exprs, peek, stmts};
-use nf_lexer::{Lexeme, Mark};
+use nf_token::{Lexeme, Mark};
 use nf_value::{Place, Txt};
 use std::alloc::Global;
 

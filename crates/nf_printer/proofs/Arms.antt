@@ -2,7 +2,7 @@
 use Rattle.std.proofs.Common.{◌≡◌, Bool, false, List, [], ◌∷◌, ◌++◌, refl, sym, ap, ◌∙◌}
 use Rattle.std.specs.Prelude.{not, Option, Some, None, if◌then◌else◌}
 use Rattle.std.proofs.lemmas.List.{append_assoc, append-nil}
-use Rattle.nf_lexer.specs.declared.token.Keyword.TheVariants as k
+use Rattle.nf_token.specs.declared.token.Keyword.TheVariants as k
 use Rattle.nf_ast.specs.Tree as tree
 use Rattle.nf_ast.specs.Tree.{Tree}
 use Rattle.nf_ast.specs.View.{ArmTree, choice, last_arm}

@@ -3,7 +3,7 @@ use Rattle.std.proofs.Common.{◌≡◌, ℕ, List, [], ◌∷◌, ◌++◌, tru
 use Rattle.std.specs.Prelude.{codes, if◌then◌else◌}
 use Rattle.nf_ast.specs.Tree.{Tree}
 use Rattle.nf_ast.specs.View.{trees}
-use Rattle.nf_lexer.specs.declared.token.Mark.TheVariants as m
+use Rattle.nf_token.specs.declared.token.Mark.TheVariants as m
 use Rattle.nf_printer.specs.Ink.{Ink, mark, name, blank}
 use Rattle.nf_printer.specs.Lines.{is_expr, before_first}
 use Rattle.nf_printer.specs.Tops.{workflow_parts, statements, task, inner_line, part, body_section, outside, word, braced, process_head}

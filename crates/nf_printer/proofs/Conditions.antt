@@ -3,7 +3,7 @@ use Rattle.std.proofs.Common.{◌≡◌, ℕ, zero, suc, Bool, true, false, List
 use Rattle.std.specs.Prelude.{◌&&◌, not}
 use Rattle.std.proofs.lemmas.List.{append_assoc, append-nil}
 use Rattle.nf_value.specs.declared.place.Place.{Place}
-use Rattle.nf_lexer.specs.declared.token.Mark.TheVariants as m
+use Rattle.nf_token.specs.declared.token.Mark.TheVariants as m
 use Rattle.nf_ast.specs.declared.marks.BranchMark.{BranchMark}
 use Rattle.nf_ast.specs.declared.marks.BranchMark.TheVariants.{Then, Else, Elvis}
 use Rattle.nf_ast.specs.Tree as tree

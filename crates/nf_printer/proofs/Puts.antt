@@ -1,6 +1,6 @@
 -- What several calls print one after another.
 use Rattle.std.proofs.Common.{◌≡◌, ℕ, Bool, List, ◌++◌, refl, sym, ap, ◌∙◌}
-use Rattle.nf_lexer.specs.declared.token.Mark.TheVariants as m
+use Rattle.nf_token.specs.declared.token.Mark.TheVariants as m
 use Rattle.nf_printer.specs.Ink.{Ink, inked}
 use Rattle.nf_printer.specs.Levels.{within}
 use Rattle.nf_printer.specs.Chains.{bracket}

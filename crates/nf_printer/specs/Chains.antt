@@ -1,8 +1,8 @@
 -- The text of what stands in one list: operands of one level, parts after an expression, conditions.
 use Rattle.std.specs.Prelude.{ℕ, zero, suc, Bool, true, false, not, ◌&&◌, List, [], ◌∷◌, ◌++◌, nat_lt, if◌then◌else◌}
-use Rattle.nf_lexer.specs.declared.token.Keyword.TheVariants as k
-use Rattle.nf_lexer.specs.declared.token.Mark.{Mark}
-use Rattle.nf_lexer.specs.declared.token.Mark.TheVariants as m
+use Rattle.nf_token.specs.declared.token.Keyword.TheVariants as k
+use Rattle.nf_token.specs.declared.token.Mark.{Mark}
+use Rattle.nf_token.specs.declared.token.Mark.TheVariants as m
 use Rattle.nf_ast.specs.declared.marks.BranchMark.{BranchMark}
 use Rattle.nf_ast.specs.declared.marks.BranchMark.TheVariants.{Then, Else, Elvis}
 use Rattle.nf_ast.specs.declared.expr.Prefix.{Prefix}

@@ -1,6 +1,6 @@
 -- What contracts see of this crate's own types.
-use Rattle.nf_lexer.specs.declared.open.TextKind.{TextKind}
-use Rattle.nf_lexer.specs.declared.open.TextKind.TheVariants.{Plain, Pattern, Template}
+use Rattle.nf_token.specs.declared.token.TextKind.{TextKind}
+use Rattle.nf_token.specs.declared.token.TextKind.TheVariants.{Plain, Pattern, Template}
 use Rattle.nf_printer.specs.declared.escapes.Style.{Style}
 use Rattle.nf_printer.specs.declared.escapes.Style.TheVariants as s
 use Rattle.nf_printer.specs.declared.layout.Margin.{Margin}

@@ -8,7 +8,7 @@ ghost use Rattle.nf_printer.specs.Chains.{none_late as none_late_of, opens_late 
 use crate::levels::{CONDITION, level};
 use crate::writer::Writer;
 use nf_ast::{Branch, BranchMark, Expr};
-use nf_lexer::Mark;
+use nf_token::Mark;
 use nf_value::Mem;
 
 /// How far the marks of a conditional expression were read.

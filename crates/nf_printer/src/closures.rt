@@ -16,7 +16,7 @@ use crate::layout::Margin;
 use crate::leading::{is_expression, prints};
 use crate::writer::Writer;
 use nf_ast::{Arm, Closure, ClosureBody, Expr, Label, Stmt};
-use nf_lexer::{Keyword, Mark};
+use nf_token::{Keyword, Mark};
 use nf_value::{Mem, Place, Txt};
 
 /// A closure: on one line where it is one expression or nothing.

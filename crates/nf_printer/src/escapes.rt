@@ -1,11 +1,11 @@
 //! What stands for a byte in a string.
 
 ghost use Rattle.std.specs.Prelude.{◌≡◌, ◌==◌, ◌||◌, if◌then◌else◌};
-ghost use Rattle.nf_lexer.specs.Spellings.{closing};
+ghost use Rattle.nf_token.specs.Spellings.{closing};
 ghost use Rattle.nf_printer.specs.Ink.{letter as letter_of, blank_letter as blank_letter_of, line_letter as line_letter_of};
 ghost use Rattle.nf_printer.specs.Styles.{kind_of};
 
-use nf_lexer::{PlainKind, TemplateKind};
+use nf_token::{PlainKind, TemplateKind};
 
 /// How a string is written.
 #[derive(Clone, Copy)]

@@ -21,7 +21,7 @@ use crate::writer::Writer;
 use nf_ast::{
     Arg, Branch, Expr, InfixMark, Key, Operand, Pair, Piece, Postfix, Prefix, PrefixMark,
 };
-use nf_lexer::{Keyword, Mark, TemplateKind};
+use nf_token::{Keyword, Mark, TemplateKind};
 use nf_value::{Mem, Place, Txt};
 
 /// An expression; `guarded` where the name that it begins with has to stand in brackets.

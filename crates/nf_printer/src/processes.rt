@@ -20,7 +20,7 @@ use nf_ast::{
     Arg, Directive, Input, InputPart, Inputs, Label, Output, OutputPart, OutputValue, Outputs,
     Process, Section, Task,
 };
-use nf_lexer::Mark;
+use nf_token::Mark;
 use nf_value::{Mem, Txt};
 
 /// A process.

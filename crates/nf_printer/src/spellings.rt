@@ -3,7 +3,7 @@
 ghost use Rattle.std.specs.Prelude.{◌≡◌};
 ghost use Rattle.nf_printer.specs.Ink.{mark_text as text_of_mark, keyword_text as text_of_keyword};
 
-use nf_lexer::{Keyword, Mark};
+use nf_token::{Keyword, Mark};
 
 /// The bytes of a mark.
 pub fn mark_text(mark: Mark) -> &'static str

@@ -17,7 +17,7 @@ use crate::layout::Margin;
 use crate::processes::put_process;
 use crate::writer::Writer;
 use nf_ast::{Emit, Emits, Function, Parameter, Parts, Section, Take, Top, Workflow, WorkflowBody};
-use nf_lexer::{Keyword, Mark};
+use nf_token::{Keyword, Mark};
 use nf_value::{Mem, Place, Txt};
 
 /// The tops of a script, with an empty line between two.

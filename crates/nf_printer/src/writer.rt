@@ -9,7 +9,7 @@ ghost use Rattle.nf_printer.specs.Styles.{kind_of};
 use crate::escapes::{Style, letter};
 use crate::spellings::{keyword_text, mark_text};
 use itoa::Buffer;
-use nf_lexer::{Keyword, Mark, PlainKind, TemplateKind};
+use nf_token::{Keyword, Mark, PlainKind, TemplateKind};
 use nf_value::{Mem, Txt};
 use std::alloc::Global;
 use std::marker::Model;

@@ -6,7 +6,7 @@ use nf_ast::{
     Outputs, Pair, Parameter, Parts, Piece, Postfix, Prefix, PrefixMark, Process, Script, Section,
     Stmt, Take, Task, Top, Workflow, WorkflowBody,
 };
-use nf_lexer::{PlainKind, TemplateKind};
+use nf_token::{PlainKind, TemplateKind};
 use nf_value::{Mem, Place, Txt};
 use std::alloc::Global;
 use std::test::Fail;

@@ -1,6 +1,7 @@
 //! Worked texts and their tokens.
 
-use nf_lexer::{Keyword, Mark, PlainKind, TemplateKind, Token, laws, tokens};
+use nf_lexer::{laws, tokens};
+use nf_token::{Keyword, Mark, PlainKind, TemplateKind, Token};
 use std::alloc::Global;
 use std::fmt::Write;
 use std::test::Fail;

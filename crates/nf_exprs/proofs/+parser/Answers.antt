@@ -1,8 +1,8 @@
 use Rattle.std.proofs.Common.{ℕ, suc, ◌+◌, List, length, map, Some, refl, sym, subst, ap, ◌∙◌, arith}
 use Rattle.std.specs.Prelude.{option_map, codes, not}
 use Rattle.std.proofs.lemmas.Result.{err_from_is_err_and}
-use Rattle.nf_lexer.specs.declared.token.Mark.TheVariants as m
-use Rattle.nf_lexer.specs.declared.token.Keyword.TheVariants as k
+use Rattle.nf_token.specs.declared.token.Mark.TheVariants as m
+use Rattle.nf_token.specs.declared.token.Keyword.TheVariants as k
 use Rattle.nf_grammar.specs.Gram.{rule, gives, ◌>>=◌}
 use Rattle.nf_grammar.specs.Parts.{no_next}
 use Rattle.nf_grammar.specs.Outcome.{got, too_deep}

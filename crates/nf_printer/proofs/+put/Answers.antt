@@ -1,8 +1,8 @@
 use Rattle.std.proofs.Common.{◌≡◌, [], ◌∷◌, ◌++◌, map, false, ap, ◌∙◌, sym, rules}
 use Rattle.std.specs.Prelude.{◌&&◌, not, codes, Some, None, OnOk, option_map, if◌then◌else◌}
 use Rattle.std.proofs.lemmas.Result.{on_ok_weaker}
-use Rattle.nf_lexer.specs.declared.token.Keyword.TheVariants as w
-use Rattle.nf_lexer.specs.declared.token.Mark.TheVariants as m
+use Rattle.nf_token.specs.declared.token.Keyword.TheVariants as w
+use Rattle.nf_token.specs.declared.token.Mark.TheVariants as m
 use Rattle.nf_ast.specs.declared.expr.Expr.{the_lemmas}
 use Rattle.nf_ast.specs.Tree as tree
 use Rattle.nf_ast.specs.View.{view, view_operand, view_branch, view_postfix, view_stmt, view_stmts, view_arm, operands, conditional, postfix, prefixes, choice, last_arm}

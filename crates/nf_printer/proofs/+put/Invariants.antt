@@ -2,7 +2,7 @@ use Rattle.std.proofs.Common.{◌≡◌, ◌≤◌, ◌++◌, [], map, drop}
 use Rattle.std.specs.Prelude.{false, if◌then◌else◌}
 use Rattle.nf_ast.specs.View.{views, view_operand, view_branch, view_postfix, view_piece, view_pair, view_arg, view_label, view_stmts, view_arm, trees}
 use Rattle.nf_printer.specs.Ink.{inked, keyword}
-use Rattle.nf_lexer.specs.declared.token.Keyword.TheVariants as k
+use Rattle.nf_token.specs.declared.token.Keyword.TheVariants as k
 use Rattle.nf_printer.specs.Lines.{between, first_before}
 use Rattle.nf_printer.specs.Exprs.{comma, spaced, listed, parts, pieces}
 use Rattle.nf_printer.specs.Chains.{operands_inks, parts_inks, branches_inks, arms_inks}

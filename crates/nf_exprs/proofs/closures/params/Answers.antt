@@ -1,5 +1,5 @@
 use Rattle.std.proofs.lemmas.Result.{err_from_is_err_and}
-use Rattle.nf_lexer.specs.declared.token.Mark.TheVariants as m
+use Rattle.nf_token.specs.declared.token.Mark.TheVariants as m
 use Rattle.nf_grammar.specs.Parts.{no_next}
 use Rattle.nf_grammar.proofs.Short.{ret, seq, stop}
 use Rattle.nf_exprs.specs.Level.{Prim}

@@ -1,5 +1,5 @@
 use Rattle.std.proofs.Common.{◌-◌, length, drop, ap, ◌∙◌, List, subst}
-use Rattle.nf_lexer.specs.declared.token.Lexeme.{Lexeme}
+use Rattle.nf_token.specs.declared.token.Lexeme.{Lexeme}
 use Rattle.nf_grammar.specs.Gram.{rule}
 use Rattle.nf_grammar.specs.Outcome.{got}
 use Rattle.nf_ast.specs.View.{view}

@@ -3,7 +3,7 @@ use Rattle.nf_grammar.specs.Gram.{gives, bind, rule}
 use Rattle.nf_grammar.proofs.Short.{seq, stop}
 use Rattle.nf_exprs.specs.Rules.{rules}
 use Rattle.nf_exprs.proofs.Steps.{lift_fault}
-use Rattle.nf_lexer.specs.declared.token.Mark.TheVariants as m
+use Rattle.nf_token.specs.declared.token.Mark.TheVariants as m
 use Rattle.nf_exprs.specs.Level as level
 use Rattle.nf_exprs.specs.Rules as row
 use Rattle.nf_parser.proofs.definitions.braced.Goals as goal

@@ -6,8 +6,8 @@ use Rattle.nf_grammar.proofs.Short.{ret, seq, ruled, stop, sees}
 use Rattle.nf_ast.specs.View.{view_stmts, names}
 use Rattle.nf_exprs.specs.Rules.{rules}
 use Rattle.nf_exprs.proofs.Steps.{lift_fault}
-use Rattle.nf_lexer.specs.declared.token.Mark.TheVariants as m
-use Rattle.nf_lexer.specs.declared.token.Keyword.TheVariants as k
+use Rattle.nf_token.specs.declared.token.Mark.TheVariants as m
+use Rattle.nf_token.specs.declared.token.Keyword.TheVariants as k
 use Rattle.nf_ast.specs.Tree as tree
 use Rattle.nf_exprs.specs.Level as level
 use Rattle.nf_exprs.specs.Tokens as kind

@@ -6,7 +6,7 @@ use Rattle.nf_grammar.proofs.Short.{ret, seq, stop, sees}
 use Rattle.nf_ast.specs.View.{view}
 use Rattle.nf_exprs.specs.Rules.{rules}
 use Rattle.nf_exprs.proofs.Steps.{lift_fault}
-use Rattle.nf_lexer.specs.declared.token.Mark.TheVariants as m
+use Rattle.nf_token.specs.declared.token.Mark.TheVariants as m
 use Rattle.nf_ast.specs.Tree as tree
 use Rattle.nf_exprs.specs.Level as level
 use Rattle.nf_exprs.specs.Tokens as kind

@@ -3,7 +3,7 @@ use Rattle.nf_grammar.proofs.Short.{ret, misses, seq, off, first_arm, second_arm
 use Rattle.nf_exprs.specs.Rules.{rules}
 use Rattle.nf_exprs.proofs.Steps.{took_one, lift_fault}
 use Rattle.nf_parser.proofs.Words.{named, no_mark}
-use Rattle.nf_lexer.specs.declared.token.Mark.TheVariants as m
+use Rattle.nf_token.specs.declared.token.Mark.TheVariants as m
 use Rattle.nf_exprs.specs.Tokens as kind
 use Rattle.nf_exprs.specs.Rules as row
 use Rattle.nf_parser.proofs.inputs.bound.Goals as goal

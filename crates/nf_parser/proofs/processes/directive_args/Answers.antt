@@ -7,7 +7,7 @@ use Rattle.nf_exprs.specs.Rules.{rules}
 use Rattle.nf_exprs.proofs.Steps.{lift_fault, lifted}
 use Rattle.nf_parser.proofs.Words.{mark_came, mark_missed}
 use Rattle.nf_parser.proofs.Parts.{round_first, bare_second}
-use Rattle.nf_lexer.specs.declared.token.Mark.TheVariants as m
+use Rattle.nf_token.specs.declared.token.Mark.TheVariants as m
 use Rattle.nf_exprs.specs.Level as level
 use Rattle.nf_exprs.specs.Tokens as kind
 use Rattle.nf_exprs.specs.Rules as row

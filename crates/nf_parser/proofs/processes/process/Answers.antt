@@ -8,7 +8,7 @@ use Rattle.nf_ast.specs.Tops.{maybe, view_directive, view_inputs, view_outputs, 
 use Rattle.nf_exprs.specs.Rules.{rules}
 use Rattle.nf_exprs.proofs.Steps.{lift_fault}
 use Rattle.nf_parser.proofs.Stray.{goes_past, strays, sections_miss, sections_stand}
-use Rattle.nf_lexer.specs.declared.token.Mark.TheVariants as m
+use Rattle.nf_token.specs.declared.token.Mark.TheVariants as m
 use Rattle.nf_ast.specs.Tree as tree
 use Rattle.nf_exprs.specs.Level as level
 use Rattle.nf_exprs.specs.Tokens as kind

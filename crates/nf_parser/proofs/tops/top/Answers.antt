@@ -7,7 +7,7 @@ use Rattle.nf_exprs.specs.Rules.{rules}
 use Rattle.nf_exprs.proofs.Steps.{lifted}
 use Rattle.nf_parser.proofs.Words.{word_came, word_missed, mark_came, mark_missed, other_word, word_named, no_keyword, keyword_no_word}
 use Rattle.nf_parser.proofs.Parts.{no_small_top, no_process, no_workflow, no_function}
-use Rattle.nf_lexer.specs.declared.token.Keyword.TheVariants as k
+use Rattle.nf_token.specs.declared.token.Keyword.TheVariants as k
 use Rattle.nf_exprs.specs.Level as level
 use Rattle.nf_exprs.specs.Tokens as kind
 use Rattle.nf_exprs.specs.Rules as row

@@ -5,7 +5,7 @@ use Rattle.nf_grammar.specs.Parts.{no_next}
 use Rattle.nf_grammar.proofs.Short.{ret, seq, ruled, stop}
 use Rattle.nf_exprs.specs.Rules.{rules}
 use Rattle.nf_exprs.proofs.Steps.{lift_fault}
-use Rattle.nf_lexer.specs.declared.token.Mark.TheVariants as m
+use Rattle.nf_token.specs.declared.token.Mark.TheVariants as m
 use Rattle.nf_exprs.specs.Level as level
 use Rattle.nf_exprs.specs.Tokens as kind
 use Rattle.nf_exprs.specs.Rules as row

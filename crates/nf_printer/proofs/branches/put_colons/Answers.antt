@@ -1,5 +1,5 @@
 use Rattle.std.proofs.Common.{◌≡◌, ◌+◌, ◌-◌, ◌++◌, suc, ap, arith, rules}
-use Rattle.nf_lexer.specs.declared.token.Mark.TheVariants as m
+use Rattle.nf_token.specs.declared.token.Mark.TheVariants as m
 use Rattle.nf_printer.specs.Ink.{mark}
 use Rattle.nf_printer.specs.Exprs.{spaced}
 use Rattle.nf_printer.specs.Chains.{colons}

@@ -1,6 +1,6 @@
 use Rattle.std.proofs.Common.{◌≡◌, [], ◌∷◌, ◌++◌, map, refl, ap, ◌∙◌, rules}
 use Rattle.std.proofs.lemmas.Result.{on_ok_weaker}
-use Rattle.nf_lexer.specs.declared.token.Mark.TheVariants as m
+use Rattle.nf_token.specs.declared.token.Mark.TheVariants as m
 use Rattle.nf_ast.specs.View.{trees}
 use Rattle.nf_ast.specs.Tops.{maybe, view_directive, view_inputs, view_outputs, view_task, view_section}
 use Rattle.nf_printer.specs.Ink.{inked, mark}

@@ -1,13 +1,13 @@
 -- How keywords, marks and quote marks are spelled.
 use Rattle.std.specs.Prelude.{ℕ, List, [], ◌∷◌, codes}
-use Rattle.nf_lexer.specs.declared.token.Keyword.{Keyword}
-use Rattle.nf_lexer.specs.declared.token.Keyword.TheVariants as k
-use Rattle.nf_lexer.specs.declared.token.Mark.{Mark}
-use Rattle.nf_lexer.specs.declared.token.Mark.TheVariants as m
-use Rattle.nf_lexer.specs.declared.token.PlainKind.TheVariants.{Single, TripleSingle, Slashes}
-use Rattle.nf_lexer.specs.declared.token.TemplateKind.TheVariants.{Double, TripleDouble}
-use Rattle.nf_lexer.specs.declared.open.TextKind.{TextKind}
-use Rattle.nf_lexer.specs.declared.open.TextKind.TheVariants.{Plain, Pattern, Template}
+use Rattle.nf_token.specs.declared.token.Keyword.{Keyword}
+use Rattle.nf_token.specs.declared.token.Keyword.TheVariants as k
+use Rattle.nf_token.specs.declared.token.Mark.{Mark}
+use Rattle.nf_token.specs.declared.token.Mark.TheVariants as m
+use Rattle.nf_token.specs.declared.token.PlainKind.TheVariants.{Single, TripleSingle, Slashes}
+use Rattle.nf_token.specs.declared.token.TemplateKind.TheVariants.{Double, TripleDouble}
+use Rattle.nf_token.specs.declared.token.TextKind.{TextKind}
+use Rattle.nf_token.specs.declared.token.TextKind.TheVariants.{Plain, Pattern, Template}
 
 abbrev pub keywords : List (List ℕ × Keyword)
 keywords =

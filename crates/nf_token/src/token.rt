@@ -110,6 +110,17 @@ pub enum TemplateKind {
     TripleDouble,
 }
 
+/// What stands between quote marks: what kind of string, pattern or template it is (own).
+#[derive(Clone, Copy)]
+pub enum TextKind {
+    /// A plain string.
+    Plain(PlainKind),
+    /// A pattern, `~/../`.
+    Pattern,
+    /// A template.
+    Template(TemplateKind),
+}
+
 /// A token of a script (own: the subset's tokens). A template is flat in the list:
 /// its opening, its texts and holes in turn, its closing. So is a hole: its opening,
 /// its tokens, its end.

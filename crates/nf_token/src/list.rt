@@ -16,7 +16,7 @@ pub struct Tokens {
 impl Model for Tokens {
     ghost use Rattle.std.specs.Prelude.{List};
     ghost use Rattle.nf_value.specs.declared.place.Place.{Place};
-    ghost use Rattle.nf_lexer.specs.declared.token.Lexeme.{Lexeme};
+    ghost use Rattle.nf_token.specs.declared.token.Lexeme.{Lexeme};
 
     ghost Value = { List Lexeme × Place };
 
@@ -25,7 +25,7 @@ impl Model for Tokens {
 
 impl Tokens {
     /// The list of these tokens. Takes no memory.
-    pub(crate) fn of(items: Vec<Lexeme>, end: Place) -> Tokens
+    pub fn of(items: Vec<Lexeme>, end: Place) -> Tokens
         ensures { result ≡ (items.items, end) }
     {
         Tokens { items, end }
