@@ -2,7 +2,7 @@
 
 use crate::parsed::parsed;
 use anyhow::{Result, bail};
-use nf_ast::{Closure, ClosureBody, Expr, Function};
+use nf_ast::{ClosureBody, ClosureExpr, Expr, Function};
 use nf_eval::Env;
 use nf_value::Txt;
 use std::alloc::Global;
@@ -41,7 +41,7 @@ fn function(alloc: Global, name: &str, code: &str) -> Result<Function> {
         Expr::Closure(closure) => closure,
         _ => bail!("{name}: no closure"),
     };
-    let Closure {
+    let ClosureExpr {
         place,
         params,
         body,

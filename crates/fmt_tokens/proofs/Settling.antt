@@ -5,7 +5,7 @@ use Rattle.nf_token.specs.declared.token.Token.{Token}
 use Rattle.nf_token.specs.declared.token.Token.TheVariants as t
 use Rattle.nf_token.specs.declared.token.Lexeme.{Lexeme}
 use Rattle.nf_lexer.specs.Separators as s
-use Rattle.nf_lexer.specs.Separators.{Piece, is_separator}
+use Rattle.nf_lexer.specs.Separators.{Segment, is_separator}
 use Rattle.fmt_tokens.specs.Bits.{token_of, bit_of}
 use Rattle.fmt_tokens.specs.Retold as r
 
@@ -17,12 +17,12 @@ after_separator : (before : List Lexeme) → s.is_after_separator before ≡ r.i
 after_separator [] = refl
 after_separator (x ∷ before) = refl
 
-goes_on : (ps : List Piece) → s.next_goes_on ps ≡ r.next_goes_on (map bit_of ps)
+goes_on : (ps : List Segment) → s.next_goes_on ps ≡ r.next_goes_on (map bit_of ps)
 goes_on [] = refl
 goes_on (s.lexed x ∷ ps) = refl
 goes_on (s.line_end_at place ∷ ps) = goes_on ps
 
-separates : (before : List Lexeme) (ps : List Piece) → (s.line_end_separates before ps && not (s.is_after_separator before)) ≡ r.separates (map token_of before) (map bit_of ps)
+separates : (before : List Lexeme) (ps : List Segment) → (s.line_end_separates before ps && not (s.is_after_separator before)) ≡ r.separates (map token_of before) (map bit_of ps)
 separates before ps =
     ap (λ z. (not z && not (s.next_goes_on ps)) && not (s.is_after_separator before)) (last_awaits before)
     ∙ ap (λ z. (not (r.last_awaits_more (map token_of before)) && not z) && not (s.is_after_separator before)) (goes_on ps)
@@ -32,7 +32,7 @@ chosen : (c d : Bool) (x y : List Lexeme) (v w : List Token) → c ≡ d → map
 chosen true d x y v w e a b = a ∙ ap (λ z. cond z v w) e
 chosen false d x y v w e a b = b ∙ ap (λ z. cond z v w) e
 
-pub settled_bits : (ps : List Piece) (before : List Lexeme) → map token_of (s.settled before ps) ≡ r.settled (map token_of before) (map bit_of ps)
+pub settled_bits : (ps : List Segment) (before : List Lexeme) → map token_of (s.settled before ps) ≡ r.settled (map token_of before) (map bit_of ps)
 settled_bits [] before = refl
 settled_bits (s.lexed x ∷ ps) before =
     chosen (s.is_extra before x) _ (s.settled before ps) (x ∷ s.settled (x ∷ before) ps) _ _

@@ -14,7 +14,7 @@ use Rattle.nf_lexer.specs.declared.open.Change.TheVariants.{Enter}
 use Rattle.nf_lexer.specs.Front.{lexed, passes}
 use Rattle.nf_lexer.specs.Joined.{Placed, at, nothing, text, joined, lexeme, text_before}
 use Rattle.nf_lexer.specs.Separators as s
-use Rattle.nf_lexer.specs.Separators.{Piece}
+use Rattle.nf_lexer.specs.Separators.{Segment}
 use Rattle.nf_token.specs.declared.token.Token.{Token}
 use Rattle.nf_lexer.specs.Place.{place_of}
 use Rattle.nf_token.specs.Spellings.{closing}
@@ -72,7 +72,7 @@ hole_end_leads source o bs = mark_leads source m.CloseBrace bs (Hole ∷ o) refl
 
 -- ---- a text of a template
 
-text_before_is : (start : Place) (u : List ℕ) (b : ℕ) (w : List ℕ) (rest : List Piece) → u ≡ b ∷ w → text_before (text start u) rest ≡ s.lexed (lexeme (t.TemplateText u) start) ∷ rest
+text_before_is : (start : Place) (u : List ℕ) (b : ℕ) (w : List ℕ) (rest : List Segment) → u ≡ b ∷ w → text_before (text start u) rest ≡ s.lexed (lexeme (t.TemplateText u) start) ∷ rest
 text_before_is start u b w rest e = subst (λ z. text_before (text start z) rest ≡ s.lexed (lexeme (t.TemplateText z) start) ∷ rest) (sym e) refl
 
 -- bytes that are written, up to a token, are a text of the template and that token

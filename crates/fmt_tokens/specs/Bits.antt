@@ -4,7 +4,7 @@ use Rattle.nf_token.specs.declared.token.Token.{Token}
 use Rattle.nf_token.specs.declared.token.Lexeme.{Lexeme}
 use Rattle.nf_lexer.specs.Joined.{Placed, nothing, joined}
 use Rattle.nf_lexer.specs.Separators as s
-use Rattle.nf_lexer.specs.Separators.{Piece}
+use Rattle.nf_lexer.specs.Separators.{Segment}
 
 -- a piece without its place
 pub data Bit : Type 0 where
@@ -14,12 +14,12 @@ pub data Bit : Type 0 where
 abbrev pub token_of : Lexeme → Token
 token_of x = x.token
 
-abbrev pub bit_of : Piece → Bit
+abbrev pub bit_of : Segment → Bit
 bit_of (s.lexed x) = token (token_of x)
 bit_of (s.line_end_at place) = ending
 
 -- the items come to these, whatever follows
 pub record Gives (v : List Placed) (bits : List Bit) : Type 0 where
-  pub pieces : List Piece
+  pub pieces : List Segment
   pub joins : (tail : List Placed) → joined nothing (v ++ tail) ≡ pieces ++ joined nothing tail
   pub are : map bit_of pieces ≡ bits

@@ -15,12 +15,12 @@ use Rattle.nf_ast.specs.declared.expr.Postfix.{Postfix}
 use Rattle.nf_ast.specs.declared.expr.Branch.{Branch}
 use Rattle.nf_ast.specs.declared.expr.Operand.{Operand}
 use Rattle.nf_ast.specs.declared.expr.Pair.{Pair}
-use Rattle.nf_ast.specs.declared.expr.Piece.{Piece}
+use Rattle.nf_ast.specs.declared.expr.Fragment.{Fragment}
 use Rattle.nf_ast.specs.declared.expr.Stmt.{Stmt}
-use Rattle.nf_ast.specs.declared.expr.Closure.{Closure}
+use Rattle.nf_ast.specs.declared.expr.ClosureExpr.{ClosureExpr}
 use Rattle.nf_ast.specs.declared.expr.ClosureBody.TheOpen as o
-use Rattle.nf_ast.specs.declared.expr.ClosureBody.TheOpen.{Expr-F, Piece-F, Pair-F, Operand-F, Branch-F, Postfix-F, Arg-F, Closure-F, ClosureBody-F, Label-F, Stmt-F, Arm-F}
-use Rattle.nf_ast.specs.declared.expr.ClosureBody.TheFolds.{fold-Expr, fold-Piece, fold-Pair, fold-Operand, fold-Branch, fold-Postfix, fold-Arg, fold-Closure, fold-ClosureBody, fold-Label, fold-Stmt, fold-Arm}
+use Rattle.nf_ast.specs.declared.expr.ClosureBody.TheOpen.{Expr-F, Fragment-F, Pair-F, Operand-F, Branch-F, Postfix-F, Arg-F, ClosureExpr-F, ClosureBody-F, Label-F, Stmt-F, Arm-F}
+use Rattle.nf_ast.specs.declared.expr.ClosureBody.TheFolds.{fold-Expr, fold-Fragment, fold-Pair, fold-Operand, fold-Branch, fold-Postfix, fold-Arg, fold-ClosureExpr, fold-ClosureBody, fold-Label, fold-Stmt, fold-Arm}
 use Rattle.nf_ast.specs.Tree as tree
 use Rattle.nf_ast.specs.Tree.{Tree, empty, cons, name, snoc}
 
@@ -151,7 +151,7 @@ expr_step (o.Infix a xs) = operands a.value (xs.items)
 expr_step (o.Conditional a xs) = conditional [] a.value xs.items
 expr_step (o.Postfix e xs) = postfix e.value xs.items
 
-abbrev pub piece_step : Piece-F Tree Tree Tree Tree Tree Tree ArmTree BranchTree Tree Tree Tree Tree → Tree
+abbrev pub piece_step : Fragment-F Tree Tree Tree Tree Tree Tree ArmTree BranchTree Tree Tree Tree Tree → Tree
 piece_step (o.Plain p s) = tree.piece p s
 piece_step (o.Hole p e) = tree.hole p e
 
@@ -174,7 +174,7 @@ postfix_step (o.With c) = tree.call_with empty c
 abbrev pub arg_step : Arg-F Tree Tree Tree Tree Tree Tree ArmTree BranchTree Tree Tree Tree Tree → Tree
 arg_step x = with_name x.name x.value
 
-abbrev pub closure_step : Closure-F Tree Tree Tree Tree Tree Tree ArmTree BranchTree Tree Tree Tree Tree → Tree
+abbrev pub closure_step : ClosureExpr-F Tree Tree Tree Tree Tree Tree ArmTree BranchTree Tree Tree Tree Tree → Tree
 closure_step c = tree.closure c.place (params_tree (option_map (λ v. v.items) c.params)) c.body
 
 abbrev pub body_step : ClosureBody-F Tree Tree Tree Tree Tree Tree ArmTree BranchTree Tree Tree Tree Tree → Tree
@@ -200,8 +200,8 @@ arm_step x = record { place = x.place; condition = x.condition; body = trees x.b
 abbrev pub view : Expr → Tree
 view = fold-Expr Tree Tree Tree Tree Tree Tree ArmTree BranchTree Tree Tree Tree Tree body_step expr_step piece_step postfix_step stmt_step arg_step arm_step branch_step closure_step label_step operand_step pair_step
 
-abbrev pub view_piece : Piece → Tree
-view_piece = fold-Piece Tree Tree Tree Tree Tree Tree ArmTree BranchTree Tree Tree Tree Tree body_step expr_step piece_step postfix_step stmt_step arg_step arm_step branch_step closure_step label_step operand_step pair_step
+abbrev pub view_piece : Fragment → Tree
+view_piece = fold-Fragment Tree Tree Tree Tree Tree Tree ArmTree BranchTree Tree Tree Tree Tree body_step expr_step piece_step postfix_step stmt_step arg_step arm_step branch_step closure_step label_step operand_step pair_step
 
 abbrev pub view_pair : Pair → Tree
 view_pair = fold-Pair Tree Tree Tree Tree Tree Tree ArmTree BranchTree Tree Tree Tree Tree body_step expr_step piece_step postfix_step stmt_step arg_step arm_step branch_step closure_step label_step operand_step pair_step
@@ -218,8 +218,8 @@ view_postfix = fold-Postfix Tree Tree Tree Tree Tree Tree ArmTree BranchTree Tre
 abbrev pub view_arg : Arg → Tree
 view_arg = fold-Arg Tree Tree Tree Tree Tree Tree ArmTree BranchTree Tree Tree Tree Tree body_step expr_step piece_step postfix_step stmt_step arg_step arm_step branch_step closure_step label_step operand_step pair_step
 
-abbrev pub view_closure : Closure → Tree
-view_closure = fold-Closure Tree Tree Tree Tree Tree Tree ArmTree BranchTree Tree Tree Tree Tree body_step expr_step piece_step postfix_step stmt_step arg_step arm_step branch_step closure_step label_step operand_step pair_step
+abbrev pub view_closure : ClosureExpr → Tree
+view_closure = fold-ClosureExpr Tree Tree Tree Tree Tree Tree ArmTree BranchTree Tree Tree Tree Tree body_step expr_step piece_step postfix_step stmt_step arg_step arm_step branch_step closure_step label_step operand_step pair_step
 
 abbrev pub view_body : ClosureBody → Tree
 view_body = fold-ClosureBody Tree Tree Tree Tree Tree Tree ArmTree BranchTree Tree Tree Tree Tree body_step expr_step piece_step postfix_step stmt_step arg_step arm_step branch_step closure_step label_step operand_step pair_step

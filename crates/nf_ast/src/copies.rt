@@ -4,7 +4,8 @@ ghost use Rattle.std.specs.Prelude.{◌≡◌, IfOk};
 ghost use Rattle.nf_ast.specs.View.{view, view_operand, view_branch, view_postfix, view_piece, view_pair, view_arg, view_closure, view_body, view_label, view_stmt, view_arm, key_tree};
 
 use crate::expr::{
-    Arg, Arm, Branch, Closure, ClosureBody, Expr, Key, Label, Operand, Pair, Piece, Postfix, Stmt,
+    Arg, Arm, Branch, ClosureBody, ClosureExpr, Expr, Fragment, Key, Label, Operand, Pair, Postfix,
+    Stmt,
 };
 use crate::list_copies::{
     copy_args, copy_arms, copy_branches, copy_exprs, copy_labels, copy_operands, copy_pairs,
@@ -76,19 +77,19 @@ impl Expr {
     }
 }
 
-impl Piece {
+impl Fragment {
     /// Another piece, of the same tree.
     ///
     /// # Errors
     ///
     /// `Mem` where there is no memory for it.
     #[cycle(copy)]
-    pub fn copy(&self, alloc: Global) -> Result<Piece, Mem>
+    pub fn copy(&self, alloc: Global) -> Result<Fragment, Mem>
         ensures { IfOk result (λ p. view_piece p ≡ view_piece self.now) }
     {
         match self {
-            Piece::Plain(place, text) => Ok(Piece::Plain(*place, text.copy()?)),
-            Piece::Hole(place, expr) => Ok(Piece::Hole(*place, expr.copy(alloc)?)),
+            Fragment::Plain(place, text) => Ok(Fragment::Plain(*place, text.copy()?)),
+            Fragment::Hole(place, expr) => Ok(Fragment::Hole(*place, expr.copy(alloc)?)),
         }
     }
 }
@@ -175,19 +176,19 @@ impl Arg {
     }
 }
 
-impl Closure {
+impl ClosureExpr {
     /// Another closure, of the same tree.
     ///
     /// # Errors
     ///
     /// `Mem` where there is no memory for it.
     #[cycle(copy)]
-    pub fn copy(&self, alloc: Global) -> Result<Closure, Mem>
+    pub fn copy(&self, alloc: Global) -> Result<ClosureExpr, Mem>
         ensures { IfOk result (λ c. view_closure c ≡ view_closure self.now) }
     {
         let params = copy_params(&self.params, alloc)?;
         let body = self.body.copy(alloc)?;
-        Ok(Closure::new(self.place, params, body))
+        Ok(ClosureExpr::new(self.place, params, body))
     }
 }
 

@@ -22,7 +22,7 @@ pub enum Expr {
     /// A pattern, with the place of its `~`.
     Pattern(Place, Txt),
     /// A template, with the place of its opening mark, its kind, and its texts and holes.
-    Template(Place, TemplateKind, Vec<Piece>),
+    Template(Place, TemplateKind, Vec<Fragment>),
     /// `true` or `false`.
     Truth(Place, bool),
     /// `null`.
@@ -34,7 +34,7 @@ pub enum Expr {
     /// `[k: v, ..]` or `[:]`, with the place of the bracket and the pairs.
     Map(Place, Vec<Pair>),
     /// A closure.
-    Closure(Closure),
+    Closure(ClosureExpr),
     /// Marks before an operand, the outermost first.
     Prefix(Vec<Prefix>, Box<Expr>),
     /// Operands of one level with the marks between them.
@@ -49,7 +49,7 @@ pub enum Expr {
 /// A text or a hole of a template.
 #[cycle(tree)]
 #[derive(Drop)]
-pub enum Piece {
+pub enum Fragment {
     /// A text, with the place where it begins.
     Plain(Place, Txt),
     /// A hole, with the place of its `$`.
@@ -123,7 +123,7 @@ pub enum Postfix {
     /// `(..)`, with the place of the bracket.
     Call(Place, Vec<Arg>),
     /// A closure that the call before it takes, or that is the call's one argument.
-    With(Closure),
+    With(ClosureExpr),
 }
 
 /// An argument.
@@ -139,7 +139,7 @@ pub struct Arg {
 /// A closure (Nextflow reference documentation, "Syntax", "Closure"). Contracts see its `Tree`, by `view_closure`.
 #[cycle(tree)]
 #[derive(Drop)]
-pub struct Closure {
+pub struct ClosureExpr {
     /// The place of its `{`.
     pub place: Place,
     /// The names before its `->`, with their places; `None` where there is no arrow, so that it has `it`.
@@ -302,7 +302,7 @@ impl Expr {
     }
 
     /// A template, whose opening mark stands at `place`. Takes no memory.
-    pub fn template(place: Place, kind: TemplateKind, parts: Vec<Piece>) -> Expr
+    pub fn template(place: Place, kind: TemplateKind, parts: Vec<Fragment>) -> Expr
         ensures { view result ≡ tree.template place kind (trees (map view_piece parts.items)) }
     {
         Expr::Template(place, kind, parts)
@@ -337,26 +337,26 @@ impl Expr {
     }
 
     /// A closure. Takes no memory.
-    pub fn closure(closure: Closure) -> Expr
+    pub fn closure(closure: ClosureExpr) -> Expr
         ensures { view result ≡ view_closure closure }
     {
         Expr::Closure(closure)
     }
 }
 
-impl Piece {
+impl Fragment {
     /// A text. Takes no memory.
-    pub fn plain(place: Place, text: Txt) -> Piece
+    pub fn plain(place: Place, text: Txt) -> Fragment
         ensures { view_piece result ≡ tree.piece place text }
     {
-        Piece::Plain(place, text)
+        Fragment::Plain(place, text)
     }
 
     /// A hole. Takes no memory.
-    pub fn hole(place: Place, expr: Expr) -> Piece
+    pub fn hole(place: Place, expr: Expr) -> Fragment
         ensures { view_piece result ≡ tree.hole place (view expr) }
     {
-        Piece::Hole(place, expr)
+        Fragment::Hole(place, expr)
     }
 }
 
@@ -408,7 +408,7 @@ impl Postfix {
     }
 
     /// A closure. Takes no memory.
-    pub fn with(closure: Closure) -> Postfix
+    pub fn with(closure: ClosureExpr) -> Postfix
         ensures { view_postfix result ≡ tree.call_with tree.empty (view_closure closure) }
     {
         Postfix::With(closure)
@@ -424,12 +424,12 @@ impl Arg {
     }
 }
 
-impl Closure {
+impl ClosureExpr {
     /// A closure. Takes no memory.
-    pub fn new(place: Place, params: Option<Vec<(Place, Txt)>>, body: ClosureBody) -> Closure
+    pub fn new(place: Place, params: Option<Vec<(Place, Txt)>>, body: ClosureBody) -> ClosureExpr
         ensures { view_closure result ≡ tree.closure place (params_tree (option_map (λ v. v.items) params)) (view_body body) }
     {
-        Closure {
+        ClosureExpr {
             place,
             params,
             body,

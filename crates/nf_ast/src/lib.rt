@@ -11,7 +11,7 @@ mod top_copies;
 mod tops;
 
 pub use expr::{
-    Arg, Arm, Branch, Closure, ClosureBody, Expr, Key, Label, Operand, Pair, Piece, Postfix,
+    Arg, Arm, Branch, ClosureBody, ClosureExpr, Expr, Fragment, Key, Label, Operand, Pair, Postfix,
     Prefix, Stmt,
 };
 pub use marks::{BranchMark, InfixMark, PrefixMark};

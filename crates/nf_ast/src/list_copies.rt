@@ -3,7 +3,7 @@
 ghost use Rattle.std.specs.Prelude.{◌≡◌, map, IfOk};
 ghost use Rattle.nf_ast.specs.View.{view, view_operand, view_branch, view_postfix, view_piece, view_pair, view_arg, view_label, view_stmt, view_arm};
 
-use crate::expr::{Arg, Arm, Branch, Expr, Label, Operand, Pair, Piece, Postfix, Stmt};
+use crate::expr::{Arg, Arm, Branch, Expr, Fragment, Label, Operand, Pair, Postfix, Stmt};
 use nf_value::Mem;
 use std::alloc::Global;
 
@@ -21,7 +21,7 @@ pub(crate) fn copy_exprs(exprs: &[Expr], alloc: Global) -> Result<Vec<Expr>, Mem
 
 /// Other pieces, of the same trees.
 #[cycle(copy)]
-pub(crate) fn copy_pieces(pieces: &[Piece], alloc: Global) -> Result<Vec<Piece>, Mem>
+pub(crate) fn copy_pieces(pieces: &[Fragment], alloc: Global) -> Result<Vec<Fragment>, Mem>
     ensures { IfOk result (λ v. map view_piece v.items ≡ map view_piece pieces.now) }
 {
     let mut copies = Vec::new(alloc);

@@ -11,14 +11,14 @@ use Rattle.nf_core.specs.declared.event.Event.{Event}
 use Rattle.nf_core.specs.declared.event.Event.TheVariants as e
 use Rattle.nf_core.specs.declared.event.Cause.{Cause}
 use Rattle.nf_core.specs.declared.event.Stop.{Stop}
-use Rattle.nf_core.specs.Rules.{Outs, Rules}
+use Rattle.nf_core.specs.Rules.{Outs, ProcessRules}
 use Rattle.nf_core.specs.Machine.{Taken, State, opening, replay, step, starts, finishes, finish_at}
 use Rattle.nf_lane.specs.World.{World}
 use Rattle.nf_core.specs.Serial.{IsFlying}
 use Rattle.nf_core.specs.Going.{IsDone, Matches, RisesWithin, IsOfWorld, IsBooked}
 use Rattle.nf_core.proofs.Serving.{taking, starting, finishing, aborting, all_push, finish_is_of}
 
-pub finishes_push : (R : Rules) (s : State) (h : List Event) (x : Event) → finishes R s (h ++ x ∷ []) ≡ finishes R s h ++ finish_at R (replay s h) x
+pub finishes_push : (R : ProcessRules) (s : State) (h : List Event) (x : Event) → finishes R s (h ++ x ∷ []) ≡ finishes R s h ++ finish_at R (replay s h) x
 finishes_push R s [] x = append-nil (finish_at R s x)
 finishes_push R s (y ∷ h) x = ap (λ l. finish_at R s y ++ l) (finishes_push R (step s y) h x) ∙ sym (append_assoc (finish_at R s y) (finishes R (step s y) h) (finish_at R (replay (step s y) h) x))
 
@@ -30,7 +30,7 @@ starts_push (e.Finish ticket report outs ∷ h) x = starts_push h x
 starts_push (e.Abort ticket cause ∷ h) x = starts_push h x
 
 -- an event after which nothing more is told
-quiet : (R : Rules) (s : State) (h : List Event) (x : Event) → finish_at R (replay s h) x ≡ [] → finishes R s (h ++ x ∷ []) ≡ finishes R s h
+quiet : (R : ProcessRules) (s : State) (h : List Event) (x : Event) → finish_at R (replay s h) x ≡ [] → finishes R s (h ++ x ∷ []) ≡ finishes R s h
 quiet R s h x q = finishes_push R s h x ∙ ap (λ l. finishes R s h ++ l) q ∙ append-nil (finishes R s h)
 
 rises_further : {D : Type 0} (number : D → ℕ) (low : ℕ) (ds : List D) (a b : ℕ) → a ≤ b → RisesWithin number low ds a → RisesWithin number low ds b
@@ -51,7 +51,7 @@ world_with : {X : Type 0} (P : World → X → Type 0) (w : Option World) (xs : 
 world_with P None xs x h p = h
 world_with P (Some v) xs x h p = all_push (P v) xs x h p
 
-module _ {D : Type 0} (Genuine : D → Type 0) (job_of : D → List ℕ) (report_by : D → Report) (number : D → ℕ) (R : Rules) (items : List Plain) where
+module _ {D : Type 0} (Genuine : D → Type 0) (job_of : D → List ℕ) (report_by : D → Report) (number : D → ℕ) (R : ProcessRules) (items : List Plain) where
   -- an event that starts so many tasks and finishes none
   books_on : (h : List Event) (kept : List D) (w : Option World) (first now later : ℕ) (x : Event) → finish_at R (replay (opening items) h) x ≡ [] → later ≡ now + starts (x ∷ [])
       → IsBooked Genuine job_of report_by number R items h kept w first now → IsBooked Genuine job_of report_by number R items (h ++ x ∷ []) kept w first later

@@ -11,7 +11,7 @@ use Rattle.nf_job.specs.declared.fault.TaskFault.{TaskFault}
 use Rattle.nf_job.specs.declared.emitted.Outputs.TheVariants.{Emits, Ignored, Failed, Again}
 use Rattle.nf_core.specs.declared.event.Event.{Event}
 use Rattle.nf_core.specs.declared.event.Stop.TheVariants as stop
-use Rattle.nf_core.specs.Rules.{Outs, Rules}
+use Rattle.nf_core.specs.Rules.{Outs, ProcessRules}
 use Rattle.nf_core.specs.Machine.{Taken, Ticket, Ended, State, opening, replay, step, ends, fails, came_back, or_stop}
 use Rattle.nf_core.specs.Tasks.{Instance, Outcomes, instance_of, numbered, input_lists, instances, ended_outcome, ticket_outcome, outcomes, faults, faults_from, refused, or_later, reports_of, emits}
 use Rattle.nf_core.specs.Going.{Failing}
@@ -30,12 +30,12 @@ finds_own call s es us xs e h =
 
 -- ---- a run in which all came back
 
-all_taken : (R : Rules) (items : List Plain) (k : ℕ) (s : State) → IsServed R items k s → length items ≤ k → map taken_of s.ended ≡ numbered [] (input_lists items)
+all_taken : (R : ProcessRules) (items : List Plain) (k : ℕ) (s : State) → IsServed R items k s → length items ≤ k → map taken_of s.ended ≡ numbered [] (input_lists items)
 all_taken R items k s h l =
     let none : drop k items ≡ [] = drop_all k items l in
     sym (append-nil (map taken_of s.ended)) ∙ ap (λ d. map taken_of s.ended ++ numbered (map taken_of s.ended) (input_lists d)) (sym none) ∙ h.numbers
 
-pub runs_well : (R : Rules) (call : List ℕ) (items : List Plain) (k : ℕ) (h : List Event) (emitted : List Plain) → IsServed R items k (replay (opening items) h) → length items ≤ k → emitted ≡ (replay (opening items) h).emitted → RunsWell R call items h emitted
+pub runs_well : (R : ProcessRules) (call : List ℕ) (items : List Plain) (k : ℕ) (h : List Event) (emitted : List Plain) → IsServed R items k (replay (opening items) h) → length items ≤ k → emitted ≡ (replay (opening items) h).emitted → RunsWell R call items h emitted
 runs_well R call items k h emitted is l e =
     let s : State = replay (opening items) h in
     let taken : map taken_of s.ended ≡ numbered [] (input_lists items) = all_taken R items k s is l in
@@ -64,10 +64,10 @@ one_fault (Ok Again) g later h = absurd h
 one_fault (Err f) g later h = ap (λ x. x ∷ []) h
 
 -- the state after a task that fails
-pub failed_state : (R : Rules) (items : List Plain) (k : ℕ) (t : Taken) (r : Report) (outs : Outs) (g : TaskFault) (s : State) → IsFlying R items k t true s → Failing outs g → step s (finishing k r outs) ≡ fails (ends (left_by s k) (ticket_of k t true) r outs) (ticket_of k t true) g
+pub failed_state : (R : ProcessRules) (items : List Plain) (k : ℕ) (t : Taken) (r : Report) (outs : Outs) (g : TaskFault) (s : State) → IsFlying R items k t true s → Failing outs g → step s (finishing k r outs) ≡ fails (ends (left_by s k) (ticket_of k t true) r outs) (ticket_of k t true) g
 failed_state R items k t r outs g s h f = finish_step k t r outs s h.tickets ∙ back_failing (left_by s k) (ticket_of k t true) r outs g f
 
-pub failed_stop : (R : Rules) (items : List Plain) (k : ℕ) (t : Taken) (r : Report) (outs : Outs) (g : TaskFault) (s : State) → IsFlying R items k t true s → Failing outs g → (step s (finishing k r outs)).stop ≡ Some (stop.Task 1 t.inputs t.n g)
+pub failed_stop : (R : ProcessRules) (items : List Plain) (k : ℕ) (t : Taken) (r : Report) (outs : Outs) (g : TaskFault) (s : State) → IsFlying R items k t true s → Failing outs g → (step s (finishing k r outs)).stop ≡ Some (stop.Task 1 t.inputs t.n g)
 failed_stop R items k t r outs g s h f = ap (λ (z : State). z.stop) (failed_state R items k t r outs g s h f) ∙ ap (λ o. or_stop o (Some (stop.Task 1 t.inputs t.n g))) h.stop
 
 is_first : {X : Type 0} (x : X) → Contains (x ∷ []) x
@@ -80,10 +80,10 @@ contains_by xs x h = subst (λ l. Contains l x) (sym h) (is_first x)
 instances_with : (call : List ℕ) (items : List Plain) (B : List Taken) (t : Taken) (us : List Taken) → (B ++ t ∷ []) ++ us ≡ numbered [] (input_lists items) → instances call items ≡ map (instance_of call) (B ++ t ∷ us)
 instances_with call items B t us h = ap (map (instance_of call)) (sym h ∙ append_assoc B (t ∷ []) us)
 
-among_all : (R : Rules) (call : List ℕ) (o : Outcomes) (items : List Plain) (B : List Taken) (t : Taken) (us : List Taken) (x : Instance × TaskFault) → (B ++ t ∷ []) ++ us ≡ numbered [] (input_lists items) → Contains (faults R o (instance_of call t)) x → Contains (flat_map (faults R o) (instances call items)) x
+among_all : (R : ProcessRules) (call : List ℕ) (o : Outcomes) (items : List Plain) (B : List Taken) (t : Taken) (us : List Taken) (x : Instance × TaskFault) → (B ++ t ∷ []) ++ us ≡ numbered [] (input_lists items) → Contains (faults R o (instance_of call t)) x → Contains (flat_map (faults R o) (instances call items)) x
 among_all R call o items B t us x h c = subst (λ z. Contains (flat_map (faults R o) z) x) (sym (instances_with call items B t us h)) (fault_among R call o B us t x c)
 
-pub failed_fault : (R : Rules) (call : List ℕ) (items : List Plain) (k : ℕ) (t : Taken) (r : Report) (outs : Outs) (g : TaskFault) (s s' : State) → IsFlying R items k t true s → IsOwn R (ended_by t r outs) → Failing outs g → s' ≡ step s (finishing k r outs) → Contains (flat_map (faults R (outcomes call s')) (instances call items)) (instance_of call t, g)
+pub failed_fault : (R : ProcessRules) (call : List ℕ) (items : List Plain) (k : ℕ) (t : Taken) (r : Report) (outs : Outs) (g : TaskFault) (s s' : State) → IsFlying R items k t true s → IsOwn R (ended_by t r outs) → Failing outs g → s' ≡ step s (finishing k r outs) → Contains (flat_map (faults R (outcomes call s')) (instances call items)) (instance_of call t, g)
 failed_fault R call items k t r outs g s s' h own f is =
     let e : Ended = ended_by t r outs in
     let B : List Taken = map taken_of s.ended in
@@ -111,7 +111,7 @@ refused_first job outputs (r ∷ rs) g h =
 is_head : {X : Type 0} (xs ys : List X) (x : X) → xs ≡ x ∷ ys → Contains xs x
 is_head xs ys x h = subst (λ l. Contains l x) (sym h) (0, omega arith, refl)
 
-pub refused_fault : (R : Rules) (call : List ℕ) (o : Outcomes) (items : List Plain) (k : ℕ) (t : Taken) (b : Bool) (g : TaskFault) (s : State) → IsFlying R items k t b s → R.job t.inputs t.n 1 ≡ Err g → Contains (flat_map (faults R o) (instances call items)) (instance_of call t, g)
+pub refused_fault : (R : ProcessRules) (call : List ℕ) (o : Outcomes) (items : List Plain) (k : ℕ) (t : Taken) (b : Bool) (g : TaskFault) (s : State) → IsFlying R items k t b s → R.job t.inputs t.n 1 ≡ Err g → Contains (flat_map (faults R o) (instances call items)) (instance_of call t, g)
 refused_fault R call o items k t b g s h j =
     let i : Instance = instance_of call t in
     let B : List Taken = map taken_of s.ended in

@@ -14,7 +14,7 @@ use Rattle.nf_core.specs.declared.event.Event.TheVariants as e
 use Rattle.nf_core.specs.declared.event.Cause.TheVariants.{NotAsked}
 use Rattle.nf_core.specs.declared.event.Stop.{Stop}
 use Rattle.nf_core.specs.declared.event.Stop.TheVariants as stop
-use Rattle.nf_core.specs.Rules.{Outs, Rules}
+use Rattle.nf_core.specs.Rules.{Outs, ProcessRules}
 use Rattle.nf_core.specs.Machine.{Taken, State, opening, replay, IsLawful}
 use Rattle.nf_core.specs.Serial.{AnswersTask, RunGives, count_equal, taken_by}
 use Rattle.nf_lane.specs.World.{World, report_of}
@@ -58,30 +58,30 @@ began_finished k n t h h2 h3 r outs a b c = b ∙ ap (λ l. l ++ e.Finish t r ou
 
 -- ---- a ticket in flight
 
-flies_first : (R : Rules) (items : List Plain) (k n : ℕ) (h : List Event) (out : List Plain) → k < length items → IsGoing R items k h out → n ≡ count_equal (item_in items k) (take k items) → Flies R items k (take_in items k n) false (h ++ taking k n ∷ [])
+flies_first : (R : ProcessRules) (items : List Plain) (k n : ℕ) (h : List Event) (out : List Plain) → k < length items → IsGoing R items k h out → n ≡ count_equal (item_in items k) (take k items) → Flies R items k (take_in items k n) false (h ++ taking k n ∷ [])
 flies_first R items k n h out l g c = after_take R items k n h l g.lawful g.served (c ∙ sym (number_is (item_in items k) (replay (opening items) h).taken (take k items) g.served.inputs))
 
-flies_next : (R : Rules) (items : List Plain) (k n : ℕ) (h : List Event) (out : List Plain) → k < length items → IsGoing R items k h out → n ≡ count_equal (item_in items k) (take k items) → Flies R items k (take_in items k n) true (h ++ taking k n ∷ [] ++ starting k NotAsked ∷ [])
+flies_next : (R : ProcessRules) (items : List Plain) (k n : ℕ) (h : List Event) (out : List Plain) → k < length items → IsGoing R items k h out → n ≡ count_equal (item_in items k) (take k items) → Flies R items k (take_in items k n) true (h ++ taking k n ∷ [] ++ starting k NotAsked ∷ [])
 flies_next R items k n h out l g c = after_start R items k (take_in items k n) NotAsked (h ++ taking k n ∷ []) (flies_first R items k n h out l g c)
 
 -- ---- exits
 
-pub halts_here : (R : Rules) (items : List Plain) (k : ℕ) (h h0 : List Event) (out : List Plain) → IsGoing R items k h out → h0 ≡ h → Halts R items h0 stop.Mem
+pub halts_here : (R : ProcessRules) (items : List Plain) (k : ℕ) (h h0 : List Event) (out : List Plain) → IsGoing R items k h out → h0 ≡ h → Halts R items h0 stop.Mem
 halts_here R items k h h0 out g e = record { lawful = subst (IsLawful R (opening items)) (sym e) g.lawful; stops = λ call. tt }
 
-is_refused : (R : Rules) (inputs : List Plain) (n : ℕ) (t : Taken) (z : TaskRefusal) (x : Stop) → taken_by inputs n ≡ t → AnswersTask {A = JobParts} (R.job inputs n 1) (Err z) → IsStopOf inputs n z x → IsRefused R t x
+is_refused : (R : ProcessRules) (inputs : List Plain) (n : ℕ) (t : Taken) (z : TaskRefusal) (x : Stop) → taken_by inputs n ≡ t → AnswersTask {A = JobParts} (R.job inputs n 1) (Err z) → IsStopOf inputs n z x → IsRefused R t x
 is_refused R inputs n t refusal.Mem x w a s = subst (IsRefused R t) (sym s) tt
 is_refused R inputs n t (refusal.Fault f) x w a s =
     subst (IsRefused R t) (sym s) (refl, ap (λ (u : Taken). u.inputs) w, ap (λ (u : Taken). u.n) w, subst (λ (u : Taken). R.job u.inputs u.n 1 ≡ Err f) w a)
 
-pub refused_exit : (R : Rules) (items : List Plain) (k n t : ℕ) (h h1 h2 : List Event) (out inputs : List Plain) (z : TaskRefusal) (x y : Stop)
+pub refused_exit : (R : ProcessRules) (items : List Plain) (k n t : ℕ) (h h1 h2 : List Event) (out inputs : List Plain) (z : TaskRefusal) (x y : Stop)
     → k < length items → IsGoing R items k h out → n ≡ count_equal (item_in items k) (take k items) → inputs ≡ item_in items k ∷ []
     → AnswersTask {A = JobParts} (R.job inputs n 1) (Err z) → IsStopOf inputs n z x → IsKeptStop x y → Took k n h h1 → h2 ≡ h1 ++ e.Abort t (Some y) ∷ [] → t ≡ suc k → Halts R items h2 y
 refused_exit R items k n t h h1 h2 out inputs z x y l g c i a s kept took b ticket =
     subst (λ d. Halts R items d y) (sym (took_aborted k n t h h1 h2 y took b ticket))
     (halts_refused R items k (take_in items k n) false (h ++ taking k n ∷ []) x y (flies_first R items k n h out l g c) (is_refused R inputs n (take_in items k n) z x (ap (λ j. taken_by j n) i) a s) kept)
 
-pub lost_exit : (R : Rules) (items : List Plain) (k n t : ℕ) (h h2 h3 : List Event) (out : List Plain) (x y : Stop)
+pub lost_exit : (R : ProcessRules) (items : List Plain) (k n t : ℕ) (h h2 h3 : List Event) (out : List Plain) (x y : Stop)
     → k < length items → IsGoing R items k h out → n ≡ count_equal (item_in items k) (take k items)
     → IsLost x → IsKeptStop x y → Began k n h h2 → h3 ≡ h2 ++ e.Abort t (Some y) ∷ [] → t ≡ suc k → Halts R items h3 y
 lost_exit R items k n t h h2 h3 out x y l g c lost kept began b ticket =
@@ -89,15 +89,15 @@ lost_exit R items k n t h h2 h3 out x y l g c lost kept began b ticket =
     (halts_lost R items k (take_in items k n) true (h ++ taking k n ∷ [] ++ starting k NotAsked ∷ []) x y (flies_next R items k n h out l g c) lost kept)
 
 -- what came back from the lane
-pub record CameBack (R : Rules) (t : Taken) (r : Report) (outs : Outs) (p : JobParts) : Type 0 where
+pub record CameBack (R : ProcessRules) (t : Taken) (r : Report) (outs : Outs) (p : JobParts) : Type 0 where
   pub job : R.job t.inputs t.n 1 ≡ Ok p
   pub outputs : outs ≡ R.outputs t.inputs 1 r
   pub last : IsFinalOuts outs
 
-pub came_back_by : (R : Rules) (items inputs : List Plain) (k n : ℕ) (r : Report) (outs : Outs) (p : JobParts) → inputs ≡ item_in items k ∷ [] → R.job inputs n 1 ≡ Ok p → outs ≡ R.outputs inputs 1 r → IsFinalOuts outs → CameBack R (take_in items k n) r outs p
+pub came_back_by : (R : ProcessRules) (items inputs : List Plain) (k n : ℕ) (r : Report) (outs : Outs) (p : JobParts) → inputs ≡ item_in items k ∷ [] → R.job inputs n 1 ≡ Ok p → outs ≡ R.outputs inputs 1 r → IsFinalOuts outs → CameBack R (take_in items k n) r outs p
 came_back_by R items inputs k n r outs p i j o l = record { job = subst (λ v. R.job v n 1 ≡ Ok p) i j; outputs = subst (λ v. outs ≡ R.outputs v 1 r) i o; last = l }
 
-pub goes_exit : (R : Rules) (items : List Plain) (k n t : ℕ) (h h2 h3 : List Event) (out out' : List Plain) (r : Report) (outs : Outs) (p : JobParts)
+pub goes_exit : (R : ProcessRules) (items : List Plain) (k n t : ℕ) (h h2 h3 : List Event) (out out' : List Plain) (r : Report) (outs : Outs) (p : JobParts)
     → k < length items → IsGoing R items k h out → n ≡ count_equal (item_in items k) (take k items)
     → CameBack R (take_in items k n) r outs p → IsSettled outs (take_in items k n) out out' None → Began k n h h2 → h3 ≡ h2 ++ e.Finish t r outs ∷ [] → t ≡ suc k → IsGoing R items (suc k) h3 out'
 goes_exit R items k n t h h2 h3 out out' r outs p l g c back settled began b ticket =
@@ -108,7 +108,7 @@ goes_exit R items k n t h h2 h3 out out' r outs p l g c back settled began b tic
     (subst (λ v. IsGoing R items (suc k) (canon ++ finishing k r outs ∷ []) v) (sym settled.1)
     (goes_on R items k (take_in items k n) canon out r outs p (flies_next R items k n h out l g c) (g.emitted ∙ sym same) back.job back.outputs back.last settled.0))
 
-pub failed_exit : (R : Rules) (items : List Plain) (k n t : ℕ) (h h2 h3 : List Event) (out out' : List Plain) (r : Report) (outs : Outs) (p : JobParts) (x : Stop)
+pub failed_exit : (R : ProcessRules) (items : List Plain) (k n t : ℕ) (h h2 h3 : List Event) (out out' : List Plain) (r : Report) (outs : Outs) (p : JobParts) (x : Stop)
     → k < length items → IsGoing R items k h out → n ≡ count_equal (item_in items k) (take k items)
     → CameBack R (take_in items k n) r outs p → IsSettled outs (take_in items k n) out out' (Some x) → Began k n h h2 → h3 ≡ h2 ++ e.Finish t r outs ∷ [] → t ≡ suc k → Halts R items h3 x
 failed_exit R items k n t h h2 h3 out out' r outs p x l g c back settled began b ticket =
@@ -117,11 +117,11 @@ failed_exit R items k n t h h2 h3 out out' r outs p x l g c back settled began b
 
 -- ---- the whole run
 
-pub gives_stop : (R : Rules) (items : List Plain) (h h' : List Event) (x : Stop) (o : Result (List Plain) Stop) → h' ≡ h → o ≡ Err x → Halts R items h x → (call : List ℕ) → RunGives R call items h' o
+pub gives_stop : (R : ProcessRules) (items : List Plain) (h h' : List Event) (x : Stop) (o : Result (List Plain) Stop) → h' ≡ h → o ≡ Err x → Halts R items h x → (call : List ℕ) → RunGives R call items h' o
 gives_stop R items h h' x o a b halts = λ call.
     subst (λ d. RunGives R call items d o) (sym a) (subst (λ p. RunGives R call items h p) (sym b) (halts.stops call))
 
-pub gives_all : (R : Rules) (items : List Plain) (k : ℕ) (h h' : List Event) (out vs : List Plain) (o : Result (List Plain) Stop) → h' ≡ h → o ≡ Ok vs → vs ≡ out → length items ≤ k → IsGoing R items k h out → (call : List ℕ) → RunGives R call items h' o
+pub gives_all : (R : ProcessRules) (items : List Plain) (k : ℕ) (h h' : List Event) (out vs : List Plain) (o : Result (List Plain) Stop) → h' ≡ h → o ≡ Ok vs → vs ≡ out → length items ≤ k → IsGoing R items k h out → (call : List ℕ) → RunGives R call items h' o
 gives_all R items k h h' out vs o a b e l g = λ call.
     subst (λ d. RunGives R call items d o) (sym a) (subst (λ p. RunGives R call items h p) (sym b) (runs_well R call items k h vs g.served l (e ∙ g.emitted)))
 
@@ -132,7 +132,7 @@ settled_at outs inputs items k n old old' new o o' i a b h =
 
 -- ---- the books
 
-module _ {D : Type 0} (Genuine : D → Type 0) (job_of : D → List ℕ) (report_by : D → Report) (number : D → ℕ) (R : Rules) (items : List Plain) where
+module _ {D : Type 0} (Genuine : D → Type 0) (job_of : D → List ℕ) (report_by : D → Report) (number : D → ℕ) (R : ProcessRules) (items : List Plain) where
   pub refused_books : (k n t : ℕ) (h h1 h2 : List Event) (kept kept' : List D) (w : Option World) (first now : ℕ) (y : Stop)
       → kept' ≡ kept → Took k n h h1 → h2 ≡ h1 ++ e.Abort t (Some y) ∷ [] → t ≡ suc k
       → IsBooked Genuine job_of report_by number R items h kept w first now → IsBooked Genuine job_of report_by number R items h2 kept' w first now

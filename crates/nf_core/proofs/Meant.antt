@@ -9,7 +9,7 @@ use Rattle.nf_value.specs.Plain.{Plain}
 use Rattle.nf_job.specs.declared.parts.JobParts.{JobParts}
 use Rattle.nf_job.specs.declared.report.Report.{Report}
 use Rattle.nf_job.specs.declared.fault.TaskFault.{TaskFault}
-use Rattle.nf_core.specs.Rules.{Outs, Rules, emitted_by, decided, decided_by}
+use Rattle.nf_core.specs.Rules.{Outs, ProcessRules, emitted_by, decided, decided_by}
 use Rattle.nf_core.specs.Machine.{Taken, Ended, number_of}
 use Rattle.nf_core.specs.Tasks.{Instance, Outcomes, is_instance, instance_of, reports_of, numbered, ended_outcome, outs_of, emitted_of, emits, refused, or_later, faults_from, faults}
 use Rattle.nf_core.specs.Serial.{taken_of, emitted_all, IsOwn, IsFine}
@@ -62,10 +62,10 @@ finds call before (e ∷ es) us (x ∷ xs) more h =
 decided_outs : (outputs : ℕ → Report → Outs) (reports told : List Report) (r : Report) (outs : Outs) → reports ≡ told → told ≡ r ∷ [] → outs ≡ outputs 1 r → ((later : Option Outs) → decided_by outs later ≡ Some outs) → decided outputs 1 reports ≡ Some outs
 decided_outs outputs reports told r outs f t o d = rw (f, t, ← o) (d None)
 
-own_outs : (R : Rules) (call : List ℕ) (o : Outcomes) (e : Ended) → IsOwn R e → reports_of o (instance_of call e.taken) ≡ e.told → outs_of R o (instance_of call e.taken) ≡ Some e.outs
+own_outs : (R : ProcessRules) (call : List ℕ) (o : Outcomes) (e : Ended) → IsOwn R e → reports_of o (instance_of call e.taken) ≡ e.told → outs_of R o (instance_of call e.taken) ≡ Some e.outs
 own_outs R call o e own f = decided_outs (R.outputs e.taken.inputs) (reports_of o (instance_of call e.taken)) e.told own.report e.outs f own.told own.outs own.decides
 
-pub emits_all : (R : Rules) (call : List ℕ) (o : Outcomes) (es : List Ended) → AllByRecursion (IsFine R) es → FindsReports call o es → flat_map (emits R o) (map (instance_of call) (map taken_of es)) ≡ emitted_all es
+pub emits_all : (R : ProcessRules) (call : List ℕ) (o : Outcomes) (es : List Ended) → AllByRecursion (IsFine R) es → FindsReports call o es → flat_map (emits R o) (map (instance_of call) (map taken_of es)) ≡ emitted_all es
 emits_all R call o [] fine f = refl
 emits_all R call o (e ∷ es) fine f =
     let own : IsFine R e = fine.0 in
@@ -77,16 +77,16 @@ emits_all R call o (e ∷ es) fine f =
 report_faults : (job : ℕ → Result JobParts TaskFault) (outputs : ℕ → Report → Outs) (reports told : List Report) (r : Report) (outs : Outs) (p : JobParts) (fs : List TaskFault) → reports ≡ told → told ≡ r ∷ [] → outs ≡ outputs 1 r → job 1 ≡ Ok p → ((later : List TaskFault) → or_later outs later ≡ fs) → faults_from job outputs 1 reports ≡ fs
 report_faults job outputs reports told r outs p fs f t o j l = rw (f, t, ← o, j) (l (refused (job 2)))
 
-pub own_faults : (R : Rules) (call : List ℕ) (o : Outcomes) (e : Ended) (fs : List TaskFault) → IsOwn R e → ((later : List TaskFault) → or_later e.outs later ≡ fs) → reports_of o (instance_of call e.taken) ≡ e.told → faults R o (instance_of call e.taken) ≡ map (λ f. (instance_of call e.taken, f)) fs
+pub own_faults : (R : ProcessRules) (call : List ℕ) (o : Outcomes) (e : Ended) (fs : List TaskFault) → IsOwn R e → ((later : List TaskFault) → or_later e.outs later ≡ fs) → reports_of o (instance_of call e.taken) ≡ e.told → faults R o (instance_of call e.taken) ≡ map (λ f. (instance_of call e.taken, f)) fs
 own_faults R call o e fs own l f = ap (map (λ g. (instance_of call e.taken, g))) (report_faults (R.job e.taken.inputs e.taken.n) (R.outputs e.taken.inputs) (reports_of o (instance_of call e.taken)) e.told own.report e.outs own.parts fs f own.told own.outs own.job l)
 
-pub no_faults : (R : Rules) (call : List ℕ) (o : Outcomes) (es : List Ended) → AllByRecursion (IsFine R) es → FindsReports call o es → flat_map (faults R o) (map (instance_of call) (map taken_of es)) ≡ []
+pub no_faults : (R : ProcessRules) (call : List ℕ) (o : Outcomes) (es : List Ended) → AllByRecursion (IsFine R) es → FindsReports call o es → flat_map (faults R o) (map (instance_of call) (map taken_of es)) ≡ []
 no_faults R call o [] fine f = refl
 no_faults R call o (e ∷ es) fine f =
     let own : IsFine R e = fine.0 in
     ap (λ l. l ++ flat_map (faults R o) (map (instance_of call) (map taken_of es))) (own_faults R call o e [] own.own own.faultless f.0) ∙ no_faults R call o es fine.1 f.1
 
 -- the fault of one of the takes is among those of all
-pub fault_among : (R : Rules) (call : List ℕ) (o : Outcomes) (ts us : List Taken) (t : Taken) (x : Instance × TaskFault) → Contains (faults R o (instance_of call t)) x → Contains (flat_map (faults R o) (map (instance_of call) (ts ++ t ∷ us))) x
+pub fault_among : (R : ProcessRules) (call : List ℕ) (o : Outcomes) (ts us : List Taken) (t : Taken) (x : Instance × TaskFault) → Contains (faults R o (instance_of call t)) x → Contains (flat_map (faults R o) (map (instance_of call) (ts ++ t ∷ us))) x
 fault_among R call o [] us t x h = Contains-append_left _ _ x h
 fault_among R call o (s ∷ ts) us t x h = Contains-append_right (faults R o (instance_of call s)) _ x (fault_among R call o ts us t x h)

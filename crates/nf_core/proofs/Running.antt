@@ -16,7 +16,7 @@ use Rattle.nf_core.specs.declared.event.Event.{Event}
 use Rattle.nf_core.specs.declared.event.Cause.{Cause}
 use Rattle.nf_core.specs.declared.event.Stop.{Stop}
 use Rattle.nf_core.specs.declared.event.Stop.TheVariants as stop
-use Rattle.nf_core.specs.Rules.{Outs, Rules, emitted_by, decided_by}
+use Rattle.nf_core.specs.Rules.{Outs, ProcessRules, emitted_by, decided_by}
 use Rattle.nf_core.specs.Machine.{Taken, State, opening, replay, step, IsLawful, IsCause, number_of, same_items}
 use Rattle.nf_core.specs.Tasks.{input_lists, or_later, instances, faults, outcomes, instance_of, Instance, Outcomes}
 use Rattle.nf_core.specs.Serial.{inputs_of, IsOwn, IsServed, IsFlying, StopsBy}
@@ -65,11 +65,11 @@ number_is x (t ∷ ts) (v ∷ vs) h =
 
 -- ---- a ticket in flight, in a history
 
-pub record Flies (R : Rules) (items : List Plain) (k : ℕ) (t : Taken) (b : Bool) (h : List Event) : Type 0 where
+pub record Flies (R : ProcessRules) (items : List Plain) (k : ℕ) (t : Taken) (b : Bool) (h : List Event) : Type 0 where
   pub lawful : IsLawful R (opening items) h
   pub flying : IsFlying R items k t b (replay (opening items) h)
 
-pub after_take : (R : Rules) (items : List Plain) (k n : ℕ) (h : List Event) → k < length items → IsLawful R (opening items) h → IsServed R items k (replay (opening items) h) → n ≡ number_of (item_at items k ∷ []) (replay (opening items) h).taken → Flies R items k (take_at items k n) false (h ++ taking k n ∷ [])
+pub after_take : (R : ProcessRules) (items : List Plain) (k n : ℕ) (h : List Event) → k < length items → IsLawful R (opening items) h → IsServed R items k (replay (opening items) h) → n ≡ number_of (item_at items k ∷ []) (replay (opening items) h).taken → Flies R items k (take_at items k n) false (h ++ taking k n ∷ [])
 after_take R items k n h l w is c =
     let s : State = replay (opening items) h in
     record {
@@ -77,7 +77,7 @@ after_take R items k n h l w is c =
       flying = subst (IsFlying R items k (take_at items k n) false) (sym (replay_push (opening items) h (taking k n))) (taken_next R items k n s l is c);
     }
 
-pub after_start : (R : Rules) (items : List Plain) (k : ℕ) (t : Taken) (c : Cause) (h : List Event) → Flies R items k t false h → Flies R items k t true (h ++ starting k c ∷ [])
+pub after_start : (R : ProcessRules) (items : List Plain) (k : ℕ) (t : Taken) (c : Cause) (h : List Event) → Flies R items k t false h → Flies R items k t true (h ++ starting k c ∷ [])
 after_start R items k t c h f =
     let s : State = replay (opening items) h in
     record {
@@ -87,12 +87,12 @@ after_start R items k t c h f =
 
 -- ---- a ticket that is given up
 
-cause_of_refused : (R : Rules) (k : ℕ) (t : Taken) (b : Bool) (x : Stop) → IsRefused R t x → IsCause R (ticket_of k t b) x
+cause_of_refused : (R : ProcessRules) (k : ℕ) (t : Taken) (b : Bool) (x : Stop) → IsRefused R t x → IsCause R (ticket_of k t b) x
 cause_of_refused R k t b stop.Mem h = tt
 cause_of_refused R k t b (stop.Outside o) h = absurd h
 cause_of_refused R k t b (stop.Task node inputs n fault) h = (h.0, h.1, h.2, ap (λ i. R.job i n 1) h.1 ∙ ap (λ m. R.job t.inputs m 1) h.2 ∙ h.3)
 
-cause_of_lost : (R : Rules) (k : ℕ) (t : Taken) (b : Bool) (x : Stop) → IsLost x → IsCause R (ticket_of k t b) x
+cause_of_lost : (R : ProcessRules) (k : ℕ) (t : Taken) (b : Bool) (x : Stop) → IsLost x → IsCause R (ticket_of k t b) x
 cause_of_lost R k t b stop.Mem h = tt
 cause_of_lost R k t b (stop.Outside o) h = tt
 cause_of_lost R k t b (stop.Task node inputs n fault) h = absurd h
@@ -101,16 +101,16 @@ cause_of_lost R k t b (stop.Task node inputs n fault) h = absurd h
 keeps : (P : Stop → Type 0) (x y : Stop) → IsKeptStop x y → P x → P stop.Mem → P y
 keeps P x y k p m = ⊎_elim (λ e. subst P (sym e) p) (λ e. subst P (sym e) m) k
 
-aborted_lawful : (R : Rules) (items : List Plain) (k : ℕ) (t : Taken) (b : Bool) (h : List Event) (x : Stop) → Flies R items k t b h → IsCause R (ticket_of k t b) x → IsLawful R (opening items) (h ++ aborting k x ∷ [])
+aborted_lawful : (R : ProcessRules) (items : List Plain) (k : ℕ) (t : Taken) (b : Bool) (h : List Event) (x : Stop) → Flies R items k t b h → IsCause R (ticket_of k t b) x → IsLawful R (opening items) (h ++ aborting k x ∷ [])
 aborted_lawful R items k t b h x f c = lawful_push R (opening items) h (aborting k x) f.lawful (abort_is_legal R items k t b x (replay (opening items) h) f.flying c)
 
-aborted_is : (R : Rules) (items : List Plain) (k : ℕ) (t : Taken) (b : Bool) (h : List Event) (x : Stop) → Flies R items k t b h → (replay (opening items) (h ++ aborting k x ∷ [])).stop ≡ Some x
+aborted_is : (R : ProcessRules) (items : List Plain) (k : ℕ) (t : Taken) (b : Bool) (h : List Event) (x : Stop) → Flies R items k t b h → (replay (opening items) (h ++ aborting k x ∷ [])).stop ≡ Some x
 aborted_is R items k t b h x f = ap (λ (z : State). z.stop) (replay_push (opening items) h (aborting k x)) ∙ aborted_stop R items k t b x (replay (opening items) h) f.flying
 
 named_fault : (call : List ℕ) (t : Taken) (inputs : List Plain) (n : ℕ) (fault : TaskFault) (fs : List (Instance × TaskFault)) → inputs ≡ t.inputs → n ≡ t.n → Contains fs (instance_of call t, fault) → Contains fs (record { call = call; inputs = inputs; n = n }, fault)
 named_fault call t inputs n fault fs i m c = subst (λ j. Contains fs (record { call = call; inputs = j; n = n }, fault)) (sym i) (subst (λ j. Contains fs (record { call = call; inputs = t.inputs; n = j }, fault)) (sym m) c)
 
-refused_stops : (R : Rules) (call : List ℕ) (items : List Plain) (k : ℕ) (t : Taken) (b : Bool) (h : List Event) (x : Stop) → Flies R items k t b h → IsRefused R t x → StopsBy R call items (h ++ aborting k x ∷ []) x
+refused_stops : (R : ProcessRules) (call : List ℕ) (items : List Plain) (k : ℕ) (t : Taken) (b : Bool) (h : List Event) (x : Stop) → Flies R items k t b h → IsRefused R t x → StopsBy R call items (h ++ aborting k x ∷ []) x
 refused_stops R call items k t b h stop.Mem f c = tt
 refused_stops R call items k t b h (stop.Outside o) f c = absurd c
 refused_stops R call items k t b h (stop.Task node inputs n fault) f c =
@@ -121,17 +121,17 @@ refused_stops R call items k t b h (stop.Task node inputs n fault) f c =
       named_fault call t inputs n fault _ c.1 c.2 mine,
     )
 
-lost_stops : (R : Rules) (call : List ℕ) (items : List Plain) (k : ℕ) (t : Taken) (b : Bool) (h : List Event) (x : Stop) → Flies R items k t b h → IsLost x → StopsBy R call items (h ++ aborting k x ∷ []) x
+lost_stops : (R : ProcessRules) (call : List ℕ) (items : List Plain) (k : ℕ) (t : Taken) (b : Bool) (h : List Event) (x : Stop) → Flies R items k t b h → IsLost x → StopsBy R call items (h ++ aborting k x ∷ []) x
 lost_stops R call items k t b h stop.Mem f c = tt
 lost_stops R call items k t b h (stop.Outside o) f c = aborted_is R items k t b h (stop.Outside o) f
 lost_stops R call items k t b h (stop.Task node inputs n fault) f c = absurd c
 
-pub halts_refused : (R : Rules) (items : List Plain) (k : ℕ) (t : Taken) (b : Bool) (h : List Event) (x y : Stop) → Flies R items k t b h → IsRefused R t x → IsKeptStop x y → Halts R items (h ++ aborting k y ∷ []) y
+pub halts_refused : (R : ProcessRules) (items : List Plain) (k : ℕ) (t : Taken) (b : Bool) (h : List Event) (x y : Stop) → Flies R items k t b h → IsRefused R t x → IsKeptStop x y → Halts R items (h ++ aborting k y ∷ []) y
 halts_refused R items k t b h x y f c kept =
     let d : IsRefused R t y = keeps (IsRefused R t) x y kept c tt in
     record { lawful = aborted_lawful R items k t b h y f (cause_of_refused R k t b y d); stops = λ call. refused_stops R call items k t b h y f d }
 
-pub halts_lost : (R : Rules) (items : List Plain) (k : ℕ) (t : Taken) (b : Bool) (h : List Event) (x y : Stop) → Flies R items k t b h → IsLost x → IsKeptStop x y → Halts R items (h ++ aborting k y ∷ []) y
+pub halts_lost : (R : ProcessRules) (items : List Plain) (k : ℕ) (t : Taken) (b : Bool) (h : List Event) (x y : Stop) → Flies R items k t b h → IsLost x → IsKeptStop x y → Halts R items (h ++ aborting k y ∷ []) y
 halts_lost R items k t b h x y f c kept =
     let d : IsLost y = keeps IsLost x y kept c tt in
     record { lawful = aborted_lawful R items k t b h y f (cause_of_lost R k t b y d); stops = λ call. lost_stops R call items k t b h y f d }
@@ -152,11 +152,11 @@ no_fault (Ok (Failed f)) g later = absurd g
 no_fault (Ok Again) g later = absurd g
 no_fault (Err f) g later = absurd g
 
-own_entry : (R : Rules) (t : Taken) (r : Report) (outs : Outs) (p : JobParts) → R.job t.inputs t.n 1 ≡ Ok p → outs ≡ R.outputs t.inputs 1 r → IsFinalOuts outs → IsOwn R (ended_by t r outs)
+own_entry : (R : ProcessRules) (t : Taken) (r : Report) (outs : Outs) (p : JobParts) → R.job t.inputs t.n 1 ≡ Ok p → outs ≡ R.outputs t.inputs 1 r → IsFinalOuts outs → IsOwn R (ended_by t r outs)
 own_entry R t r outs p j o f = record { report = r; told = refl; parts = p; job = j; outs = o; decides = final_decides outs f }
 
 -- after a task that came back well the run goes on
-pub goes_on : (R : Rules) (items : List Plain) (k : ℕ) (t : Taken) (h : List Event) (out : List Plain) (r : Report) (outs : Outs) (p : JobParts) → Flies R items k t true h → out ≡ (replay (opening items) h).emitted → R.job t.inputs t.n 1 ≡ Ok p → outs ≡ R.outputs t.inputs 1 r → IsFinalOuts outs → GoesOn outs → IsGoing R items (suc k) (h ++ finishing k r outs ∷ []) (out ++ emitted_by outs)
+pub goes_on : (R : ProcessRules) (items : List Plain) (k : ℕ) (t : Taken) (h : List Event) (out : List Plain) (r : Report) (outs : Outs) (p : JobParts) → Flies R items k t true h → out ≡ (replay (opening items) h).emitted → R.job t.inputs t.n 1 ≡ Ok p → outs ≡ R.outputs t.inputs 1 r → IsFinalOuts outs → GoesOn outs → IsGoing R items (suc k) (h ++ finishing k r outs ∷ []) (out ++ emitted_by outs)
 goes_on R items k t h out r outs p f e j o l g =
     let s : State = replay (opening items) h in
     let x : Event = finishing k r outs in
@@ -166,7 +166,7 @@ goes_on R items k t h out r outs p f e j o l g =
       emitted = ap (λ z. z ++ emitted_by outs) e ∙ sym (finished_emits R items k t r outs s f.flying g) ∙ ap (λ (z : State). z.emitted) (sym (replay_push (opening items) h x));
     }
 
-failed_stops : (R : Rules) (call : List ℕ) (items : List Plain) (k : ℕ) (t : Taken) (h : List Event) (r : Report) (outs : Outs) (p : JobParts) (x : Stop) → Flies R items k t true h → R.job t.inputs t.n 1 ≡ Ok p → outs ≡ R.outputs t.inputs 1 r → IsFinalOuts outs → IsFault outs t x → StopsBy R call items (h ++ finishing k r outs ∷ []) x
+failed_stops : (R : ProcessRules) (call : List ℕ) (items : List Plain) (k : ℕ) (t : Taken) (h : List Event) (r : Report) (outs : Outs) (p : JobParts) (x : Stop) → Flies R items k t true h → R.job t.inputs t.n 1 ≡ Ok p → outs ≡ R.outputs t.inputs 1 r → IsFinalOuts outs → IsFault outs t x → StopsBy R call items (h ++ finishing k r outs ∷ []) x
 failed_stops R call items k t h r outs p stop.Mem f j o l c = absurd c
 failed_stops R call items k t h r outs p (stop.Outside z) f j o l c = absurd c
 failed_stops R call items k t h r outs p (stop.Task node inputs n fault) f j o l c =
@@ -180,7 +180,7 @@ failed_stops R call items k t h r outs p (stop.Task node inputs n fault) f j o l
     (stopped ∙ ap Some named, named_fault call t inputs n fault _ c.1 c.2 (failed_fault R call items k t r outs fault s s' f.flying (own_entry R t r outs p j o l) c.3 after))
 
 -- after a task that failed it doesn't
-pub halts_failed : (R : Rules) (items : List Plain) (k : ℕ) (t : Taken) (h : List Event) (r : Report) (outs : Outs) (p : JobParts) (x : Stop) → Flies R items k t true h → R.job t.inputs t.n 1 ≡ Ok p → outs ≡ R.outputs t.inputs 1 r → IsFinalOuts outs → IsFault outs t x → Halts R items (h ++ finishing k r outs ∷ []) x
+pub halts_failed : (R : ProcessRules) (items : List Plain) (k : ℕ) (t : Taken) (h : List Event) (r : Report) (outs : Outs) (p : JobParts) (x : Stop) → Flies R items k t true h → R.job t.inputs t.n 1 ≡ Ok p → outs ≡ R.outputs t.inputs 1 r → IsFinalOuts outs → IsFault outs t x → Halts R items (h ++ finishing k r outs ∷ []) x
 halts_failed R items k t h r outs p x f j o l c =
     record {
       lawful = lawful_push R (opening items) h (finishing k r outs) f.lawful (finish_is_legal R items k t r outs (replay (opening items) h) f.flying o);

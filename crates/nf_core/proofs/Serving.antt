@@ -14,14 +14,14 @@ use Rattle.nf_core.specs.declared.event.Event.{Event}
 use Rattle.nf_core.specs.declared.event.Event.TheVariants as e
 use Rattle.nf_core.specs.declared.event.Cause.{Cause}
 use Rattle.nf_core.specs.declared.event.Stop.{Stop}
-use Rattle.nf_core.specs.Rules.{Outs, Rules, emitted_by}
+use Rattle.nf_core.specs.Rules.{Outs, ProcessRules, emitted_by}
 use Rattle.nf_core.specs.Machine.{Taken, Ticket, Ended, State, step, IsLegal, IsCause, InFlight, ticket_at, without, started_at, inputs_at, number_of, came_back, finished, ends, aborted, or_stop, opening, finish_at, finish_of}
 use Rattle.nf_core.specs.Tasks.{numbered, input_lists}
 use Rattle.nf_core.specs.Going.{GoesOn}
 use Rattle.nf_core.specs.Serial.{taken_of, inputs_of, emitted_all, IsFine, IsServed, IsFlying}
 
 -- a process that has taken nothing
-pub served_at_first : (R : Rules) (items : List Plain) → IsServed R items 0 (opening items)
+pub served_at_first : (R : ProcessRules) (items : List Plain) → IsServed R items 0 (opening items)
 served_at_first R items = record { waiting = refl; tickets = refl; gone = refl; stop = refl; next = refl; taken = refl; inputs = refl; numbers = refl; fine = tt; emitted = refl }
 
 -- ---- Take
@@ -44,7 +44,7 @@ taking k n = e.Take 1 0 0 (suc k) n
 first_left : (items w : List Plain) (k : ℕ) → k < length items → w ≡ drop k items → w ≡ item_at items k ∷ drop (suc k) items
 first_left items w k l h = h ∙ drop-cons items k null l
 
-pub take_is_legal : (R : Rules) (items : List Plain) (k n : ℕ) (s : State) → k < length items → IsServed R items k s → n ≡ number_of (item_at items k ∷ []) s.taken → IsLegal R s (taking k n)
+pub take_is_legal : (R : ProcessRules) (items : List Plain) (k n : ℕ) (s : State) → k < length items → IsServed R items k s → n ≡ number_of (item_at items k ∷ []) s.taken → IsLegal R s (taking k n)
 take_is_legal R items k n s l h c =
     let w : s.waiting ≡ item_at items k ∷ drop (suc k) items = first_left items s.waiting k l h.waiting in
     let first : item_at items k ∷ [] ≡ inputs_at s 0 = ap (λ v. get_or v 0 null ∷ []) (sym w) in
@@ -61,7 +61,7 @@ take_is_legal R items k n s l h c =
 inputs_with : (items : List Plain) (k : ℕ) → k < length items → input_lists (take (suc k) items) ≡ input_lists (take k items) ++ (item_at items k ∷ []) ∷ []
 inputs_with items k l = ap input_lists (take-suc items k null l) ∙ map-append (λ v. v ∷ []) (take k items) (item_at items k ∷ [])
 
-pub taken_next : (R : Rules) (items : List Plain) (k n : ℕ) (s : State) → k < length items → IsServed R items k s → n ≡ number_of (item_at items k ∷ []) s.taken → IsFlying R items k (take_at items k n) false (step s (taking k n))
+pub taken_next : (R : ProcessRules) (items : List Plain) (k n : ℕ) (s : State) → k < length items → IsServed R items k s → n ≡ number_of (item_at items k ∷ []) s.taken → IsFlying R items k (take_at items k n) false (step s (taking k n))
 taken_next R items k n s l h c =
     let x : Plain = item_at items k in
     let rest : List Plain = drop (suc k) items in
@@ -103,10 +103,10 @@ gone_from k t b ts h = ap (without (suc k)) h ∙ ap (λ d. cond d [] (ticket_of
 flies : (k : ℕ) (t : Taken) (b : Bool) (s : State) (P : Ticket → Type 0) → s.tickets ≡ ticket_of k t b ∷ [] → P (ticket_of k t b) → InFlight s (suc k) P
 flies k t b s P h p = subst (λ o. MatchOption o ⊥ P) (sym (in_flight k t b s.tickets h)) p
 
-pub start_is_legal : (R : Rules) (items : List Plain) (k : ℕ) (t : Taken) (c : Cause) (s : State) → IsFlying R items k t false s → IsLegal R s (starting k c)
+pub start_is_legal : (R : ProcessRules) (items : List Plain) (k : ℕ) (t : Taken) (c : Cause) (s : State) → IsFlying R items k t false s → IsLegal R s (starting k c)
 start_is_legal R items k t c s h = (h.stop, flies k t false s (λ q. q.started ≡ false) h.tickets refl)
 
-pub started_next : (R : Rules) (items : List Plain) (k : ℕ) (t : Taken) (c : Cause) (s : State) → IsFlying R items k t false s → IsFlying R items k t true (step s (starting k c))
+pub started_next : (R : ProcessRules) (items : List Plain) (k : ℕ) (t : Taken) (c : Cause) (s : State) → IsFlying R items k t false s → IsFlying R items k t true (step s (starting k c))
 started_next R items k t c s h = record {
   waiting = h.waiting;
   tickets = ap (started_at (suc k)) h.tickets ∙ ap (λ d. cond d (ticket_of k t true ∷ []) (ticket_of k t false ∷ [])) (equal k);
@@ -125,7 +125,7 @@ started_next R items k t c s h = record {
 abbrev pub finishing : ℕ → Report → Outs → Event
 finishing k r outs = e.Finish (suc k) r outs
 
-pub finish_is_legal : (R : Rules) (items : List Plain) (k : ℕ) (t : Taken) (r : Report) (outs : Outs) (s : State) → IsFlying R items k t true s → outs ≡ R.outputs t.inputs 1 r → IsLegal R s (finishing k r outs)
+pub finish_is_legal : (R : ProcessRules) (items : List Plain) (k : ℕ) (t : Taken) (r : Report) (outs : Outs) (s : State) → IsFlying R items k t true s → outs ≡ R.outputs t.inputs 1 r → IsLegal R s (finishing k r outs)
 finish_is_legal R items k t r outs s h o = flies k t true s (λ q. (q.started ≡ true) × (outs ≡ R.outputs q.taken.inputs (suc (length q.told)) r)) h.tickets (refl, o)
 
 abbrev pub left_by : State → ℕ → State
@@ -157,7 +157,7 @@ emitted_with es e emitted h =
     ∙ ap (λ l. emitted_all es ++ l) (sym (append-nil (emitted_by e.outs)))
     ∙ sym (flat_map-append (λ (d : Ended). emitted_by d.outs) es (e ∷ []))
 
-back_served : (R : Rules) (items : List Plain) (k : ℕ) (t : Taken) (r : Report) (outs : Outs) (s : State) → IsFlying R items k t true s → IsFine R (ended_by t r outs) → IsServed R items (suc k) (ends (left_by s k) (ticket_of k t true) r outs)
+back_served : (R : ProcessRules) (items : List Plain) (k : ℕ) (t : Taken) (r : Report) (outs : Outs) (s : State) → IsFlying R items k t true s → IsFine R (ended_by t r outs) → IsServed R items (suc k) (ends (left_by s k) (ticket_of k t true) r outs)
 back_served R items k t r outs s h f = record {
   waiting = h.waiting;
   tickets = gone_from k t true s.tickets h.tickets;
@@ -171,11 +171,11 @@ back_served R items k t r outs s h f = record {
   emitted = emitted_with s.ended (ended_by t r outs) s.emitted h.emitted;
 }
 
-pub finished_next : (R : Rules) (items : List Plain) (k : ℕ) (t : Taken) (r : Report) (outs : Outs) (s : State) → IsFlying R items k t true s → GoesOn outs → IsFine R (ended_by t r outs) → IsServed R items (suc k) (step s (finishing k r outs))
+pub finished_next : (R : ProcessRules) (items : List Plain) (k : ℕ) (t : Taken) (r : Report) (outs : Outs) (s : State) → IsFlying R items k t true s → GoesOn outs → IsFine R (ended_by t r outs) → IsServed R items (suc k) (step s (finishing k r outs))
 finished_next R items k t r outs s h g f =
     subst (IsServed R items (suc k)) (sym (finish_step k t r outs s h.tickets ∙ back_fine (left_by s k) (ticket_of k t true) r outs g)) (back_served R items k t r outs s h f)
 
-pub finished_emits : (R : Rules) (items : List Plain) (k : ℕ) (t : Taken) (r : Report) (outs : Outs) (s : State) → IsFlying R items k t true s → GoesOn outs → (step s (finishing k r outs)).emitted ≡ s.emitted ++ emitted_by outs
+pub finished_emits : (R : ProcessRules) (items : List Plain) (k : ℕ) (t : Taken) (r : Report) (outs : Outs) (s : State) → IsFlying R items k t true s → GoesOn outs → (step s (finishing k r outs)).emitted ≡ s.emitted ++ emitted_by outs
 finished_emits R items k t r outs s h g = ap (λ (z : State). z.emitted) (finish_step k t r outs s h.tickets ∙ back_fine (left_by s k) (ticket_of k t true) r outs g)
 
 -- ---- Abort
@@ -183,16 +183,16 @@ finished_emits R items k t r outs s h g = ap (λ (z : State). z.emitted) (finish
 abbrev pub aborting : ℕ → Stop → Event
 aborting k x = e.Abort (suc k) (Some x)
 
-pub abort_is_legal : (R : Rules) (items : List Plain) (k : ℕ) (t : Taken) (b : Bool) (x : Stop) (s : State) → IsFlying R items k t b s → IsCause R (ticket_of k t b) x → IsLegal R s (aborting k x)
+pub abort_is_legal : (R : ProcessRules) (items : List Plain) (k : ℕ) (t : Taken) (b : Bool) (x : Stop) (s : State) → IsFlying R items k t b s → IsCause R (ticket_of k t b) x → IsLegal R s (aborting k x)
 abort_is_legal R items k t b x s h c = flies k t b s (λ q. IsCause R q x) h.tickets c
 
-pub aborted_stop : (R : Rules) (items : List Plain) (k : ℕ) (t : Taken) (b : Bool) (x : Stop) (s : State) → IsFlying R items k t b s → (step s (aborting k x)).stop ≡ Some x
+pub aborted_stop : (R : ProcessRules) (items : List Plain) (k : ℕ) (t : Taken) (b : Bool) (x : Stop) (s : State) → IsFlying R items k t b s → (step s (aborting k x)).stop ≡ Some x
 aborted_stop R items k t b x s h = ap (λ o. (aborted s o (Some x)).stop) (in_flight k t b s.tickets h.tickets) ∙ ap (λ o. or_stop o (Some x)) h.stop
 
 -- ---- what a history tells
 
-pub no_finish_at_take : (R : Rules) (s : State) (k n : ℕ) → finish_at R s (taking k n) ≡ []
+pub no_finish_at_take : (R : ProcessRules) (s : State) (k n : ℕ) → finish_at R s (taking k n) ≡ []
 no_finish_at_take R s k n = refl
 
-pub finish_is_of : (R : Rules) (items : List Plain) (k : ℕ) (t : Taken) (r : Report) (outs : Outs) (s : State) → IsFlying R items k t true s → finish_at R s (finishing k r outs) ≡ (R.job t.inputs t.n 1, r) ∷ []
+pub finish_is_of : (R : ProcessRules) (items : List Plain) (k : ℕ) (t : Taken) (r : Report) (outs : Outs) (s : State) → IsFlying R items k t true s → finish_at R s (finishing k r outs) ≡ (R.job t.inputs t.n 1, r) ∷ []
 finish_is_of R items k t r outs s h = ap (finish_of R r) (in_flight k t true s.tickets h.tickets)

@@ -14,7 +14,7 @@ use Rattle.nf_job.specs.declared.emitted.Outputs.TheVariants.{Emits, Ignored, Fa
 use Rattle.nf_core.specs.declared.event.Event.{Event}
 use Rattle.nf_core.specs.declared.event.Stop.{Stop}
 use Rattle.nf_core.specs.declared.event.Stop.TheVariants as stop
-use Rattle.nf_core.specs.Rules.{Outs, Rules, emitted_by}
+use Rattle.nf_core.specs.Rules.{Outs, ProcessRules, emitted_by}
 use Rattle.nf_core.specs.Machine.{Taken, opening, replay, starts, finishes, IsLawful}
 use Rattle.nf_core.specs.Serial.{IsServed, StopsBy}
 use Rattle.nf_lane.specs.World.{World, report_of}
@@ -46,7 +46,7 @@ abbrev pub IsOfWorld : World → Result JobParts TaskFault × Report → Type 0
 IsOfWorld w x = (p : JobParts) × (x.0 ≡ Ok p) × (x.1 ≡ report_of w (job_text p))
 
 -- what a history and its Dones owe to a lane that had `first` runs before
-pub record IsBooked {D : Type 0} (Genuine : D → Type 0) (job_of : D → List ℕ) (report_by : D → Report) (number : D → ℕ) (R : Rules) (items : List Plain) (h : List Event) (kept : List D) (world : Option World) (first now : ℕ) : Type 0 where
+pub record IsBooked {D : Type 0} (Genuine : D → Type 0) (job_of : D → List ℕ) (report_by : D → Report) (number : D → ℕ) (R : ProcessRules) (items : List Plain) (h : List Event) (kept : List D) (world : Option World) (first now : ℕ) : Type 0 where
   -- a run for each Start
   pub runs : now ≡ first + starts h
   -- a Done of its own for each Finish
@@ -58,20 +58,20 @@ pub record IsBooked {D : Type 0} (Genuine : D → Type 0) (job_of : D → List �
 -- ---- while it goes on
 
 -- the first k items came back, these were emitted, and so many were started
-pub record IsGoing (R : Rules) (items : List Plain) (k : ℕ) (h : List Event) (out : List Plain) : Type 0 where
+pub record IsGoing (R : ProcessRules) (items : List Plain) (k : ℕ) (h : List Event) (out : List Plain) : Type 0 where
   pub lawful : IsLawful R (opening items) h
   pub served : IsServed R items k (replay (opening items) h)
   pub emitted : out ≡ (replay (opening items) h).emitted
 
 -- the history stops by this
-pub record Halts (R : Rules) (items : List Plain) (h : List Event) (x : Stop) : Type 0 where
+pub record Halts (R : ProcessRules) (items : List Plain) (h : List Event) (x : Stop) : Type 0 where
   pub lawful : IsLawful R (opening items) h
   pub stops : (call : List ℕ) → StopsBy R call items h x
 
 -- ---- how a task stops a run
 
 -- it has no job, or there is no memory for it
-abbrev pub IsRefused : Rules → Taken → Stop → Type 0
+abbrev pub IsRefused : ProcessRules → Taken → Stop → Type 0
 IsRefused R t stop.Mem = Unit {0}
 IsRefused R t (stop.Outside o) = ⊥
 IsRefused R t (stop.Task node inputs n fault) = (node ≡ 1) × (inputs ≡ t.inputs) × (n ≡ t.n) × (R.job t.inputs t.n 1 ≡ Err fault)

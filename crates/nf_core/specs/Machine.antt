@@ -15,7 +15,7 @@ use Rattle.nf_core.specs.declared.event.Event.{Event}
 use Rattle.nf_core.specs.declared.event.Event.TheVariants as e
 use Rattle.nf_core.specs.declared.event.Stop.{Stop}
 use Rattle.nf_core.specs.declared.event.Stop.TheVariants as stop
-use Rattle.nf_core.specs.Rules.{Outs, Rules, emitted_by}
+use Rattle.nf_core.specs.Rules.{Outs, ProcessRules, emitted_by}
 
 -- what was taken: the inputs, and how many takes of equal inputs came before
 pub record Taken : Type 0 where
@@ -148,24 +148,24 @@ abbrev pub InFlight : State → ℕ → (Ticket → Type 0) → Type 0
 InFlight s t P = MatchOption (ticket_at t s.tickets) ⊥ P
 
 -- a ticket may be given up for this reason
-abbrev pub IsCause : Rules → Ticket → Stop → Type 0
+abbrev pub IsCause : ProcessRules → Ticket → Stop → Type 0
 IsCause R k stop.Mem = Unit {0}
 IsCause R k (stop.Outside o) = Unit {0}
 IsCause R k (stop.Task node inputs n fault) = (node ≡ 1) × (inputs ≡ k.taken.inputs) × (n ≡ k.taken.n) × (R.job inputs n (attempt_of k) ≡ Err fault)
 
 -- without a reason only in a run that is stopped
-abbrev pub MayAbort : Rules → State → Option Stop → Ticket → Type 0
+abbrev pub MayAbort : ProcessRules → State → Option Stop → Ticket → Type 0
 MayAbort R s None k = IsSome s.stop
 MayAbort R s (Some x) k = IsCause R k x
 
-abbrev pub IsLegal : Rules → State → Event → Type 0
+abbrev pub IsLegal : ProcessRules → State → Event → Type 0
 IsLegal R s (e.Take node port place ticket n) = TakeIsLegal s node port place ticket n
 IsLegal R s (e.Start ticket cause) = (s.stop ≡ None) × InFlight s ticket (λ k. k.started ≡ false)
 IsLegal R s (e.Finish ticket report outs) = InFlight s ticket (λ k. (k.started ≡ true) × (outs ≡ R.outputs k.taken.inputs (attempt_of k) report))
 IsLegal R s (e.Abort ticket cause) = InFlight s ticket (MayAbort R s cause)
 
 -- each event is legal in the state before it
-abbrev pub IsLawful : Rules → State → List Event → Type 0
+abbrev pub IsLawful : ProcessRules → State → List Event → Type 0
 IsLawful R s [] = Unit {0}
 IsLawful R s (x ∷ h) = IsLegal R s x × IsLawful R (step s x) h
 
@@ -178,21 +178,21 @@ pub record EndsWell (s : State) : Type 0 where
 -- ---- what a history tells
 
 -- the job of a ticket's attempt, or why there is none
-abbrev pub job_of : Rules → Ticket → Result JobParts TaskFault
+abbrev pub job_of : ProcessRules → Ticket → Result JobParts TaskFault
 job_of R k = R.job k.taken.inputs k.taken.n (attempt_of k)
 
-abbrev pub finish_of : Rules → Report → Option Ticket → List (Result JobParts TaskFault × Report)
+abbrev pub finish_of : ProcessRules → Report → Option Ticket → List (Result JobParts TaskFault × Report)
 finish_of R r None = []
 finish_of R r (Some k) = (job_of R k, r) ∷ []
 
-abbrev pub finish_at : Rules → State → Event → List (Result JobParts TaskFault × Report)
+abbrev pub finish_at : ProcessRules → State → Event → List (Result JobParts TaskFault × Report)
 finish_at R s (e.Take node port place ticket n) = []
 finish_at R s (e.Start ticket cause) = []
 finish_at R s (e.Finish ticket report outs) = finish_of R report (ticket_at ticket s.tickets)
 finish_at R s (e.Abort ticket cause) = []
 
 -- of each Finish event the job of its attempt, and its report
-abbrev pub finishes : Rules → State → List Event → List (Result JobParts TaskFault × Report)
+abbrev pub finishes : ProcessRules → State → List Event → List (Result JobParts TaskFault × Report)
 finishes R s [] = []
 finishes R s (x ∷ h) = finish_at R s x ++ finishes R (step s x) h
 

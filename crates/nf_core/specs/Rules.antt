@@ -13,7 +13,7 @@ use Rattle.nf_job.specs.declared.emitted.Outputs.TheVariants.{Emits, Ignored, Fa
 abbrev pub Outs : Type 0
 Outs = Result Outputs TaskFault
 
-pub record Rules : Type 0 where
+pub record ProcessRules : Type 0 where
   -- of the inputs, a number and an attempt: the job, or why there is none
   pub job : List Plain → ℕ → ℕ → Result JobParts TaskFault
   -- of the inputs and an attempt: what its report amounts to
@@ -57,5 +57,5 @@ abbrev pub decided : (ℕ → Report → Outs) → ℕ → List Report → Optio
 decided outputs attempt [] = None
 decided outputs attempt (r ∷ rs) = decided_by (outputs attempt r) (decided outputs (suc attempt) rs)
 
-abbrev pub rules_by : (List Plain → ℕ → ℕ → Result JobParts TaskFault) → (List Plain → ℕ → Report → Outs) → Rules
+abbrev pub rules_by : (List Plain → ℕ → ℕ → Result JobParts TaskFault) → (List Plain → ℕ → Report → Outs) → ProcessRules
 rules_by job outputs = record { job = job; outputs = outputs }

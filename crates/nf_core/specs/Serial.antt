@@ -16,7 +16,7 @@ use Rattle.nf_job.specs.declared.emitted.Outputs.TheVariants.{Emits, Ignored, Fa
 use Rattle.nf_core.specs.declared.event.Event.{Event}
 use Rattle.nf_core.specs.declared.event.Stop.{Stop}
 use Rattle.nf_core.specs.declared.event.Stop.TheVariants as stop
-use Rattle.nf_core.specs.Rules.{Outs, Rules, emitted_by, decided_by}
+use Rattle.nf_core.specs.Rules.{Outs, ProcessRules, emitted_by, decided_by}
 use Rattle.nf_core.specs.Machine.{Taken, Ended, State, opening, replay, EndsWell}
 use Rattle.nf_core.specs.Tasks.{numbered, input_lists, or_later, Meaning, meaning, outcomes}
 
@@ -38,17 +38,17 @@ IsFinal Again = ⊥
 -- ---- how a run ends
 
 -- the meaning of the items under the outcomes of this history
-abbrev pub meant : Rules → List ℕ → List Plain → List Event → Meaning
+abbrev pub meant : ProcessRules → List ℕ → List Plain → List Event → Meaning
 meant R call items h = meaning R (outcomes call (replay (opening items) h)) call items
 
 -- all went well, and these were emitted
-pub record RunsWell (R : Rules) (call : List ℕ) (items : List Plain) (h : List Event) (emitted : List Plain) : Type 0 where
+pub record RunsWell (R : ProcessRules) (call : List ℕ) (items : List Plain) (h : List Event) (emitted : List Plain) : Type 0 where
   pub ended : EndsWell (replay (opening items) h)
   pub bag : (meant R call items h).bag ≡ emitted
   pub faults : (meant R call items h).faults ≡ []
 
 -- the history stops so; the fault of a task is one of its instance
-abbrev pub StopsBy : Rules → List ℕ → List Plain → List Event → Stop → Type 0
+abbrev pub StopsBy : ProcessRules → List ℕ → List Plain → List Event → Stop → Type 0
 StopsBy R call items h stop.Mem = Unit {0}
 StopsBy R call items h (stop.Outside o) = (replay (opening items) h).stop ≡ Some (stop.Outside o)
 StopsBy R call items h (stop.Task node inputs n fault) =
@@ -56,7 +56,7 @@ StopsBy R call items h (stop.Task node inputs n fault) =
     × Contains (meant R call items h).faults (record { call = call; inputs = inputs; n = n }, fault)
 
 -- what was emitted, or why the run stopped
-abbrev pub RunGives : Rules → List ℕ → List Plain → List Event → Result (List Plain) Stop → Type 0
+abbrev pub RunGives : ProcessRules → List ℕ → List Plain → List Event → Result (List Plain) Stop → Type 0
 RunGives R call items h (Ok vs) = RunsWell R call items h vs
 RunGives R call items h (Err x) = StopsBy R call items h x
 
@@ -79,7 +79,7 @@ abbrev pub emitted_all : List Ended → List Plain
 emitted_all es = flat_map (λ e. emitted_by e.outs) es
 
 -- an entry with a job and the one report that decides
-pub record IsOwn (R : Rules) (e : Ended) : Type 0 where
+pub record IsOwn (R : ProcessRules) (e : Ended) : Type 0 where
   pub report : Report
   pub told : e.told ≡ report ∷ []
   pub parts : JobParts
@@ -88,12 +88,12 @@ pub record IsOwn (R : Rules) (e : Ended) : Type 0 where
   pub decides : (later : Option Outs) → decided_by e.outs later ≡ Some e.outs
 
 -- an entry without a fault
-pub record IsFine (R : Rules) (e : Ended) : Type 0 where
+pub record IsFine (R : ProcessRules) (e : Ended) : Type 0 where
   pub own : IsOwn R e
   pub faultless : (later : List TaskFault) → or_later e.outs later ≡ []
 
 -- the first k items came back, and nothing is in flight
-pub record IsServed (R : Rules) (items : List Plain) (k : ℕ) (s : State) : Type 0 where
+pub record IsServed (R : ProcessRules) (items : List Plain) (k : ℕ) (s : State) : Type 0 where
   pub waiting : s.waiting ≡ drop k items
   pub tickets : s.tickets ≡ []
   pub gone : s.gone ≡ []
@@ -106,7 +106,7 @@ pub record IsServed (R : Rules) (items : List Plain) (k : ℕ) (s : State) : Typ
   pub emitted : s.emitted ≡ emitted_all s.ended
 
 -- the first k items came back, and the next one's ticket is in flight
-pub record IsFlying (R : Rules) (items : List Plain) (k : ℕ) (t : Taken) (started : Bool) (s : State) : Type 0 where
+pub record IsFlying (R : ProcessRules) (items : List Plain) (k : ℕ) (t : Taken) (started : Bool) (s : State) : Type 0 where
   pub waiting : s.waiting ≡ drop (suc k) items
   pub tickets : s.tickets ≡ record { number = suc k; taken = t; told = []; started = started } ∷ []
   pub gone : s.gone ≡ []

@@ -7,7 +7,7 @@ use Rattle.nf_job.specs.declared.parts.JobParts.{JobParts}
 use Rattle.nf_job.specs.declared.report.Report.{Report}
 use Rattle.nf_job.specs.declared.fault.TaskFault.{TaskFault}
 use Rattle.nf_job.specs.declared.emitted.Outputs.TheVariants.{Emits, Ignored, Failed, Again}
-use Rattle.nf_core.specs.Rules.{Outs, Rules, emitted_by, decided}
+use Rattle.nf_core.specs.Rules.{Outs, ProcessRules, emitted_by, decided}
 use Rattle.nf_core.specs.Machine.{Taken, Ticket, Ended, State, same_items, number_of}
 
 -- a process's call, a list of inputs, and how many equal ones came before
@@ -45,7 +45,7 @@ abbrev pub instances : List ℕ → List Plain → List Instance
 instances call items = map (instance_of call) (numbered [] (input_lists items))
 
 -- what the report that decides amounts to
-abbrev pub outs_of : Rules → Outcomes → Instance → Option Outs
+abbrev pub outs_of : ProcessRules → Outcomes → Instance → Option Outs
 outs_of R o i = decided (R.outputs i.inputs) 1 (reports_of o i)
 
 abbrev pub emitted_of : Option Outs → List Plain
@@ -53,7 +53,7 @@ emitted_of None = []
 emitted_of (Some outs) = emitted_by outs
 
 -- what an instance emits
-abbrev pub emits : Rules → Outcomes → Instance → List Plain
+abbrev pub emits : ProcessRules → Outcomes → Instance → List Plain
 emits R o i = emitted_of (outs_of R o i)
 
 -- why an attempt has no job
@@ -74,7 +74,7 @@ abbrev pub faults_from : (ℕ → Result JobParts TaskFault) → (ℕ → Report
 faults_from job outputs attempt [] = refused (job attempt)
 faults_from job outputs attempt (r ∷ rs) = refused (job attempt) ++ or_later (outputs attempt r) (faults_from job outputs (suc attempt) rs)
 
-abbrev pub faults : Rules → Outcomes → Instance → List (Instance × TaskFault)
+abbrev pub faults : ProcessRules → Outcomes → Instance → List (Instance × TaskFault)
 faults R o i = map (λ f. (i, f)) (faults_from (R.job i.inputs i.n) (R.outputs i.inputs) 1 (reports_of o i))
 
 pub record Meaning : Type 0 where
@@ -84,7 +84,7 @@ pub record Meaning : Type 0 where
   pub faults : List (Instance × TaskFault)
 
 -- what a process means over the items of its queue, under outcomes
-abbrev pub meaning : Rules → Outcomes → List ℕ → List Plain → Meaning
+abbrev pub meaning : ProcessRules → Outcomes → List ℕ → List Plain → Meaning
 meaning R o call items = record {
   bag = flat_map (emits R o) (instances call items);
   instances = instances call items;

@@ -11,7 +11,7 @@ use nf_value::{EvalFault, EvalRefusal, Mem, Vals, Value};
 use std::alloc::{AllocFailed, Global};
 
 /// What answers the items of an operator (own). The answer is determined by the rules and the item alone.
-pub trait Rules {
+pub trait ItemRules {
     /// The answer to an item: its image, or its fault.
     ghost gives: { Self → Plain → Answered Plain };
 
@@ -63,7 +63,7 @@ impl<T: Drop> From<AllocFailed<T>> for ChainFault {
 ///
 /// `Item` exactly where some item has a fault, with the first such item of the list and its fault; `Mem` where there
 /// is no memory for an image or for a copy of that item. No image comes with an error.
-pub fn chain<R: Rules>(alloc: Global, items: &Vals, rules: &R) -> Result<Vals, ChainFault>
+pub fn chain<R: ItemRules>(alloc: Global, items: &Vals, rules: &R) -> Result<Vals, ChainFault>
     requires { R.keeps rules.now }
     ensures { Chained (images (R.gives rules.now) items.now) result }
 {

@@ -6,7 +6,7 @@ mod event;
 mod runs;
 mod tasks;
 
-pub use chains::{ChainFault, Rules, chain};
+pub use chains::{ChainFault, ItemRules, chain};
 pub use event::{Cause, Event, Outside, Stop};
 pub use runs::{TasksEnd, serial};
 pub use tasks::TaskRules;

@@ -1,7 +1,7 @@
 //! What answers the tasks of a process.
 
 ghost use Rattle.std.specs.Prelude.{◌≡◌, ◌≤◌, IfOk};
-ghost use Rattle.nf_core.specs.Rules.{Rules};
+ghost use Rattle.nf_core.specs.Rules.{ProcessRules};
 ghost use Rattle.nf_core.specs.Serial.{AnswersTask, IsFinal};
 
 use nf_job::{Job, Outputs, Report, TaskRefusal};
@@ -11,7 +11,7 @@ use std::alloc::Global;
 /// What answers the tasks of a process (own). The answers are determined by the rules and the arguments alone.
 pub trait TaskRules {
     /// The jobs of the process's instances, and what their reports amount to.
-    ghost rules: { Self → Rules };
+    ghost rules: { Self → ProcessRules };
 
     /// The job of an instance's attempt. `n` is how many takes of equal inputs came before, from 0; the attempts are
     /// counted from 1.

@@ -12,7 +12,7 @@ ghost use Rattle.nf_eval.specs.Gives.{Gathers, Lists};
 
 use crate::around::Around;
 use crate::scope::Scope;
-use nf_ast::Closure;
+use nf_ast::ClosureExpr;
 use nf_builtins::Natives;
 use nf_infix::Gathered;
 use nf_placed::{BlockMethod, bound, copy_value, gathered_value, list_value};
@@ -24,7 +24,7 @@ use std::slice;
 #[cycle(value)]
 pub(crate) fn over<N: Natives>(
     alloc: Global,
-    closure: &Closure,
+    closure: &ClosureExpr,
     kind: BlockMethod,
     place: Place,
     items: &[Value],
@@ -53,7 +53,7 @@ pub(crate) fn over<N: Natives>(
 #[cycle(value)]
 pub(crate) fn any<N: Natives>(
     alloc: Global,
-    closure: &Closure,
+    closure: &ClosureExpr,
     items: &[Value],
     around: &Around<'_>,
     natives: &N,
@@ -74,7 +74,7 @@ pub(crate) fn any<N: Natives>(
 #[cycle(value)]
 pub(crate) fn every<N: Natives>(
     alloc: Global,
-    closure: &Closure,
+    closure: &ClosureExpr,
     items: &[Value],
     around: &Around<'_>,
     natives: &N,
@@ -95,7 +95,7 @@ pub(crate) fn every<N: Natives>(
 #[cycle(value)]
 pub(crate) fn find<N: Natives>(
     alloc: Global,
-    closure: &Closure,
+    closure: &ClosureExpr,
     place: Place,
     items: &[Value],
     around: &Around<'_>,
@@ -117,7 +117,7 @@ pub(crate) fn find<N: Natives>(
 #[cycle(value)]
 pub(crate) fn find_all<N: Natives>(
     alloc: Global,
-    closure: &Closure,
+    closure: &ClosureExpr,
     items: &[Value],
     around: &Around<'_>,
     natives: &N,
@@ -139,7 +139,7 @@ pub(crate) fn find_all<N: Natives>(
 #[cycle(value)]
 pub(crate) fn images<N: Natives>(
     alloc: Global,
-    closure: &Closure,
+    closure: &ClosureExpr,
     items: &[Value],
     around: &Around<'_>,
     natives: &N,
@@ -159,7 +159,7 @@ pub(crate) fn images<N: Natives>(
 #[cycle(value)]
 pub(crate) fn applied<N: Natives>(
     alloc: Global,
-    closure: &Closure,
+    closure: &ClosureExpr,
     args: &[Value],
     around: &Around<'_>,
     natives: &N,

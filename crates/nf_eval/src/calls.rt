@@ -18,7 +18,7 @@ use crate::around::{Around, function_seen, handed_in};
 use crate::reading::listed;
 use crate::shapes::is_block;
 use crate::subjects::Called;
-use nf_ast::{Arg, Closure, Expr};
+use nf_ast::{Arg, ClosureExpr, Expr};
 use nf_builtins::Natives;
 use nf_placed::{BlockMethod, block_method, fault_at, math_block, native_block};
 use nf_value::{EvalKind, EvalRefusal, Place, Vals, Value};
@@ -185,7 +185,7 @@ pub(crate) fn over_expr<N: Natives>(
 #[cycle(value)]
 pub(crate) fn over_call<N: Natives>(
     alloc: Global,
-    closure: &Closure,
+    closure: &ClosureExpr,
     callee: &Called,
     count: usize,
     around: &Around<'_>,

@@ -12,7 +12,7 @@ use crate::around::Around;
 use crate::reading::{callee, calls_nothing, finished, property, read, safe_property, waiting};
 use crate::shapes::{after_first, closure_next, no_branches, no_marks, no_operands};
 use crate::subjects::Subject;
-use nf_ast::{Arg, Closure, Expr, Postfix};
+use nf_ast::{Arg, ClosureExpr, Expr, Postfix};
 use nf_builtins::Natives;
 use nf_placed::index_value;
 use nf_value::{EvalRefusal, Place, Value};
@@ -175,7 +175,7 @@ pub(crate) fn call<N: Natives>(
 #[cycle(value)]
 pub(crate) fn with<N: Natives>(
     alloc: Global,
-    block: &Closure,
+    block: &ClosureExpr,
     before: Subject,
     around: &Around<'_>,
     natives: &N,

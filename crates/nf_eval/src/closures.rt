@@ -7,7 +7,7 @@ ghost use Rattle.nf_eval.specs.Memory.{env_of, closing};
 ghost use Rattle.nf_eval.specs.Closing.{closing_of};
 
 use crate::environment::Env;
-use nf_ast::Closure as Code;
+use nf_ast::ClosureExpr as Code;
 
 /// A closure with the environment that it saw when it was made (Nextflow reference documentation, "Syntax", "Closure"). Contracts see its `closing_of`.
 #[derive(Drop)]

@@ -14,7 +14,7 @@ ghost use Rattle.nf_eval.specs.Chains.{prefixed as prefixed_of};
 use crate::around::{Around, in_process, value_seen};
 use crate::reading::read;
 use crate::shapes::closure_next;
-use nf_ast::{Expr, Key, Pair, Piece, Prefix};
+use nf_ast::{Expr, Fragment, Key, Pair, Prefix};
 use nf_builtins::Natives;
 use nf_infix::{Gathered, Written};
 use nf_placed::{fault_at, gathered_value, map_value, prefix_value, text_value};
@@ -140,7 +140,7 @@ fn key_of(alloc: Global, key: &Key) -> Result<Txt, Mem>
 #[cycle(value)]
 pub(crate) fn text<N: Natives>(
     alloc: Global,
-    pieces: &[Piece],
+    pieces: &[Fragment],
     around: &Around<'_>,
     natives: &N,
 ) -> Result<Written, EvalRefusal>
@@ -150,8 +150,8 @@ pub(crate) fn text<N: Natives>(
     let mut written = Written::new(alloc);
     for piece in pieces {
         match piece {
-            Piece::Plain(_, text) => written.push(text.as_str())?,
-            Piece::Hole(_, expr) => {
+            Fragment::Plain(_, text) => written.push(text.as_str())?,
+            Fragment::Hole(_, expr) => {
                 let value = value(alloc, expr, around, natives)?;
                 put_hole(alloc, value, in_process(around), &mut written)?;
             }

@@ -13,7 +13,7 @@ use Rattle.nf_grammar.specs.Reads.{stands_first}
 use Rattle.nf_grammar.specs.Outcome.{Out, got, unexpected, too_deep}
 use Rattle.nf_grammar.proofs.Outcomes.{either_left, either_right, adds_unexpected, stands_reaches, reads_stands}
 use Rattle.nf_grammar.proofs.Short.{seq, fails, off, stops, IsStop}
-use Rattle.nf_ast.specs.declared.expr.Piece.{Piece}
+use Rattle.nf_ast.specs.declared.expr.Fragment.{Fragment}
 use Rattle.nf_ast.specs.declared.expr.Label.{Label}
 use Rattle.nf_ast.specs.declared.expr.Stmt.{Stmt}
 use Rattle.nf_ast.specs.Tree.{Tree, point}
@@ -45,7 +45,7 @@ starts_here ts b c e f g = goes_at (no_start ts) (sym e ∙ ends_at b (sym f ∙
 
 -- ---- pieces of a template
 
-pub pieces_begin : (d : ℕ) (ts : List Lexeme) (xs : List Piece) → xs ≡ [] → Going (many no_part (each (row.piece d)) 0 (trees (map view_piece xs))) ts (row.pieces d) ts
+pub pieces_begin : (d : ℕ) (ts : List Lexeme) (xs : List Fragment) → xs ≡ [] → Going (many no_part (each (row.piece d)) 0 (trees (map view_piece xs))) ts (row.pieces d) ts
 pieces_begin d ts xs e o q = subst (λ l. Outcome (many no_part (each (row.piece d)) 0 (trees (map view_piece l))) ts o) e q
 
 text_off : (a b : Bool) → a && b ≡ true → a ≡ true
@@ -56,7 +56,7 @@ hole_off : (a b : Bool) → a && b ≡ true → b ≡ true
 hole_off true b e = e
 hole_off false b e = absurd cc
 
-pub pieces_end : (d n : ℕ) (xs : List Piece) (ts us : List Lexeme) → no_part ts ≡ true → Going (many no_part (each (row.piece d)) n (trees (map view_piece xs))) ts (row.pieces d) us → Outcome (row.pieces d) us (got (trees (map view_piece xs)) ts (length ts))
+pub pieces_end : (d n : ℕ) (xs : List Fragment) (ts us : List Lexeme) → no_part ts ≡ true → Going (many no_part (each (row.piece d)) n (trees (map view_piece xs))) ts (row.pieces d) us → Outcome (row.pieces d) us (got (trees (map view_piece xs)) ts (length ts))
 pieces_end d n xs ts us e before = before (got (trees (map view_piece xs)) ts (length ts)) (stops e (fails (piece_misses d ts (text_off (no_next template_text ts) (no_next open_hole ts) e) (hole_off (no_next template_text ts) (no_next open_hole ts) e))))
 
 -- ---- labels

@@ -11,7 +11,7 @@ ghost use Rattle.nf_exprs.specs.Parses.{Parses};
 
 use crate::fault::Fault;
 use crate::{expect, exprs, peek, stmts};
-use nf_ast::{Closure, ClosureBody, Label};
+use nf_ast::{ClosureBody, ClosureExpr, Label};
 use nf_token::{Lexeme, Mark};
 use nf_value::{Place, Txt};
 use std::alloc::Global;
@@ -23,7 +23,7 @@ pub fn closure(
     depth: u32,
     place: Place,
     tokens: &[Lexeme],
-) -> Result<(Closure, &[Lexeme]), Fault>
+) -> Result<(ClosureExpr, &[Lexeme]), Fault>
     ensures parses { Parses (λ x. view_closure x.0) (λ x. x.1.now) (rule (level.Closure depth place)) tokens.now result }
     ensures shorter { IfOk result (λ x. length x.1.now < length tokens.now) }
 {
@@ -85,7 +85,7 @@ fn closed(
     place: Place,
     params: Option<Vec<(Place, Txt)>>,
     tokens: &[Lexeme],
-) -> Result<(Closure, &[Lexeme]), Fault>
+) -> Result<(ClosureExpr, &[Lexeme]), Fault>
     ensures parses { Parses (λ x. view_closure x.0) (λ x. x.1.now) (row.closure_body depth place (params_tree (option_map (λ v. v.items) params))) tokens.now result }
     ensures shorter { IfOk result (λ x. length x.1.now < length tokens.now) }
 {
@@ -93,13 +93,13 @@ fn closed(
         let (labels, rest) = labels(alloc, depth, tokens)?;
         let rest = expect::closes(rest)?;
         let body = ClosureBody::labels(labels);
-        let closure = Closure::new(place, params, body);
+        let closure = ClosureExpr::new(place, params, body);
         return Ok((closure, rest));
     }
     let (body, rest) = stmts::body(alloc, depth, tokens)?;
     let rest = expect::closes_body(rest)?;
     let body = ClosureBody::statements(body);
-    let closure = Closure::new(place, params, body);
+    let closure = ClosureExpr::new(place, params, body);
     Ok((closure, rest))
 }
 

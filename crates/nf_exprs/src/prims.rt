@@ -10,7 +10,7 @@ ghost use Rattle.nf_exprs.specs.Parses.{Parses};
 
 use crate::fault::Fault;
 use crate::{closures, expect, exprs, peek};
-use nf_ast::{Expr, Key, Pair, Piece};
+use nf_ast::{Expr, Fragment, Key, Pair};
 use nf_token::{Lexeme, Mark};
 use nf_value::{Place, Txt};
 use std::alloc::Global;
@@ -78,7 +78,7 @@ pub fn template(alloc: Global, depth: u32, tokens: &[Lexeme]) -> Result<(Expr, &
 
 /// The texts and holes of a template.
 #[cycle(parser)]
-fn pieces(alloc: Global, depth: u32, tokens: &[Lexeme]) -> Result<(Vec<Piece>, &[Lexeme]), Fault>
+fn pieces(alloc: Global, depth: u32, tokens: &[Lexeme]) -> Result<(Vec<Fragment>, &[Lexeme]), Fault>
     ensures parses { Parses (λ x. trees (map view_piece x.0.items)) (λ x. x.1.now) (row.pieces depth) tokens.now result }
     ensures shorter { IfOk result (λ x. length x.1.now ≤ length tokens.now) }
 {
@@ -94,19 +94,19 @@ fn pieces(alloc: Global, depth: u32, tokens: &[Lexeme]) -> Result<(Vec<Piece>, &
 
 /// A text or a hole.
 #[cycle(parser)]
-fn piece(alloc: Global, depth: u32, tokens: &[Lexeme]) -> Result<(Piece, &[Lexeme]), Fault>
+fn piece(alloc: Global, depth: u32, tokens: &[Lexeme]) -> Result<(Fragment, &[Lexeme]), Fault>
     ensures parses { Parses (λ x. view_piece x.0) (λ x. x.1.now) (row.piece depth) tokens.now result }
     ensures shorter { IfOk result (λ x. length x.1.now < length tokens.now) }
 {
     if let Some((place, text, rest)) = peek::template_text(tokens) {
         let copy = text.copy()?;
-        let piece = Piece::plain(place, copy);
+        let piece = Fragment::plain(place, copy);
         return Ok((piece, rest));
     }
     let (place, rest) = expect::open_hole(tokens, depth)?;
     let (expr, rest) = exprs::expr(alloc, depth + 1, rest)?;
     let (_, rest) = expect::close_hole(rest)?;
-    let piece = Piece::hole(place, expr);
+    let piece = Fragment::hole(place, expr);
     Ok((piece, rest))
 }
 

@@ -4,11 +4,11 @@ use Rattle.nf_value.specs.Plain.{Plain}
 use Rattle.nf_placed.specs.Scope.{Env}
 use Rattle.nf_eval.specs.Memory.{env_of}
 use Rattle.nf_eval.specs.declared.environment.Env as memory
-use Rattle.nf_forms.specs.declared.around.Around.{Around}
+use Rattle.nf_forms.specs.declared.around.ScriptScope.{ScriptScope}
 use Rattle.nf_forms.specs.Values.{AreBuilt, bare}
 
 -- over the names and answers of the program's functions
-abbrev pub view_around : Around → List (List ℕ) → (ℕ → List Plain → Option Plain) → Env
+abbrev pub view_around : ScriptScope → List (List ℕ) → (ℕ → List Plain → Option Plain) → Env
 view_around a titles answer = env_of a.env titles answer
 
 -- it has patterns that are built, and no name

@@ -4,7 +4,7 @@ use Rattle.nf_value.specs.declared.place.Place.{Place}
 use Rattle.nf_ast.specs.Tree as tree
 use Rattle.nf_ast.specs.Tree.{Tree, place_of}
 use Rattle.nf_process.specs.declared.process.ProcessSpec.{ProcessSpec}
-use Rattle.nf_process.specs.declared.template.Piece.{Piece}
+use Rattle.nf_process.specs.declared.template.ScriptPiece.{ScriptPiece}
 use Rattle.nf_forms.specs.Built.{Built, ◌>>=◌, then_at, is_before}
 use Rattle.nf_forms.specs.Leaf.{LeafTree, First, section, leaf_of, begins_at}
 use Rattle.nf_forms.specs.Items.{script_in, script_from}
@@ -64,17 +64,17 @@ both (Err p) (Ok y) = Err p
 both (Err p) (Err q) = if is_before q p then Err q else Err p
 
 -- one string
-abbrev pub body_from : List ℕ → Place → Tree → Built (List Piece)
+abbrev pub body_from : List ℕ → Place → Tree → Built (List ScriptPiece)
 body_from input p (tree.cons x tree.empty) = script_from input x
 body_from input p (tree.cons x (tree.cons y ys)) = then_at (script_from input x) (begins_at y)
 body_from input p _ = Err p
 
-abbrev pub task_in : List ℕ → LeafTree → First → Built (List Piece)
+abbrev pub task_in : List ℕ → LeafTree → First → Built (List ScriptPiece)
 task_in input l (section xs) = body_from input l.place xs
 task_in input l x = script_in input l x
 
 -- what a task runs
-abbrev pub task_from : List ℕ → Tree → Built (List Piece)
+abbrev pub task_from : List ℕ → Tree → Built (List ScriptPiece)
 task_from input e = task_in input (leaf_of e) (leaf_of e).first
 
 -- the input, the output and the directives in the order of the text, the script, and the stub

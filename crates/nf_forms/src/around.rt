@@ -6,7 +6,7 @@ ghost use Rattle.nf_pattern.specs.Whole.{IsPattern};
 ghost use Rattle.nf_pattern.specs.Wrapped.{wrapped};
 ghost use Rattle.nf_names_bound.specs.Bound.{unbound_in};
 
-use nf_ast::{Closure, Expr, Script, Stmt, Top, Workflow, WorkflowBody};
+use nf_ast::{ClosureExpr, Expr, Script, Stmt, Top, Workflow, WorkflowBody};
 use nf_builtins::Natives;
 use nf_eval::Env;
 use nf_names_bound::{unbound, unbound_closure};
@@ -17,18 +17,18 @@ use std::alloc::Global;
 
 /// The environment of a script's expressions. The functions of the program come with each call.
 #[derive(Drop)]
-pub struct Around {
+pub struct ScriptScope {
     env: Env,
 }
 
-impl Around {
+impl ScriptScope {
     ghost use Rattle.nf_forms.specs.Memory.{view_around, IsBare};
 
     /// No name has a value, and no pattern is built yet. Takes no memory.
-    fn new(alloc: Global) -> Around
+    fn new(alloc: Global) -> ScriptScope
         ensures { IsBare result.env }
     {
-        Around {
+        ScriptScope {
             env: Env::new(alloc),
         }
     }
@@ -64,7 +64,7 @@ impl Around {
         &self,
         alloc: Global,
         natives: &N,
-        closure: &Closure,
+        closure: &ClosureExpr,
     ) -> Result<Option<Place>, Mem>
         ensures { IfOk result (λ p. p ≡ unbound_in (view_around self.now (N.titles natives.now) (N.answer natives.now)) (view_closure closure.now)) }
     {
@@ -72,7 +72,7 @@ impl Around {
     }
 
     /// With the pattern of a text, unless it is there or `regex` refuses it.
-    fn with_pattern(self, alloc: Global, text: Txt) -> Result<Around, Mem>
+    fn with_pattern(self, alloc: Global, text: Txt) -> Result<ScriptScope, Mem>
         requires { IsBare self.env }
         ensures { IfOk result (λ a. IsBare a.env) }
     {
@@ -88,7 +88,7 @@ impl Around {
     }
 
     /// With a pattern of this text.
-    fn with_built(self, re: WholeRe, text: Txt) -> Result<Around, Mem>
+    fn with_built(self, re: WholeRe, text: Txt) -> Result<ScriptScope, Mem>
         requires bare { IsBare self.env }
         requires same { re ≡ text }
         requires pattern { IsPattern (wrapped text) }
@@ -96,11 +96,11 @@ impl Around {
     {
         let mut env = self.env;
         env.add_pattern(text, re)?;
-        Ok(Around { env })
+        Ok(ScriptScope { env })
     }
 
     /// With the pattern that is used.
-    fn with_use(self, alloc: Global, used: Use) -> Result<Around, Mem>
+    fn with_use(self, alloc: Global, used: Use) -> Result<ScriptScope, Mem>
         requires { IsBare self.env }
         ensures { IfOk result (λ a. IsBare a.env) }
     {
@@ -111,7 +111,7 @@ impl Around {
     }
 
     /// With the patterns of statements.
-    fn with_body(self, alloc: Global, body: &[Stmt]) -> Result<Around, Mem>
+    fn with_body(self, alloc: Global, body: &[Stmt]) -> Result<ScriptScope, Mem>
         requires { IsBare self.env }
         ensures { IfOk result (λ a. IsBare a.env) }
     {
@@ -123,7 +123,7 @@ impl Around {
     }
 
     /// With the patterns of a workflow.
-    fn with_top(self, alloc: Global, top: &Top) -> Result<Around, Mem>
+    fn with_top(self, alloc: Global, top: &Top) -> Result<ScriptScope, Mem>
         requires { IsBare self.env }
         ensures { IfOk result (λ a. IsBare a.env) }
     {
@@ -138,10 +138,10 @@ impl Around {
     /// # Errors
     ///
     /// `Mem` where there is no memory for it.
-    pub fn of_script(alloc: Global, script: &Script) -> Result<Around, Mem>
+    pub fn of_script(alloc: Global, script: &Script) -> Result<ScriptScope, Mem>
         ensures { IfOk result (λ a. IsBare a.env) }
     {
-        let mut around = Around::new(alloc);
+        let mut around = ScriptScope::new(alloc);
         for top in &script.tops {
             around = around.with_top(alloc, top)?;
         }

@@ -11,13 +11,13 @@ ghost use Rattle.nf_forms.specs.Values.{item_from};
 ghost use Rattle.nf_forms.specs.Memory.{view_around};
 ghost use Rattle.nf_forms.specs.Processes.{task_from};
 
-use crate::around::Around;
+use crate::around::ScriptScope;
 use crate::fault::FormFault;
 use crate::leaf::{Kind, Leaf, argument_place, first_of};
 use crate::values::item;
-use nf_ast::{Arg, Expr, Piece as Part};
+use nf_ast::{Arg, Expr, Fragment};
 use nf_builtins::Natives;
-use nf_process::{Piece, Pieces};
+use nf_process::{Pieces, ScriptPiece};
 use nf_value::{Place, Vals};
 use std::alloc::Global;
 
@@ -87,7 +87,7 @@ pub fn single(args: &[Arg]) -> Option<&Arg>
 /// The items of `of`, whose name stands at this place.
 pub fn read_items<N: Natives>(
     alloc: Global,
-    around: &Around,
+    around: &ScriptScope,
     natives: &N,
     of: Place,
     args: &[Arg],
@@ -104,7 +104,7 @@ pub fn read_items<N: Natives>(
 /// The items of arguments, at most 10,000.
 fn all_items<N: Natives>(
     alloc: Global,
-    around: &Around,
+    around: &ScriptScope,
     natives: &N,
     args: &[Arg],
 ) -> Result<Items, FormFault>
@@ -125,27 +125,27 @@ fn all_items<N: Natives>(
 }
 
 /// A hole of a script: the input's name alone.
-fn hole(input: &str, leaf: &Leaf<'_>) -> Result<Piece, FormFault>
+fn hole(input: &str, leaf: &Leaf<'_>) -> Result<ScriptPiece, FormFault>
     ensures { Builds (λ x. x) (input_in input.now (view_leaf leaf.now) (view_kind leaf.now.kind)) result }
 {
     match &leaf.kind {
-        Kind::Name(name) if name.as_str() == input => unless(leaf.after, Piece::Input),
+        Kind::Name(name) if name.as_str() == input => unless(leaf.after, ScriptPiece::Input),
         _ => Err(FormFault::Unbuilt { place: leaf.place }),
     }
 }
 
 /// A text or a hole of a script.
-fn piece(input: &str, part: &Part) -> Result<Piece, FormFault>
+fn piece(input: &str, part: &Fragment) -> Result<ScriptPiece, FormFault>
     ensures { Builds (λ x. x) (piece_from input.now (view_piece part.now)) result }
 {
     match part {
-        Part::Plain(_, text) => Ok(Piece::Text(text.copy()?)),
-        Part::Hole(_, expr) => hole(input, &first_of(expr)),
+        Fragment::Plain(_, text) => Ok(ScriptPiece::Text(text.copy()?)),
+        Fragment::Hole(_, expr) => hole(input, &first_of(expr)),
     }
 }
 
 /// The texts and holes of a script.
-fn pieces(alloc: Global, input: &str, parts: &[Part]) -> Result<Pieces, FormFault>
+fn pieces(alloc: Global, input: &str, parts: &[Fragment]) -> Result<Pieces, FormFault>
     ensures { Builds (λ x. x) (pieces_from input.now (trees (map view_piece parts.now))) result }
 {
     let mut all = Vec::new(alloc);
@@ -163,7 +163,7 @@ pub fn read_script(alloc: Global, input: &str, expr: &Expr) -> Result<Pieces, Fo
     let leaf = first_of(expr);
     match &leaf.kind {
         Kind::Text(text) => {
-            let piece = Piece::Text(text.copy()?);
+            let piece = ScriptPiece::Text(text.copy()?);
             let all = vec![in alloc; piece]?;
             unless(leaf.after, Pieces::of(all))
         }

@@ -5,7 +5,7 @@ ghost use Rattle.nf_ast.specs.View.{view, view_arg, view_arm, view_stmt, view_op
 ghost use Rattle.nf_forms.specs.Built.{is_before as is_before_of};
 ghost use Rattle.nf_forms.specs.Leaf.{leaf_of, view_leaf, begins_at, label_at, follows, prefix_at, operand_at, branch_at, postfix_place, part_at, is_statement, IsExpression};
 
-use nf_ast::{Arg, Arm, Branch, Closure, Expr, Operand, Piece, Postfix, Prefix, Stmt};
+use nf_ast::{Arg, Arm, Branch, ClosureExpr, Expr, Fragment, Operand, Postfix, Prefix, Stmt};
 use nf_value::{Place, Txt};
 
 /// The kind of what stands first.
@@ -14,11 +14,11 @@ pub enum Kind<'a> {
     /// A plain string.
     Text(&'a Txt),
     /// A template, with its texts and holes.
-    Template(&'a [Piece]),
+    Template(&'a [Fragment]),
     /// A name.
     Name(&'a Txt),
     /// A closure.
-    Closure(&'a Closure),
+    Closure(&'a ClosureExpr),
     /// Anything else.
     Other,
 }

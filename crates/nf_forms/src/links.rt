@@ -9,13 +9,13 @@ ghost use Rattle.nf_forms.specs.Items.{single as single_of};
 ghost use Rattle.nf_forms.specs.Memory.{view_around};
 ghost use Rattle.nf_forms.specs.Chains.{view_role, view_link, view_made, steps_on, step as step_of};
 
-use crate::around::Around;
+use crate::around::ScriptScope;
 use crate::fault::FormFault;
 use crate::items::{Items, are_none, read_items, single, unless};
 use crate::leaf::{branch_mark, first_of, operand_mark, prefix_mark};
 use crate::reach::{how_far, is_short};
 use crate::values::{argument_closure, read_closure};
-use nf_ast::{Arg, Closure, Expr, Postfix};
+use nf_ast::{Arg, ClosureExpr, Expr, Postfix};
 use nf_builtins::Natives;
 use nf_value::Place;
 use std::alloc::Global;
@@ -35,7 +35,7 @@ pub enum Role<'a> {
 #[derive(Drop)]
 pub enum Made {
     /// The images of items by a closure.
-    Chain(Items, Closure),
+    Chain(Items, ClosureExpr),
     /// What a process makes of items.
     Call(Items),
 }
@@ -66,7 +66,7 @@ pub enum Link {
 /// What a chain makes, up to its `view()`.
 pub fn read_made<N: Natives>(
     alloc: Global,
-    around: &Around,
+    around: &ScriptScope,
     natives: &N,
     role: &Role<'_>,
     expr: &Expr,
@@ -94,7 +94,7 @@ pub fn read_made<N: Natives>(
 #[cycle(link)]
 fn source<N: Natives>(
     alloc: Global,
-    around: &Around,
+    around: &ScriptScope,
     natives: &N,
     expr: &Expr,
 ) -> Result<Items, FormFault>
@@ -116,7 +116,7 @@ fn source<N: Natives>(
 #[cycle(link)]
 fn read_link<N: Natives>(
     alloc: Global,
-    around: &Around,
+    around: &ScriptScope,
     natives: &N,
     role: &Role<'_>,
     expr: &Expr,
@@ -172,7 +172,7 @@ fn head(role: &Role<'_>, place: Place, name: &str) -> Result<Link, FormFault>
 #[cycle(link)]
 fn steps<N: Natives>(
     alloc: Global,
-    around: &Around,
+    around: &ScriptScope,
     natives: &N,
     role: &Role<'_>,
     rest: &[Postfix],
@@ -191,7 +191,7 @@ fn steps<N: Natives>(
 #[cycle(link)]
 fn step<N: Natives>(
     alloc: Global,
-    around: &Around,
+    around: &ScriptScope,
     natives: &N,
     role: &Role<'_>,
     part: &Postfix,
@@ -251,10 +251,10 @@ fn call_place(bracket: Place, link: &Link) -> Place
 /// A closure after a link is given to what its last name calls.
 fn with_closure<N: Natives>(
     alloc: Global,
-    around: &Around,
+    around: &ScriptScope,
     natives: &N,
     link: Link,
-    closure: &Closure,
+    closure: &ClosureExpr,
 ) -> Result<Link, FormFault>
     requires { N.keeps natives.now }
     ensures { Builds view_link (with_closure_of (view_around around.now (N.titles natives.now) (N.answer natives.now)) (view_link link) (view_closure closure.now)) result }
@@ -274,7 +274,7 @@ fn with_closure<N: Natives>(
 #[cycle(link)]
 fn with_args<N: Natives>(
     alloc: Global,
-    around: &Around,
+    around: &ScriptScope,
     natives: &N,
     role: &Role<'_>,
     args: &[Arg],
@@ -302,7 +302,7 @@ fn with_args<N: Natives>(
 #[cycle(link)]
 fn call<N: Natives>(
     alloc: Global,
-    around: &Around,
+    around: &ScriptScope,
     natives: &N,
     process: Place,
     args: &[Arg],
@@ -324,7 +324,7 @@ fn call<N: Natives>(
 #[cycle(link)]
 fn argument_items<N: Natives>(
     alloc: Global,
-    around: &Around,
+    around: &ScriptScope,
     natives: &N,
     arg: &Arg,
 ) -> Result<Items, FormFault>
@@ -340,7 +340,7 @@ fn argument_items<N: Natives>(
 /// Arguments after a link, none of which are items.
 fn with_no_items<N: Natives>(
     alloc: Global,
-    around: &Around,
+    around: &ScriptScope,
     natives: &N,
     link: Link,
     place: Place,
@@ -367,7 +367,7 @@ fn with_no_items<N: Natives>(
 /// The one argument of `map`, whose name stands at this place.
 fn mapped<N: Natives>(
     alloc: Global,
-    around: &Around,
+    around: &ScriptScope,
     natives: &N,
     name: Place,
     items: Items,

@@ -12,7 +12,7 @@ ghost use Rattle.nf_forms.specs.Form.{form_of, tops_from, is_entry as is_entry_o
 ghost use Rattle.nf_forms.specs.Memory.{view_around};
 ghost use Rattle.nf_forms.specs.View.{view_plan, view_tops};
 
-use crate::around::Around;
+use crate::around::ScriptScope;
 use crate::fault::FormFault;
 use crate::items::Items;
 use crate::leaf::{expression, statement_place};
@@ -62,7 +62,7 @@ pub fn plan_of<N: Natives>(alloc: Global, script: &Script, natives: &N) -> Resul
     // There are patterns that are built, over which the plan is the script's form.
     ensures { OverBuilt (N.titles natives.now) (N.answer natives.now) (λ env. Builds (view_plan env.titles env.answer) (form_of env (view_script script.now)) result) }
 {
-    let around = Around::of_script(alloc, script)?;
+    let around = ScriptScope::of_script(alloc, script)?;
     plan_around(alloc, script, natives, around)
 }
 
@@ -71,7 +71,7 @@ fn plan_around<N: Natives>(
     alloc: Global,
     script: &Script,
     natives: &N,
-    around: Around,
+    around: ScriptScope,
 ) -> Result<Plan, FormFault>
     requires { N.keeps natives.now }
     ensures { Builds (view_plan (N.titles natives.now) (N.answer natives.now)) (form_of (view_around around (N.titles natives.now) (N.answer natives.now)) (view_script script.now)) result }
@@ -111,7 +111,7 @@ fn plan_tops<N: Natives>(
     alloc: Global,
     script: &Script,
     natives: &N,
-    around: Around,
+    around: ScriptScope,
 ) -> Result<Plan, FormFault>
     requires { N.keeps natives.now }
     ensures { Builds (view_plan (N.titles natives.now) (N.answer natives.now)) (tops_from (view_around around (N.titles natives.now) (N.answer natives.now)) (view_script script.now)) result }
@@ -135,7 +135,7 @@ fn role_of(tops: &[Top]) -> Role<'_>
 
 fn read_tops<N: Natives>(
     alloc: Global,
-    around: &Around,
+    around: &ScriptScope,
     natives: &N,
     role: &Role<'_>,
     tops: &[Top],
@@ -156,7 +156,7 @@ fn read_tops<N: Natives>(
 /// One more definition.
 fn add<N: Natives>(
     alloc: Global,
-    around: &Around,
+    around: &ScriptScope,
     natives: &N,
     role: &Role<'_>,
     top: &Top,
@@ -201,7 +201,7 @@ fn add_process(alloc: Global, process: &Process, all: Tops) -> Result<Tops, Form
 
 fn add_workflow<N: Natives>(
     alloc: Global,
-    around: &Around,
+    around: &ScriptScope,
     natives: &N,
     role: &Role<'_>,
     workflow: &Workflow,
@@ -229,7 +229,7 @@ fn add_workflow<N: Natives>(
 /// What a workflow without a name makes.
 fn read_workflow<N: Natives>(
     alloc: Global,
-    around: &Around,
+    around: &ScriptScope,
     natives: &N,
     role: &Role<'_>,
     workflow: &Workflow,
@@ -248,7 +248,7 @@ fn read_workflow<N: Natives>(
 /// What the body of a workflow makes, whose word stands at this place.
 fn read_body<N: Natives>(
     alloc: Global,
-    around: &Around,
+    around: &ScriptScope,
     natives: &N,
     role: &Role<'_>,
     place: Place,
@@ -268,7 +268,7 @@ fn read_body<N: Natives>(
 /// What the section `main:` makes, which stands alone.
 fn read_parts<N: Natives>(
     alloc: Global,
-    around: &Around,
+    around: &ScriptScope,
     natives: &N,
     role: &Role<'_>,
     parts: &Parts,
@@ -296,7 +296,7 @@ fn read_parts<N: Natives>(
 /// What the one statement of a workflow makes.
 fn read_statements<N: Natives>(
     alloc: Global,
-    around: &Around,
+    around: &ScriptScope,
     natives: &N,
     role: &Role<'_>,
     place: Place,
@@ -319,7 +319,7 @@ fn read_statements<N: Natives>(
 
 fn read_statement<N: Natives>(
     alloc: Global,
-    around: &Around,
+    around: &ScriptScope,
     natives: &N,
     role: &Role<'_>,
     stmt: &Stmt,
@@ -334,7 +334,7 @@ fn read_statement<N: Natives>(
 }
 
 /// The plan of a script's definitions.
-fn whole(around: Around, tops: Tops) -> Result<Plan, FormFault>
+fn whole(around: ScriptScope, tops: Tops) -> Result<Plan, FormFault>
     ensures { (titles : List (List ℕ)) → (answer : (ℕ → List Plain → Option Plain)) → Builds (view_plan titles answer) (whole_of (view_around around titles answer) (view_tops tops).process (view_tops tops).made) result }
 {
     let Tops { process, made } = tops;

@@ -8,13 +8,13 @@ ghost use Rattle.nf_forms.specs.Leaf.{label_at};
 ghost use Rattle.nf_forms.specs.Values.{value_from, item_from, misplaced as misplaced_in, last_range as last_range_of, range_mark as range_mark_of, unless_followed as unless_followed_of, first_label as first_label_of, closure_from, lone_closure};
 ghost use Rattle.nf_forms.specs.Memory.{view_around};
 
-use crate::around::Around;
+use crate::around::ScriptScope;
 use crate::fault::FormFault;
 use crate::items::unless;
 use crate::leaf::{
     Kind, branch_mark, expression, first_of, is_before, part_mark, prefix_mark, tell_no_label,
 };
-use nf_ast::{Arg, Closure, ClosureBody, Expr, InfixMark, Operand, Stmt};
+use nf_ast::{Arg, ClosureBody, ClosureExpr, Expr, InfixMark, Operand, Stmt};
 use nf_builtins::Natives;
 use nf_eval::eval;
 use nf_value::{EvalRefusal, Place, Value};
@@ -23,7 +23,7 @@ use std::alloc::Global;
 /// The value of an expression that is evaluated before the run.
 fn value<N: Natives>(
     alloc: Global,
-    around: &Around,
+    around: &ScriptScope,
     natives: &N,
     expr: &Expr,
 ) -> Result<Value, FormFault>
@@ -43,7 +43,7 @@ fn value<N: Natives>(
 /// The value of an argument that is an item.
 pub fn item<N: Natives>(
     alloc: Global,
-    around: &Around,
+    around: &ScriptScope,
     natives: &N,
     arg: &Arg,
 ) -> Result<Value, FormFault>
@@ -59,7 +59,7 @@ pub fn item<N: Natives>(
 /// The value of an expression that is an item.
 fn bare_item<N: Natives>(
     alloc: Global,
-    around: &Around,
+    around: &ScriptScope,
     natives: &N,
     expr: &Expr,
 ) -> Result<Value, FormFault>
@@ -134,10 +134,10 @@ fn fault_before(place: Place, value: Result<Value, FormFault>) -> FormFault
 /// A closure that is the one argument of `map`.
 pub fn argument_closure<N: Natives>(
     alloc: Global,
-    around: &Around,
+    around: &ScriptScope,
     natives: &N,
     arg: &Arg,
-) -> Result<Closure, FormFault>
+) -> Result<ClosureExpr, FormFault>
     ensures { Builds view_closure (lone_closure (view_around around.now (N.titles natives.now) (N.answer natives.now)) (view_arg arg.now)) result }
 {
     match &arg.name {
@@ -149,10 +149,10 @@ pub fn argument_closure<N: Natives>(
 /// A closure that stands alone.
 fn closure_alone<N: Natives>(
     alloc: Global,
-    around: &Around,
+    around: &ScriptScope,
     natives: &N,
     expr: &Expr,
-) -> Result<Closure, FormFault>
+) -> Result<ClosureExpr, FormFault>
     ensures { Builds view_closure (lone_closure (view_around around.now (N.titles natives.now) (N.answer natives.now)) (view expr.now)) result }
 {
     let leaf = first_of(expr);
@@ -168,10 +168,10 @@ fn closure_alone<N: Natives>(
 /// A closure of statements that uses nothing that isn't bound.
 pub fn read_closure<N: Natives>(
     alloc: Global,
-    around: &Around,
+    around: &ScriptScope,
     natives: &N,
-    closure: &Closure,
-) -> Result<Closure, FormFault>
+    closure: &ClosureExpr,
+) -> Result<ClosureExpr, FormFault>
     ensures { Builds view_closure (closure_from (view_around around.now (N.titles natives.now) (N.answer natives.now)) (view_closure closure.now)) result }
 {
     if let Some(place) = first_label(&closure.body) {

@@ -5,7 +5,7 @@ use Rattle.nf_token.specs.declared.token.Token.{Token}
 use Rattle.nf_token.specs.declared.token.Token.TheVariants as t
 use Rattle.nf_token.specs.declared.token.Lexeme.{Lexeme}
 use Rattle.nf_lexer.specs.Front.{Item, silent, line_end, written, lexed, string_end, pattern_end}
-use Rattle.nf_lexer.specs.Separators.{Piece, line_end_at}
+use Rattle.nf_lexer.specs.Separators.{Segment, line_end_at}
 use Rattle.nf_lexer.specs.Separators as s
 
 -- an item at its place
@@ -25,7 +25,7 @@ abbrev pub lexeme : Token → Place → Lexeme
 lexeme x place = record { token = x; place = place }
 
 -- a template's text is a token, unless it is empty
-abbrev pub text_before : Held → List Piece → List Piece
+abbrev pub text_before : Held → List Segment → List Segment
 text_before (text start (b ∷ w)) rest = s.lexed (lexeme (t.TemplateText (b ∷ w)) start) ∷ rest
 text_before _ rest = rest
 
@@ -35,7 +35,7 @@ whole make nothing place = lexeme (make []) place
 whole make (text start w) place = lexeme (make w) start
 
 -- the pieces of items, after what is held
-abbrev pub joined : Held → List Placed → List Piece
+abbrev pub joined : Held → List Placed → List Segment
 joined held [] = []
 joined held (at silent place ∷ v) = joined held v
 joined held (at line_end place ∷ v) = line_end_at place ∷ joined held v

@@ -9,9 +9,9 @@ use Rattle.nf_token.specs.declared.token.Token.TheVariants as t
 use Rattle.nf_token.specs.declared.token.Lexeme.{Lexeme}
 
 -- what a text is cut into: tokens, and the line ends that brackets let separate
-pub data Piece : Type 0 where
-  lexed : Lexeme → Piece
-  line_end_at : Place → Piece
+pub data Segment : Type 0 where
+  lexed : Lexeme → Segment
+  line_end_at : Place → Segment
 
 -- a line that ends after this mark goes on
 abbrev pub mark_awaits_more : Mark → Bool
@@ -66,7 +66,7 @@ goes_on (t.Keyword k.Else) = true
 goes_on _ = false
 
 -- the next token, past line ends, goes on the line before
-abbrev pub next_goes_on : List Piece → Bool
+abbrev pub next_goes_on : List Segment → Bool
 next_goes_on [] = false
 next_goes_on (lexed x ∷ rest) = goes_on x.token
 next_goes_on (line_end_at place ∷ rest) = next_goes_on rest
@@ -86,7 +86,7 @@ is_after_separator [] = false
 is_after_separator (x ∷ before) = is_separator x.token
 
 -- a line end separates, between the tokens before, latest first, and the pieces that follow
-abbrev pub line_end_separates : List Lexeme → List Piece → Bool
+abbrev pub line_end_separates : List Lexeme → List Segment → Bool
 line_end_separates before rest = not (last_awaits_more before) && not (next_goes_on rest)
 
 -- a separator at this place
@@ -98,7 +98,7 @@ abbrev pub is_extra : List Lexeme → Lexeme → Bool
 is_extra before x = is_separator x.token && is_after_separator before
 
 -- the tokens that the pieces are after the tokens before, latest first
-abbrev pub settled : List Lexeme → List Piece → List Lexeme
+abbrev pub settled : List Lexeme → List Segment → List Lexeme
 settled before [] = []
 settled before (lexed x ∷ rest) = if is_extra before x then settled before rest else x ∷ settled (x ∷ before) rest
 settled before (line_end_at place ∷ rest) = if line_end_separates before rest && not (is_after_separator before) then separator place ∷ settled (separator place ∷ before) rest else settled before rest

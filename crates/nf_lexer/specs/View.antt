@@ -22,7 +22,7 @@ use Rattle.nf_lexer.specs.declared.joiner.Holding.{Holding}
 use Rattle.nf_lexer.specs.Front.{Item, silent, line_end, written, lexed, string_end, pattern_end, First, passes, finished, broken}
 use Rattle.nf_lexer.specs.Joined.{Placed, Held, nothing, text, joined}
 use Rattle.nf_lexer.specs.Open.{outermost, line_fault, end_fault, nearest}
-use Rattle.nf_lexer.specs.Separators.{Piece, line_end_at, settled}
+use Rattle.nf_lexer.specs.Separators.{Segment, line_end_at, settled}
 use Rattle.nf_lexer.specs.Word.{word_token}
 
 -- ---- what stands first
@@ -72,12 +72,12 @@ IsSummed (f ∷ fs) = (f.line ≡ outermost line_fault (f.thing ∷ opens fs)) �
 -- ---- what comes of the pieces
 
 -- the line end that isn't settled yet
-abbrev pub waiting_pieces : Option Place → List Piece
+abbrev pub waiting_pieces : Option Place → List Segment
 waiting_pieces None = []
 waiting_pieces (Some place) = line_end_at place ∷ []
 
 -- the tokens that come of what the settler took and of these pieces
-abbrev pub outcome : Settler → List Piece → List Lexeme
+abbrev pub outcome : Settler → List Segment → List Lexeme
 outcome s rest = s.out.items ++ settled (reverse s.out.items) (waiting_pieces s.waiting ++ rest)
 
 abbrev pub held_view : Option Holding → Held

@@ -3,7 +3,7 @@
 ghost use Rattle.std.specs.Prelude.{◌≡◌, [], ◌∷◌, List, None, OnOk, IfOk};
 ghost use Rattle.nf_lexer.specs.Front.{written, lexed, string_end, pattern_end};
 ghost use Rattle.nf_lexer.specs.Joined.{Placed, at, nothing, text, joined, more, text_before};
-ghost use Rattle.nf_lexer.specs.Separators.{Piece, settled};
+ghost use Rattle.nf_lexer.specs.Separators.{Segment, settled};
 ghost use Rattle.nf_lexer.specs.View.{outcome, joined_outcome, held_view, bit_view, raw_view, part_view};
 ghost use Rattle.std.specs.String.{string_bytes};
 
@@ -121,7 +121,7 @@ impl Joiner {
     /// A template's text ends here.
     fn settle_text(&mut self) -> Result<(), Mem>
         ensures held { OnOk result (self.new.held ≡ None) }
-        ensures outcome { OnOk result ((rest : List Piece) → outcome self.new.settler rest ≡ outcome self.old.settler (text_before (held_view self.old.held) rest)) }
+        ensures outcome { OnOk result ((rest : List Segment) → outcome self.new.settler rest ≡ outcome self.old.settler (text_before (held_view self.old.held) rest)) }
     {
         if let Some(held) = self.held.take() {
             if !held.text.is_empty() {

@@ -1,7 +1,7 @@
 //! Which line ends separate.
 
 ghost use Rattle.std.specs.Prelude.{◌≡◌, [], ◌∷◌, ◌++◌, List, None, reverse, not, ◌&&◌, OnOk, IfOk};
-ghost use Rattle.nf_lexer.specs.Separators.{Piece, lexed, line_end_at, settled, last_awaits_more as last_awaits_more_of, is_after_separator as is_after_separator_of, next_goes_on, awaits_more as awaits_more_of, mark_awaits_more as mark_awaits_more_of, goes_on as goes_on_of, mark_goes_on as mark_goes_on_of, is_separator as is_separator_of};
+ghost use Rattle.nf_lexer.specs.Separators.{Segment, lexed, line_end_at, settled, last_awaits_more as last_awaits_more_of, is_after_separator as is_after_separator_of, next_goes_on, awaits_more as awaits_more_of, mark_awaits_more as mark_awaits_more_of, goes_on as goes_on_of, mark_goes_on as mark_goes_on_of, is_separator as is_separator_of};
 ghost use Rattle.nf_lexer.specs.View.{outcome};
 
 use nf_token::{Keyword, Lexeme, Mark, Token};
@@ -17,7 +17,7 @@ pub struct Settler {
 
 impl Settler {
     pub fn new(alloc: Global) -> Settler
-        ensures outcome { (rest : List Piece) → outcome result rest ≡ settled [] rest }
+        ensures outcome { (rest : List Segment) → outcome result rest ≡ settled [] rest }
     {
         Settler {
             out: Vec::new(alloc),
@@ -27,7 +27,7 @@ impl Settler {
 
     /// Takes a line end.
     pub fn line_end(&mut self, place: Place)
-        ensures outcome { (rest : List Piece) → outcome self.new rest ≡ outcome self.old (line_end_at place ∷ rest) }
+        ensures outcome { (rest : List Segment) → outcome self.new rest ≡ outcome self.old (line_end_at place ∷ rest) }
     {
         if self.waiting.is_none() {
             self.waiting = Some(place);
@@ -36,7 +36,7 @@ impl Settler {
 
     /// Takes a token.
     pub fn token(&mut self, lexeme: Lexeme) -> Result<(), Mem>
-        ensures outcome { OnOk result ((rest : List Piece) → outcome self.new rest ≡ outcome self.old (lexed lexeme ∷ rest)) }
+        ensures outcome { OnOk result ((rest : List Segment) → outcome self.new rest ≡ outcome self.old (lexed lexeme ∷ rest)) }
     {
         self.settle_line_end(goes_on(&lexeme.token))?;
         if is_separator(&lexeme.token) && is_after_separator(self.out.as_slice()) {
@@ -56,7 +56,7 @@ impl Settler {
     /// Decides on the line end that waits, by whether the next token goes on.
     fn settle_line_end(&mut self, goes_on: bool) -> Result<(), Mem>
         ensures settled { OnOk result (self.new.waiting ≡ None) }
-        ensures outcome { OnOk result ((rest : List Piece) → next_goes_on rest ≡ goes_on → outcome self.new rest ≡ outcome self.old rest) }
+        ensures outcome { OnOk result ((rest : List Segment) → next_goes_on rest ≡ goes_on → outcome self.new rest ≡ outcome self.old rest) }
     {
         if let Some(place) = self.waiting.take() {
             if !goes_on && self.lets_line_end() {

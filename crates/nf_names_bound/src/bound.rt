@@ -8,7 +8,7 @@ ghost use Rattle.nf_placed.specs.Scope.{function_names};
 ghost use Rattle.nf_eval.specs.Memory.{env_of};
 ghost use Rattle.nf_names_bound.specs.Bound.{unbound_in, is_known, first_unknown as first_unknown_of};
 
-use nf_ast::{Closure, Expr};
+use nf_ast::{ClosureExpr, Expr};
 use nf_builtins::Natives;
 use nf_eval::Env;
 use nf_names_used::{Use, UseKind, closure_uses, expr_uses};
@@ -42,7 +42,7 @@ pub fn unbound<N: Natives>(
 /// `Mem` where there is no memory for the list of uses.
 pub fn unbound_closure<N: Natives>(
     alloc: Global,
-    closure: &Closure,
+    closure: &ClosureExpr,
     env: &Env,
     natives: &N,
 ) -> Result<Option<Place>, Mem>

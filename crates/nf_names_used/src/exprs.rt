@@ -10,7 +10,7 @@ use crate::leaves::{Leaf, Role, read_leaf, role_before};
 use crate::seen::Seen;
 use crate::stmts::put_closure;
 use crate::uses::{Use, UseKind};
-use nf_ast::{Arg, Branch, Expr, InfixMark, Operand, Pair, Piece, Postfix};
+use nf_ast::{Arg, Branch, Expr, Fragment, InfixMark, Operand, Pair, Postfix};
 use nf_value::{Mem, Place, Txt};
 use std::alloc::Global;
 
@@ -104,7 +104,12 @@ fn put_exprs(items: &[Expr], seen: &Seen, alloc: Global, out: &mut Vec<Use>) -> 
 }
 
 #[cycle(uses)]
-fn put_pieces(pieces: &[Piece], seen: &Seen, alloc: Global, out: &mut Vec<Use>) -> Result<(), Mem>
+fn put_pieces(
+    pieces: &[Fragment],
+    seen: &Seen,
+    alloc: Global,
+    out: &mut Vec<Use>,
+) -> Result<(), Mem>
     ensures { OnOk result (out.new.items ≡ out.old.items ++ uses (trees (map view_piece pieces.now)) seen.now) }
 {
     for piece in pieces {
@@ -114,13 +119,13 @@ fn put_pieces(pieces: &[Piece], seen: &Seen, alloc: Global, out: &mut Vec<Use>) 
 }
 
 #[cycle(uses)]
-fn put_piece(piece: &Piece, seen: &Seen, alloc: Global, out: &mut Vec<Use>) -> Result<(), Mem>
+fn put_piece(piece: &Fragment, seen: &Seen, alloc: Global, out: &mut Vec<Use>) -> Result<(), Mem>
     ensures uses { OnOk result (out.new.items ≡ out.old.items ++ uses (view_piece piece.now) seen.now) }
     ensures defines { OnOk result (defined_by (view_piece piece.now) ≡ []) }
 {
     match piece {
-        Piece::Plain(_, _) => Ok(()),
-        Piece::Hole(_, expr) => put_expr(expr, seen, alloc, out),
+        Fragment::Plain(_, _) => Ok(()),
+        Fragment::Hole(_, expr) => put_expr(expr, seen, alloc, out),
     }
 }
 

@@ -10,7 +10,7 @@ use crate::again::{put_again, put_agains, put_params};
 use crate::exprs::{put_expr, put_use};
 use crate::seen::{Seen, add_names};
 use crate::uses::{Use, UseKind};
-use nf_ast::{Arm, Closure, ClosureBody, Label, Stmt};
+use nf_ast::{Arm, ClosureBody, ClosureExpr, Label, Stmt};
 use nf_value::{Mem, Place, Txt};
 use std::alloc::Global;
 
@@ -20,7 +20,7 @@ use std::alloc::Global;
 /// # Errors
 ///
 /// `Mem` where there is no memory for the list.
-pub fn closure_uses(alloc: Global, closure: &Closure) -> Result<Vec<Use>, Mem>
+pub fn closure_uses(alloc: Global, closure: &ClosureExpr) -> Result<Vec<Use>, Mem>
     ensures { IfOk result (λ v. v.items ≡ uses (view_closure closure.now) no_names) }
 {
     let mut out = Vec::new(alloc);
@@ -46,7 +46,7 @@ pub fn stmts_uses(alloc: Global, stmts: &[Stmt]) -> Result<Vec<Use>, Mem>
 
 #[cycle(uses)]
 pub(crate) fn put_closure(
-    closure: &Closure,
+    closure: &ClosureExpr,
     seen: &Seen,
     alloc: Global,
     out: &mut Vec<Use>,

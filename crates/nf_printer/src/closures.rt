@@ -15,13 +15,13 @@ use crate::exprs::{put_comma, put_expr, put_label};
 use crate::layout::Margin;
 use crate::leading::{is_expression, prints};
 use crate::writer::Writer;
-use nf_ast::{Arm, Closure, ClosureBody, Expr, Label, Stmt};
+use nf_ast::{Arm, ClosureBody, ClosureExpr, Expr, Label, Stmt};
 use nf_token::{Keyword, Mark};
 use nf_value::{Mem, Place, Txt};
 
 /// A closure: on one line where it is one expression or nothing.
 #[cycle(put)]
-pub fn put_closure(closure: &Closure, margin: &Margin, out: &mut Writer) -> Result<(), Mem>
+pub fn put_closure(closure: &ClosureExpr, margin: &Margin, out: &mut Writer) -> Result<(), Mem>
     ensures { OnOk result (out.new ≡ out.old ++ inked (inks (view_closure closure.now) (layout_of margin.now) false)) }
 {
     let inner = margin.deeper()?;

@@ -19,7 +19,7 @@ use crate::levels::{
 };
 use crate::writer::Writer;
 use nf_ast::{
-    Arg, Branch, Expr, InfixMark, Key, Operand, Pair, Piece, Postfix, Prefix, PrefixMark,
+    Arg, Branch, Expr, Fragment, InfixMark, Key, Operand, Pair, Postfix, Prefix, PrefixMark,
 };
 use nf_token::{Keyword, Mark, TemplateKind};
 use nf_value::{Mem, Place, Txt};
@@ -367,7 +367,7 @@ fn put_key_text(
 /// A template.
 #[cycle(put)]
 fn put_template(
-    pieces: &[Piece],
+    pieces: &[Fragment],
     kind: TemplateKind,
     margin: &Margin,
     out: &mut Writer,
@@ -384,7 +384,7 @@ fn put_template(
 /// A text or a hole of a template.
 #[cycle(put)]
 fn put_piece(
-    piece: &Piece,
+    piece: &Fragment,
     kind: TemplateKind,
     margin: &Margin,
     out: &mut Writer,
@@ -392,8 +392,8 @@ fn put_piece(
     ensures { OnOk result (out.new ≡ out.old ++ inked (piece_of (view_piece piece.now) kind (layout_of margin.now))) }
 {
     match piece {
-        Piece::Plain(_, text) => out.template_text(kind, margin.is_inline(), text),
-        Piece::Hole(_, expr) => {
+        Fragment::Plain(_, text) => out.template_text(kind, margin.is_inline(), text),
+        Fragment::Hole(_, expr) => {
             out.open_hole()?;
             put_expr(expr, &Margin::Inline, false, out)?;
             out.close_hole()

@@ -2,7 +2,7 @@
 use Rattle.std.specs.Prelude.{ℕ, min, ◌==◌, ◌||◌, List, [], ◌∷◌, map, filter, drop, Bool, not, unwrap_or, if◌then◌else◌}
 use Rattle.std.specs.List.{slice_split, join_by, list_all, prefix_len, reduce}
 use Rattle.nf_value.specs.Plain.{Plain}
-use Rattle.nf_process.specs.declared.template.Piece.{Piece}
+use Rattle.nf_process.specs.declared.template.ScriptPiece.{ScriptPiece}
 use Rattle.nf_process.specs.Template.{template_text}
 
 -- the line end is a line feed
@@ -47,5 +47,5 @@ without_line_end [] = []
 without_line_end (b ∷ bs) = if is_line_end b then bs else b ∷ bs
 
 -- the text of a script for an input
-abbrev pub script_of : List Piece → Plain → List ℕ
+abbrev pub script_of : List ScriptPiece → Plain → List ℕ
 script_of pieces v = without_margin (without_line_end (template_text pieces v))

@@ -3,14 +3,14 @@ use Rattle.std.specs.Prelude.{ℕ, List}
 use Rattle.std.specs.List.{flat_map}
 use Rattle.nf_value.specs.Plain.{Plain}
 use Rattle.nf_value.specs.Text.{value_text}
-use Rattle.nf_process.specs.declared.template.Piece.{Piece}
-use Rattle.nf_process.specs.declared.template.Piece.TheVariants as piece
+use Rattle.nf_process.specs.declared.template.ScriptPiece.{ScriptPiece}
+use Rattle.nf_process.specs.declared.template.ScriptPiece.TheVariants as piece
 
 -- what a piece prints where the input prints this
-abbrev pub piece_text : List ℕ → Piece → List ℕ
+abbrev pub piece_text : List ℕ → ScriptPiece → List ℕ
 piece_text shown (piece.Text t) = t
 piece_text shown piece.Input = shown
 
 -- the text of a template for an input
-abbrev pub template_text : List Piece → Plain → List ℕ
+abbrev pub template_text : List ScriptPiece → Plain → List ℕ
 template_text pieces v = flat_map (piece_text (value_text v)) pieces

@@ -12,4 +12,4 @@ pub use jobs::{job, parts, tell_fit};
 pub use outputs::emit_of;
 pub use process::ProcessSpec;
 pub use script::script_text;
-pub use template::{Piece, Pieces};
+pub use template::{Pieces, ScriptPiece};

@@ -10,7 +10,7 @@ use std::marker::Model;
 
 /// A piece of a script's template (Nextflow reference, "Script", "String interpolation").
 #[derive(Drop)]
-pub enum Piece {
+pub enum ScriptPiece {
     /// This text.
     Text(Txt),
     /// A hole, in which the text of the input's value is printed.
@@ -20,28 +20,28 @@ pub enum Piece {
 /// A template, as the list of its pieces. Contracts see that list.
 #[derive(Drop)]
 pub struct Pieces {
-    items: Vec<Piece>,
+    items: Vec<ScriptPiece>,
 }
 
 impl Model for Pieces {
     ghost use Rattle.std.specs.Prelude.{List};
-    ghost use Rattle.nf_process.specs.declared.template.Piece.{Piece};
+    ghost use Rattle.nf_process.specs.declared.template.ScriptPiece.{ScriptPiece};
 
-    ghost Value = { List Piece };
+    ghost Value = { List ScriptPiece };
 
     ghost view = { λ p. p.items.items };
 }
 
 impl Pieces {
     /// The list of a vector. Takes no memory.
-    pub fn of(items: Vec<Piece>) -> Pieces
+    pub fn of(items: Vec<ScriptPiece>) -> Pieces
         ensures { result ≡ items.items }
     {
         Pieces { items }
     }
 
     /// The pieces in order. Takes no memory.
-    pub fn items(&self) -> &[Piece]
+    pub fn items(&self) -> &[ScriptPiece]
         ensures { result.now ≡ self.now }
     {
         self.items.as_slice()
@@ -64,12 +64,12 @@ pub(crate) fn template_text(alloc: Global, pieces: &Pieces, input: &Value) -> Re
     Ok(Txt::of(out))
 }
 
-fn push_piece(out: &mut String, piece: &Piece, shown: &Txt) -> Result<(), Mem>
+fn push_piece(out: &mut String, piece: &ScriptPiece, shown: &Txt) -> Result<(), Mem>
     ensures { OnOk result (string_bytes out.new ≡ string_bytes out.old ++ piece_text shown.now piece.now) }
 {
     match piece {
-        Piece::Text(text) => out.push_str(text.as_str())?,
-        Piece::Input => out.push_str(shown.as_str())?,
+        ScriptPiece::Text(text) => out.push_str(text.as_str())?,
+        ScriptPiece::Input => out.push_str(shown.as_str())?,
     }
     Ok(())
 }

@@ -8,7 +8,7 @@ use Rattle.nf_process.specs.declared.process.ProcessSpec.{ProcessSpec}
 use Rattle.nf_process.specs.Parts.{parts_of}
 use Rattle.nf_process.specs.Outcome.{outputs_of}
 use Rattle.nf_core.specs.Chain.{Answered, Imaged, images}
-use Rattle.nf_core.specs.Rules.{Rules, rules_by}
+use Rattle.nf_core.specs.Rules.{ProcessRules, rules_by}
 use Rattle.nf_core.specs.Tasks.{Instance, Outcomes, Meaning, meaning}
 use Rattle.nf_forms.specs.Form.{Form, chain, tasks}
 
@@ -25,7 +25,7 @@ chain_images xs c = images (answer c) xs
 -- ---- tasks
 
 -- the jobs of a process's instances, and what their reports amount to
-abbrev pub process_rules : ProcessSpec → Rules
+abbrev pub process_rules : ProcessSpec → ProcessRules
 process_rules s = rules_by (parts_of s) (outputs_of s)
 
 -- ---- both

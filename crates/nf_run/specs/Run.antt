@@ -14,7 +14,7 @@ use Rattle.nf_core.specs.declared.event.Stop.TheVariants as stop
 use Rattle.nf_core.specs.declared.event.Outside.TheVariants.{Lane}
 use Rattle.nf_core.specs.declared.chains.ChainFault.{ChainFault}
 use Rattle.nf_core.specs.declared.chains.ChainFault.TheVariants as chain_fault
-use Rattle.nf_core.specs.Rules.{Rules, rules_by}
+use Rattle.nf_core.specs.Rules.{ProcessRules, rules_by}
 use Rattle.nf_core.specs.Machine.{State, opening, replay, IsLawful, EndsWell}
 use Rattle.nf_core.specs.Tasks.{Outcomes, outcomes}
 use Rattle.nf_core.specs.Going.{IsBooked}
@@ -37,10 +37,10 @@ call_of (chain vs c) = []
 call_of (tasks s xs) = s.name
 
 -- no process has a job
-abbrev pub no_process : Rules
+abbrev pub no_process : ProcessRules
 no_process = rules_by (λ inputs n attempt. Err BadStdout) (λ inputs attempt report. Err BadStdout)
 
-abbrev pub rules_of : Form → Rules
+abbrev pub rules_of : Form → ProcessRules
 rules_of (chain vs c) = no_process
 rules_of (tasks s xs) = process_rules s
 

@@ -6,7 +6,7 @@ ghost use Rattle.nf_eval.specs.Closing.{closing_of};
 ghost use Rattle.nf_run.specs.Meaning.{answer, process_rules};
 
 use nf_builtins::Natives;
-use nf_core::{Rules, TaskRules};
+use nf_core::{ItemRules, TaskRules};
 use nf_eval::{Closure, apply};
 use nf_job::{Job, Outputs, Report, TaskRefusal};
 use nf_process::{ProcessSpec, emit_of, laws};
@@ -22,7 +22,7 @@ pub struct ClosureRules<'a, N> {
     pub natives: &'a N,
 }
 
-impl<N: Natives> Rules for ClosureRules<'_, N> {
+impl<N: Natives> ItemRules for ClosureRules<'_, N> {
     ghost gives = { λ r. answer (closing_of r.closure.now (N.titles r.natives.now) (N.answer r.natives.now)) };
 
     ghost keeps = { λ r. N.keeps r.natives.now };

@@ -1,10 +1,10 @@
 //! Copies of trees are made where there is memory: of an expression and of a script with every kind of node.
 
 use nf_ast::{
-    Arg, Arm, Branch, BranchMark, Closure, ClosureBody, Directive, Emit, Emits, Expr, Function,
-    InfixMark, Input, InputPart, Inputs, Key, Label, Operand, Output, OutputPart, OutputValue,
-    Outputs, Pair, Parameter, Parts, Piece, Postfix, Prefix, PrefixMark, Process, Script, Section,
-    Stmt, Take, Task, Top, Workflow, WorkflowBody,
+    Arg, Arm, Branch, BranchMark, ClosureBody, ClosureExpr, Directive, Emit, Emits, Expr, Fragment,
+    Function, InfixMark, Input, InputPart, Inputs, Key, Label, Operand, Output, OutputPart,
+    OutputValue, Outputs, Pair, Parameter, Parts, Postfix, Prefix, PrefixMark, Process, Script,
+    Section, Stmt, Take, Task, Top, Workflow, WorkflowBody,
 };
 use nf_token::{PlainKind, TemplateKind};
 use nf_value::{Mem, Place, Txt};
@@ -31,8 +31,8 @@ fn names(alloc: Global) -> Result<Vec<(Place, Txt)>, Mem> {
 }
 
 fn template(alloc: Global) -> Result<Expr, Mem> {
-    let hole = Piece::hole(AT, name(alloc));
-    let pieces = vec![in alloc; Piece::plain(AT, txt(alloc)), hole]?;
+    let hole = Fragment::hole(AT, name(alloc));
+    let pieces = vec![in alloc; Fragment::plain(AT, txt(alloc)), hole]?;
     Ok(Expr::template(AT, TemplateKind::Double, pieces))
 }
 
@@ -92,12 +92,12 @@ fn args(alloc: Global) -> Result<Vec<Arg>, Mem> {
 fn closure(alloc: Global) -> Result<Expr, Mem> {
     let params = names(alloc)?;
     let body = ClosureBody::statements(all_stmts(alloc)?);
-    Ok(Expr::closure(Closure::new(AT, Some(params), body)))
+    Ok(Expr::closure(ClosureExpr::new(AT, Some(params), body)))
 }
 
-fn labelled(alloc: Global) -> Result<Closure, Mem> {
+fn labelled(alloc: Global) -> Result<ClosureExpr, Mem> {
     let labels = labels(alloc)?;
-    Ok(Closure::new(AT, None, ClosureBody::labels(labels)))
+    Ok(ClosureExpr::new(AT, None, ClosureBody::labels(labels)))
 }
 
 fn prefix(alloc: Global) -> Result<Expr, Mem> {

@@ -3,7 +3,7 @@
 ghost use Rattle.nf_builtins.specs.Natives.{AnswersNative, program_answer};
 
 use nf_ast::{
-    Arg, Closure, ClosureBody, Expr, InfixMark, Operand, Postfix, Script, Stmt, Top, Workflow,
+    Arg, ClosureBody, ClosureExpr, Expr, InfixMark, Operand, Postfix, Script, Stmt, Top, Workflow,
     WorkflowBody,
 };
 use nf_builtins::{CallFault, ProgramBook, StoredNatives, program_names, program_native};
@@ -23,7 +23,7 @@ fn method(alloc: Global, name: &str) -> Result<Postfix, Mem> {
 }
 
 /// `{ it + 2 }`, with a mark at 1:9
-fn closure(alloc: Global) -> Result<Closure, Mem> {
+fn closure(alloc: Global) -> Result<ClosureExpr, Mem> {
     let two = Operand {
         place: Place { line: 1, col: 9 },
         mark: InfixMark::Plus,
@@ -33,7 +33,7 @@ fn closure(alloc: Global) -> Result<Closure, Mem> {
     let rest = vec![in alloc; two]?;
     let added = Expr::infix(alloc, it, rest)?;
     let body = ClosureBody::Statements(vec![in alloc; Stmt::Expr(added)]?);
-    Ok(Closure {
+    Ok(ClosureExpr {
         place: AT,
         params: None,
         body,

@@ -8,7 +8,7 @@ use nf_builtins::{CallFault, ProgramBook, StoredNatives, program_names, program_
 use nf_forms::{Items, Plan};
 use nf_job::{Captured, Found, Report};
 use nf_lane::{Table, TableLane};
-use nf_process::{Piece, Pieces, ProcessSpec};
+use nf_process::{Pieces, ProcessSpec, ScriptPiece};
 use nf_run::{Ran, RunFault, laws, run_plan, starts};
 use nf_value::{Mem, Place, Txt, Vals, Value, text_of};
 use std::alloc::Global;
@@ -22,8 +22,8 @@ fn text(alloc: Global, from: &str) -> Result<Txt, Mem> {
 
 /// The process P, whose script is `"printf $x"`, over `'a'` and `'b'`.
 fn with_a_process(alloc: Global) -> Result<Option<Plan>, Mem> {
-    let before = Piece::Text(text(alloc, "printf ")?);
-    let pieces = vec![in alloc; before, Piece::Input]?;
+    let before = ScriptPiece::Text(text(alloc, "printf ")?);
+    let pieces = vec![in alloc; before, ScriptPiece::Input]?;
     let spec = ProcessSpec {
         name: text(alloc, "P")?,
         input: AT,

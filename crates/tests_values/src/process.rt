@@ -2,7 +2,7 @@
 
 use crate::makers::txt;
 use nf_job::{Captured, Found, Outputs, Report, TaskRefusal};
-use nf_process::{Piece, Pieces, ProcessSpec, emit_of, job, script_text, tell_fit};
+use nf_process::{Pieces, ProcessSpec, ScriptPiece, emit_of, job, script_text, tell_fit};
 use nf_value::{Mem, Place, Vals, Value, text_of};
 use std::alloc::Global;
 use std::test::Fail;
@@ -13,9 +13,9 @@ fn template(alloc: Global, template: &str) -> Result<Pieces, Mem> {
     let mut is_first = true;
     for part in template.split('$') {
         if !is_first {
-            pieces.push(Piece::Input)?;
+            pieces.push(ScriptPiece::Input)?;
         }
-        pieces.push(Piece::Text(txt(alloc, part)?))?;
+        pieces.push(ScriptPiece::Text(txt(alloc, part)?))?;
         is_first = false;
     }
     Ok(Pieces::of(pieces))

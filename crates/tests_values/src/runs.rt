@@ -7,7 +7,7 @@ ghost use Rattle.nf_job.specs.declared.emitted.Outputs.TheVariants.{Emits};
 ghost use Rattle.nf_core.specs.Rules.{rules_by};
 
 use crate::makers::txt;
-use nf_core::{ChainFault, Rules, Stop, TaskRules, TasksEnd, chain, serial};
+use nf_core::{ChainFault, ItemRules, Stop, TaskRules, TasksEnd, chain, serial};
 use nf_job::{Emitted, FileRefs, Job, JobParts, Outputs, Report, TaskRefusal, Txts, make_job};
 use nf_lane::{Lane, Table, TableLane};
 use nf_value::{EvalFault, EvalKind, EvalRefusal, Mem, Place, Vals, Value, text_of, truth};
@@ -20,7 +20,7 @@ struct Listed {
     fault: EvalFault,
 }
 
-impl Rules for Listed {
+impl ItemRules for Listed {
     ghost gives = { λ r v. if truth_of v then Ok (list (item v no_items)) else Err r.fault };
 
     ghost keeps = { λ r. Unit {0} };

@@ -14,7 +14,7 @@ use Rattle.nf_eval.proofs.Chaining.{prefixes_value, operands_value, chain_refuse
 use Rattle.nf_eval.proofs.Evaluating.{refused, fault_first, value_first, same, refused_at}
 use Rattle.nf_eval.proofs.Turning.{steps_refused, steps_fault}
 use Rattle.nf_eval.proofs.Reached.{comes_refused}
-use Rattle.nf_ast.specs.declared.expr.Piece.{Piece, the_lemmas as piece_lemmas}
+use Rattle.nf_ast.specs.declared.expr.Fragment.{Fragment, the_lemmas as piece_lemmas}
 use Rattle.nf_infix.specs.Template.{IsWritten, hole_text}
 use Rattle.nf_eval.proofs.Lefts.{left_here, none_left}
 use Rattle.nf_eval.proofs.Writing.{writes_on}
@@ -34,7 +34,7 @@ use Rattle.nf_infix.specs.Read.{index}
 use Rattle.std.proofs.lemmas.List.{length-map}
 use Rattle.nf_placed.specs.Calls.{called, images_of, plain, block, method, math, over_items, function, by_function}
 use Rattle.nf_eval.proofs.Passing.{as_many, passed_refused, alone, no_values, one_more, none_before}
-use Rattle.nf_ast.specs.declared.expr.Closure.{the_lemmas as closure_lemmas}
+use Rattle.nf_ast.specs.declared.expr.ClosureExpr.{the_lemmas as closure_lemmas}
 use Rattle.nf_value.specs.declared.value.Value.{Value}
 use Rattle.nf_ast.specs.declared.expr.Arg.{Arg, the_lemmas as arg_lemmas}
 use Rattle.nf_eval.specs.Gives.{Collects, IsPassed, Flows, Takes}
@@ -152,7 +152,7 @@ values::text-loop-piece-preserved g t0 c =
     let left : drop k pieces ≡ x ∷ drop (k + 1) pieces = left_here pieces k (k + 1) x c.loop-piece-test.true c.piece-item.is next in
     let so = c.loop-piece.invariant in
     let all = (meaning_of (trees (map view_piece pieces))).text env in
-    let here : ((meaning_of (trees (map view_piece (x ∷ drop (k + 1) pieces)))).text env >>= λ u. Ok (so.0 ++ u)) ≡ all = sym (ap (λ (l : List Piece). (meaning_of (trees (map view_piece l))).text env >>= λ u. Ok (so.0 ++ u)) left) ∙ so.2 in
+    let here : ((meaning_of (trees (map view_piece (x ∷ drop (k + 1) pieces)))).text env >>= λ u. Ok (so.0 ++ u)) ≡ all = sym (ap (λ (l : List Fragment). (meaning_of (trees (map view_piece l))).text env >>= λ u. Ok (so.0 ++ u)) left) ∙ so.2 in
     elim c.match-piece.branch [
       | values::text-in-Plain+in_ok-push-in-Plain w ↦ (
           let s = w.as_str.result.now in

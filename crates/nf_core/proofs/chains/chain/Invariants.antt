@@ -6,5 +6,5 @@ use Rattle.nf_core.proofs.chains.chain.Given as goal
 
 abbrev pub invariant-loop-item : goal.invariant-loop-item
 invariant-loop-item g l =
-    let gives = g.R.Rules.gives l.rules in
+    let gives = g.R.ItemRules.gives l.rules in
     ahead (map plain_of l.out.items) (images gives (map plain_of (drop l.item-index l.item-items))) ≡ images gives (map plain_of l.item-items)
