@@ -43,12 +43,12 @@ fn one_argument(alloc: Global, item: &Value) -> Result<Vals, Mem>
 
 /// The jobs of a process's instances, and what their reports amount to.
 #[derive(Clone, Copy)]
-pub struct ProcessRules<'a> {
+pub struct SpecRules<'a> {
     /// The process.
     pub spec: &'a ProcessSpec,
 }
 
-impl TaskRules for ProcessRules<'_> {
+impl TaskRules for SpecRules<'_> {
     ghost rules = { λ r. process_rules r.spec.now };
 
     fn job(&self, alloc: Global, inputs: &Vals, n: u32, attempt: u32) -> Result<Job, TaskRefusal> {

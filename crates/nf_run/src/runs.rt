@@ -8,7 +8,7 @@ ghost use Rattle.nf_forms.specs.View.{view_plan};
 ghost use Rattle.nf_core.specs.Machine.{starts as starts_of};
 ghost use Rattle.nf_run.specs.Run.{AreBooked, fault_of_chain, IsFaultBy, IsHistoryOf, NoneFell, OneRose, OnLane, RunGives};
 
-use crate::rules::{ClosureRules, ProcessRules};
+use crate::rules::{ClosureRules, SpecRules};
 use nf_builtins::Natives;
 use nf_core::{ChainFault, Event, Stop, TasksEnd, serial};
 use nf_eval::Closure;
@@ -142,7 +142,7 @@ fn run_tasks<L: Lane>(alloc: Global, spec: &ProcessSpec, items: &Vals, lanes: &m
     ensures lane_fault { IfErr result.outcome (λ e. OnLane e (OneRose L.faults lanes.old.items lanes.new.items)) }
     ensures later { NoneFell L.faults lanes.old.items lanes.new.items }
 {
-    let rules = ProcessRules { spec };
+    let rules = SpecRules { spec };
     let end = serial(alloc, items, &rules, &mut lanes[0]);
     let TasksEnd {
         history,
