@@ -8,8 +8,8 @@ use Rattle.nf_token.specs.declared.token.TemplateKind.{TemplateKind}
 use Rattle.nf_token.specs.declared.token.Token.{Token}
 use Rattle.nf_token.specs.declared.token.Token.TheVariants as t
 use Rattle.nf_token.specs.declared.token.Lexeme.{Lexeme}
-use Rattle.nf_ast.specs.declared.marks.InfixMark.{InfixMark}
-use Rattle.nf_ast.specs.declared.marks.PrefixMark.{PrefixMark}
+use Rattle.nf_ast.specs.declared.marks.InfixOperator.{InfixOperator}
+use Rattle.nf_ast.specs.declared.marks.PrefixOperator.{PrefixOperator}
 use Rattle.nf_ast.specs.Tree as tree
 use Rattle.nf_ast.specs.Tree.{Tree, empty, cons}
 use Rattle.nf_grammar.specs.Gram.{token}
@@ -81,14 +81,14 @@ text_made (t.TemplateText s) p v e f = by_some IsText e (a_text f)
 text_made _ p v e f = absurd cc
 
 pub data Waits : Tree → Type 0 where
-  waits_both : {p : Place} {x : InfixMark} → Waits (tree.binary p x empty empty)
+  waits_both : {p : Place} {x : InfixOperator} → Waits (tree.binary p x empty empty)
 
-waiting : (p : Place) (x : Option InfixMark) (v : Tree) → waits p x ≡ Some v → Waits v
+waiting : (p : Place) (x : Option InfixOperator) (v : Tree) → waits p x ≡ Some v → Waits v
 waiting p (Some x) v e = by_some Waits e (waits_both)
 waiting p None v e = absurd cc
 
 pub data Precedes : Tree → Type 0 where
-  precedes : {p : Place} {x : PrefixMark} → Precedes (tree.prefix p x empty)
+  precedes : {p : Place} {x : PrefixOperator} → Precedes (tree.prefix p x empty)
 
 preceding : (x : Token) (p : Place) (v : Tree) → prefix_mark_at x p ≡ Some v → Precedes v
 preceding (t.Mark m.Not) p v e = by_some Precedes e (precedes)

@@ -6,10 +6,10 @@ use Rattle.nf_token.specs.declared.token.Keyword.TheVariants as k
 use Rattle.nf_token.specs.declared.token.Mark.{Mark}
 use Rattle.nf_token.specs.declared.token.Mark.TheVariants as m
 use Rattle.nf_lexer.specs.declared.open.Open.{Open}
-use Rattle.nf_ast.specs.declared.marks.InfixMark.{InfixMark}
-use Rattle.nf_ast.specs.declared.marks.InfixMark.TheVariants as i
-use Rattle.nf_ast.specs.declared.marks.PrefixMark.{PrefixMark}
-use Rattle.nf_ast.specs.declared.marks.PrefixMark.TheVariants as f
+use Rattle.nf_ast.specs.declared.marks.InfixOperator.{InfixOperator}
+use Rattle.nf_ast.specs.declared.marks.InfixOperator.TheVariants as i
+use Rattle.nf_ast.specs.declared.marks.PrefixOperator.{PrefixOperator}
+use Rattle.nf_ast.specs.declared.marks.PrefixOperator.TheVariants as f
 use Rattle.nf_ast.specs.Tree as tree
 use Rattle.nf_ast.specs.Tree.{Tree}
 use Rattle.nf_printer.specs.Ink as ink
@@ -39,7 +39,7 @@ spaced_mark x h e = spaced_reads (mark x) (λ rest. ap not e) (mark_reads x h)
 pub spaced_keyword : {l : Layout} (x : Keyword) → Reads (Stand l) Any (spaced (keyword x))
 spaced_keyword x = spaced_reads (keyword x) (λ rest. refl) (keyword_reads x)
 
-infix_reads : {l : Layout} (x : InfixMark) → Reads (Stand l) Any (infix_inks x)
+infix_reads : {l : Layout} (x : InfixOperator) → Reads (Stand l) Any (infix_inks x)
 infix_reads i.Or = spaced_mark m.Or refl refl
 infix_reads i.And = spaced_mark m.And refl refl
 infix_reads i.Pipe = spaced_mark m.Pipe refl refl
@@ -57,22 +57,22 @@ infix_reads i.Minus = spaced_mark m.Minus refl refl
 infix_reads i.Times = spaced_mark m.Times refl refl
 infix_reads i.Remainder = spaced_mark m.Percent refl refl
 
-infix_begins : (x : InfixMark) (rest : List ℕ) → Apart (inked (infix_inks x) ++ rest)
+infix_begins : (x : InfixOperator) (rest : List ℕ) → Apart (inked (infix_inks x) ++ rest)
 infix_begins i.Range rest = refl
 infix_begins _ rest = refl
 
-pub infix_fronts : (x : InfixMark) → Fronts (infix_inks x)
+pub infix_fronts : (x : InfixOperator) → Fronts (infix_inks x)
 infix_fronts x = record { fronts = λ rest. apart_starts (inked (infix_inks x) ++ rest) (infix_begins x rest) }
 
-pub operator_reads : {l : Layout} {xs ys : List Ink} (x : InfixMark) → Reads (Stand l) Apart xs → Reads (Stand l) Apart ys → Reads (Stand l) Apart (xs ++ infix_inks x ++ ys)
+pub operator_reads : {l : Layout} {xs ys : List Ink} (x : InfixOperator) → Reads (Stand l) Apart xs → Reads (Stand l) Apart ys → Reads (Stand l) Apart (xs ++ infix_inks x ++ ys)
 operator_reads {l} {xs} {ys} x a b = after (on (λ rest r. infix_begins x rest) a (infix_reads x)) b
 
 -- an operand after the mark before it
-pub prefixed_reads : {l : Layout} {xs : List Ink} (x : PrefixMark) → Starts xs → Reads (Stand l) Apart xs → Reads (Stand l) Apart (prefix_ink x ∷ xs)
+pub prefixed_reads : {l : Layout} {xs : List Ink} (x : PrefixOperator) → Starts xs → Reads (Stand l) Apart xs → Reads (Stand l) Apart (prefix_ink x ∷ xs)
 prefixed_reads {l} {xs} f.Not h a = on (λ rest r. starts_not (inked xs ++ rest) (h.starts rest (apart_starts rest r))) (mark_reads m.Not refl) a
 prefixed_reads {l} {xs} f.Minus h a = on (λ rest r. starts_minus (inked xs ++ rest) (h.starts rest (apart_starts rest r))) (mark_reads m.Minus refl) a
 
-pub prefix_starts : (x : PrefixMark) (xs : List Ink) → Starts (prefix_ink x ∷ xs)
+pub prefix_starts : (x : PrefixOperator) (xs : List Ink) → Starts (prefix_ink x ∷ xs)
 prefix_starts f.Not xs = record { starts = λ rest a. refl }
 prefix_starts f.Minus xs = record { starts = λ rest a. refl }
 

@@ -6,10 +6,10 @@ use Rattle.nf_token.specs.declared.token.Mark.TheVariants as m
 use Rattle.nf_token.specs.declared.token.Token.{Token}
 use Rattle.nf_token.specs.declared.token.Token.TheVariants as t
 use Rattle.nf_token.specs.declared.token.Lexeme.{Lexeme}
-use Rattle.nf_ast.specs.declared.marks.InfixMark.{InfixMark}
-use Rattle.nf_ast.specs.declared.marks.InfixMark.TheVariants as i
-use Rattle.nf_ast.specs.declared.marks.PrefixMark.{PrefixMark}
-use Rattle.nf_ast.specs.declared.marks.PrefixMark.TheVariants as f
+use Rattle.nf_ast.specs.declared.marks.InfixOperator.{InfixOperator}
+use Rattle.nf_ast.specs.declared.marks.InfixOperator.TheVariants as i
+use Rattle.nf_ast.specs.declared.marks.PrefixOperator.{PrefixOperator}
+use Rattle.nf_ast.specs.declared.marks.PrefixOperator.TheVariants as f
 use Rattle.nf_ast.specs.Tree as tree
 use Rattle.nf_ast.specs.Tree.{Tree}
 use Rattle.nf_exprs.specs.Tokens.{starts, labels, params_from, no_params, is_next, colon}
@@ -37,7 +37,7 @@ pub data Other : Token → Type 0 where
 
 -- a token with which an expression goes on after a name
 pub data Inner : Token → Type 0 where
-  an_infix : (x : InfixMark) → Inner (infix_token x)
+  an_infix : (x : InfixOperator) → Inner (infix_token x)
   a_question : Inner (t.Mark m.Question)
   an_elvis : Inner (t.Mark m.Elvis)
   a_dot : Inner (t.Mark m.Dot)
@@ -57,7 +57,7 @@ goes_on h (by_other x) = by_other x
 goes_on h by_word = by_more h
 goes_on h (by_more x) = by_more x
 
-prefix_front : (x : PrefixMark) (tl us : List Lexeme) → Front tl (lx (prefix_token x) ∷ us)
+prefix_front : (x : PrefixOperator) (tl us : List Lexeme) → Front tl (lx (prefix_token x) ∷ us)
 prefix_front f.Not tl us = by_other a_not
 prefix_front f.Minus tl us = by_other a_minus
 

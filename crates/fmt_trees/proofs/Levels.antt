@@ -5,8 +5,8 @@ use Rattle.nf_token.specs.declared.token.Lexeme.{Lexeme}
 use Rattle.nf_grammar.specs.Gram.{gives, many, rule}
 use Rattle.nf_grammar.specs.Parts.{no_next}
 use Rattle.nf_grammar.specs.Reads.{Reads, reads_token, reads_gives, reads_bind, reads_left, reads_right, reads_where, reads_end, reads_more, reads_rule}
-use Rattle.nf_ast.specs.declared.marks.InfixMark.{InfixMark}
-use Rattle.nf_ast.specs.declared.marks.InfixMark.TheVariants as i
+use Rattle.nf_ast.specs.declared.marks.InfixOperator.{InfixOperator}
+use Rattle.nf_ast.specs.declared.marks.InfixOperator.TheVariants as i
 use Rattle.nf_ast.specs.Tree.{Tree, binary}
 use Rattle.nf_exprs.specs.declared.band.Band.TheVariants as band
 use Rattle.nf_exprs.specs.Level.{Gram, Expr, Operands, Pre, Post, Prim}
@@ -188,7 +188,7 @@ chain_ends (suc (suc (suc (suc (suc (suc (suc (suc (suc (suc (suc m))))))))))) d
 
 -- ---- marks between operands
 
-pub mark_ends : (x : InfixMark) (us : List Lexeme) → ends (suc (mark_level x)) (lx (infix_token x) ∷ us) ≡ true
+pub mark_ends : (x : InfixOperator) (us : List Lexeme) → ends (suc (mark_level x)) (lx (infix_token x) ∷ us) ≡ true
 mark_ends i.Or us = refl
 mark_ends i.And us = refl
 mark_ends i.Pipe us = refl
@@ -206,7 +206,7 @@ mark_ends i.Minus us = refl
 mark_ends i.Times us = refl
 mark_ends i.Remainder us = refl
 
-pub mark_more : (x : InfixMark) (d : ℕ) (us rest r : List Lexeme) (a b v : Tree) → is_chain (mark_level x) ≡ true → Reading (suc (mark_level x)) d us b rest → Chained (mark_level x) d (binary nowhere x a b) rest v r → Chained (mark_level x) d a (lx (infix_token x) ∷ us) v r
+pub mark_more : (x : InfixOperator) (d : ℕ) (us rest r : List Lexeme) (a b v : Tree) → is_chain (mark_level x) ≡ true → Reading (suc (mark_level x)) d us b rest → Chained (mark_level x) d (binary nowhere x a b) rest v r → Chained (mark_level x) d a (lx (infix_token x) ∷ us) v r
 mark_more i.Or d us rest r a b v e p q n = reads_more (reads_bind (reads_token refl) (reads_bind (p 0) reads_gives)) (q (suc n))
 mark_more i.And d us rest r a b v e p q n = reads_more (reads_bind (reads_token refl) (reads_bind (p 0) reads_gives)) (q (suc n))
 mark_more i.Pipe d us rest r a b v e p q n = reads_more (reads_bind (reads_token refl) (reads_bind (p 0) reads_gives)) (q (suc n))
@@ -224,7 +224,7 @@ mark_more i.Minus d us rest r a b v e p q n = reads_more (reads_bind (reads_toke
 mark_more i.Times d us rest r a b v e p q n = reads_more (reads_bind (reads_token refl) (reads_bind (p 0) reads_gives)) (q (suc n))
 mark_more i.Remainder d us rest r a b v e p q n = reads_more (reads_bind (reads_token refl) (reads_bind (p 0) reads_gives)) (q (suc n))
 
-pub mark_once : (x : InfixMark) (d : ℕ) (ts us rest : List Lexeme) (a b : Tree) → is_chain (mark_level x) ≡ false → Reading (suc (mark_level x)) d ts a (lx (infix_token x) ∷ us) → Reading (suc (mark_level x)) d us b rest → Reading (mark_level x) d ts (binary nowhere x a b) rest
+pub mark_once : (x : InfixOperator) (d : ℕ) (ts us rest : List Lexeme) (a b : Tree) → is_chain (mark_level x) ≡ false → Reading (suc (mark_level x)) d ts a (lx (infix_token x) ∷ us) → Reading (suc (mark_level x)) d us b rest → Reading (mark_level x) d ts (binary nowhere x a b) rest
 unfolding rules
 mark_once i.Or d ts us rest a b e p q n = absurd (let f : true ≡ false = e in cc)
 mark_once i.And d ts us rest a b e p q n = absurd (let f : true ≡ false = e in cc)

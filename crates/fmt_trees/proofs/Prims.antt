@@ -6,10 +6,10 @@ use Rattle.nf_token.specs.declared.token.Mark.TheVariants as m
 use Rattle.nf_token.specs.declared.token.Lexeme.{Lexeme}
 use Rattle.nf_token.specs.declared.token.PlainKind.{PlainKind}
 use Rattle.nf_grammar.specs.Reads.{reads_token, reads_gives, reads_bind, reads_left, reads_right, reads_rule}
-use Rattle.nf_ast.specs.declared.marks.InfixMark.{InfixMark}
-use Rattle.nf_ast.specs.declared.marks.InfixMark.TheVariants as i
-use Rattle.nf_ast.specs.declared.marks.PrefixMark.{PrefixMark}
-use Rattle.nf_ast.specs.declared.marks.PrefixMark.TheVariants as f
+use Rattle.nf_ast.specs.declared.marks.InfixOperator.{InfixOperator}
+use Rattle.nf_ast.specs.declared.marks.InfixOperator.TheVariants as i
+use Rattle.nf_ast.specs.declared.marks.PrefixOperator.{PrefixOperator}
+use Rattle.nf_ast.specs.declared.marks.PrefixOperator.TheVariants as f
 use Rattle.nf_ast.specs.Tree as tree
 use Rattle.nf_ast.specs.Tree.{Tree}
 use Rattle.nf_exprs.specs.Rules.{rules}
@@ -65,15 +65,15 @@ null_read p = prim_open (tree.null p) (λ d l g rest k. reads_rule (reads_left (
 
 -- ---- marks before and between operands
 
-prefix_token_read : (x : PrefixMark) (p : Place) (e : Tree) → IsRead e → Closed 9 (tree.prefix p x e)
+prefix_token_read : (x : PrefixOperator) (p : Place) (e : Tree) → IsRead e → Closed 9 (tree.prefix p x e)
 unfolding rules
 prefix_token_read f.Not p e h d l g rest q n = reads_rule (reads_left (reads_bind (reads_token refl) (reads_bind (held_at 9 e (omega arith) h d l false rest q (suc n)) reads_gives)))
 prefix_token_read f.Minus p e h d l g rest q n = reads_rule (reads_left (reads_bind (reads_token refl) (reads_bind (held_at 9 e (omega arith) h d l false rest q (suc n)) reads_gives)))
 
-pub prefix_read : (p : Place) (x : PrefixMark) (e : Tree) → IsRead e → IsRead (tree.prefix p x e)
+pub prefix_read : (p : Place) (x : PrefixOperator) (e : Tree) → IsRead e → IsRead (tree.prefix p x e)
 prefix_read p x e h = prefix_token_read x p e h
 
-left_chain : (x : InfixMark) → is_chain (mark_level x) ≡ true → left_level x ≡ mark_level x
+left_chain : (x : InfixOperator) → is_chain (mark_level x) ≡ true → left_level x ≡ mark_level x
 left_chain i.Or h = refl
 left_chain i.And h = refl
 left_chain i.Pipe h = refl
@@ -83,7 +83,7 @@ left_chain i.Times h = refl
 left_chain i.Remainder h = refl
 left_chain _ h = absurd (let f : false ≡ true = h in cc)
 
-left_once : (x : InfixMark) → is_chain (mark_level x) ≡ false → left_level x ≡ suc (mark_level x)
+left_once : (x : InfixOperator) → is_chain (mark_level x) ≡ false → left_level x ≡ suc (mark_level x)
 left_once i.Same h = refl
 left_once i.Differs h = refl
 left_once i.Matches h = refl
@@ -95,7 +95,7 @@ left_once i.In h = refl
 left_once i.Range h = refl
 left_once _ h = absurd (let f : true ≡ false = h in cc)
 
-low_mark : (x : InfixMark) → mark_level x ≤ 8
+low_mark : (x : InfixOperator) → mark_level x ≤ 8
 low_mark i.Or = omega arith
 low_mark i.And = omega arith
 low_mark i.Pipe = omega arith
@@ -113,7 +113,7 @@ low_mark i.Minus = omega arith
 low_mark i.Times = omega arith
 low_mark i.Remainder = omega arith
 
-binary_by : (c : Bool) (p : Place) (x : InfixMark) (a b : Tree) → is_chain (mark_level x) ≡ c → IsRead a → IsRead b → Own c (mark_level x) (tree.binary p x a b)
+binary_by : (c : Bool) (p : Place) (x : InfixOperator) (a b : Tree) → is_chain (mark_level x) ≡ c → IsRead a → IsRead b → Own c (mark_level x) (tree.binary p x a b)
 binary_by true p x a b i h k = λ d l g rest r v q y.
     let after : List Lexeme = held (needs (suc (mark_level x)) b) (spell b l false) rest in
     subst (λ n. Reading (mark_level x) d (held (needs n a) (spell a l (g && not (needs n a))) (lx (infix_token x) ∷ after)) v r) (sym (left_chain x i))
@@ -126,7 +126,7 @@ binary_by false p x a b i h k = λ d l g rest q.
     (held_at (suc (mark_level x)) a (omega (arith, low_mark x)) h d l (g && not (needs (suc (mark_level x)) a)) (lx (infix_token x) ∷ after) (mark_ends x after))
     (held_at (suc (mark_level x)) b (omega (arith, low_mark x)) k d l false rest (weaker (mark_level x) rest q)))
 
-pub binary_read : (p : Place) (x : InfixMark) (a b : Tree) → IsRead a → IsRead b → IsRead (tree.binary p x a b)
+pub binary_read : (p : Place) (x : InfixOperator) (a b : Tree) → IsRead a → IsRead b → IsRead (tree.binary p x a b)
 binary_read p x a b = binary_by (is_chain (mark_level x)) p x a b refl
 
 -- ---- conditions

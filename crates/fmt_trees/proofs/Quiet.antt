@@ -4,10 +4,10 @@ use Rattle.std.specs.Prelude.{not, ◌&&◌, ◌||◌, codes, bytes_eq, if◌the
 use Rattle.nf_token.specs.declared.token.Mark.TheVariants as m
 use Rattle.nf_token.specs.declared.token.Lexeme.{Lexeme}
 use Rattle.nf_grammar.specs.Parts.{none_of}
-use Rattle.nf_ast.specs.declared.marks.InfixMark.{InfixMark}
-use Rattle.nf_ast.specs.declared.marks.InfixMark.TheVariants as i
-use Rattle.nf_ast.specs.declared.marks.PrefixMark.{PrefixMark}
-use Rattle.nf_ast.specs.declared.marks.PrefixMark.TheVariants as f
+use Rattle.nf_ast.specs.declared.marks.InfixOperator.{InfixOperator}
+use Rattle.nf_ast.specs.declared.marks.InfixOperator.TheVariants as i
+use Rattle.nf_ast.specs.declared.marks.PrefixOperator.{PrefixOperator}
+use Rattle.nf_ast.specs.declared.marks.PrefixOperator.TheVariants as f
 use Rattle.nf_value.specs.declared.place.Place.{Place}
 use Rattle.nf_ast.specs.Tree as tree
 use Rattle.nf_ast.specs.Tree.{Tree}
@@ -47,7 +47,7 @@ held_other : (b : Bool) (a : Tree) (l : Layout) (us : List Lexeme) → ((tl : Li
 held_other true a l us h = other_first a_round
 held_other false a l us h = h us
 
-prefix_other : (x : PrefixMark) (us : List Lexeme) → OtherFirst (lx (prefix_token x) ∷ us)
+prefix_other : (x : PrefixOperator) (us : List Lexeme) → OtherFirst (lx (prefix_token x) ∷ us)
 prefix_other f.Not us = other_first a_not
 prefix_other f.Minus us = other_first a_minus
 
@@ -110,7 +110,7 @@ held_quiet : (b : Bool) (h : List Lexeme → List Lexeme) (q : Bool) (us : List 
 held_quiet true h q us e f = refl
 held_quiet false h q us e f = f e
 
-mark_starts : (x : InfixMark) (us : List Lexeme) → starts (lx (infix_token x) ∷ us) ≡ is_minus x
+mark_starts : (x : InfixOperator) (us : List Lexeme) → starts (lx (infix_token x) ∷ us) ≡ is_minus x
 mark_starts i.Or us = refl
 mark_starts i.And us = refl
 mark_starts i.Pipe us = refl
@@ -128,7 +128,7 @@ mark_starts i.Minus us = refl
 mark_starts i.Times us = refl
 mark_starts i.Remainder us = refl
 
-mark_no_dot : (x : InfixMark) (us : List Lexeme) → is_next (mark_of m.Dot) (lx (infix_token x) ∷ us) ≡ false
+mark_no_dot : (x : InfixOperator) (us : List Lexeme) → is_next (mark_of m.Dot) (lx (infix_token x) ∷ us) ≡ false
 mark_no_dot i.Or us = refl
 mark_no_dot i.And us = refl
 mark_no_dot i.Pipe us = refl

@@ -9,8 +9,8 @@ use Rattle.nf_token.specs.declared.token.TemplateKind.{TemplateKind}
 use Rattle.nf_grammar.specs.Gram.{rule, many}
 use Rattle.nf_grammar.specs.Parts.{no_next}
 use Rattle.nf_grammar.specs.Reads.{Reads, reads_token, reads_gives, reads_bind, reads_left, reads_right, reads_where, reads_end, reads_more, reads_rule}
-use Rattle.nf_ast.specs.declared.marks.PrefixMark.{PrefixMark}
-use Rattle.nf_ast.specs.declared.marks.PrefixMark.TheVariants as f
+use Rattle.nf_ast.specs.declared.marks.PrefixOperator.{PrefixOperator}
+use Rattle.nf_ast.specs.declared.marks.PrefixOperator.TheVariants as f
 use Rattle.nf_ast.specs.Tree as tree
 use Rattle.nf_ast.specs.Tree.{Tree, empty, cons, snoc}
 use Rattle.nf_exprs.specs.Level.{Body, Arg, Directive, Input, Output, Task, Gram}
@@ -75,7 +75,7 @@ held_round : (b c : Bool) (h : List Lexeme → List Lexeme) (us : List Lexeme) �
 held_round true c h us e k = absurd (let g : true ≡ false = e in cc)
 held_round false c h us e k = k e
 
-prefix_no_round : (x : PrefixMark) (us : List Lexeme) → no_next (mark_of m.OpenRound) (lx (prefix_token x) ∷ us) ≡ true
+prefix_no_round : (x : PrefixOperator) (us : List Lexeme) → no_next (mark_of m.OpenRound) (lx (prefix_token x) ∷ us) ≡ true
 prefix_no_round f.Not us = refl
 prefix_no_round f.Minus us = refl
 

@@ -7,10 +7,10 @@ use Rattle.nf_token.specs.declared.token.Mark.TheVariants as m
 use Rattle.nf_token.specs.declared.token.Token.{Token}
 use Rattle.nf_token.specs.declared.token.Token.TheVariants as t
 use Rattle.nf_token.specs.declared.token.Lexeme.{Lexeme}
-use Rattle.nf_ast.specs.declared.marks.InfixMark.{InfixMark}
-use Rattle.nf_ast.specs.declared.marks.InfixMark.TheVariants as i
-use Rattle.nf_ast.specs.declared.marks.PrefixMark.{PrefixMark}
-use Rattle.nf_ast.specs.declared.marks.PrefixMark.TheVariants as f
+use Rattle.nf_ast.specs.declared.marks.InfixOperator.{InfixOperator}
+use Rattle.nf_ast.specs.declared.marks.InfixOperator.TheVariants as i
+use Rattle.nf_ast.specs.declared.marks.PrefixOperator.{PrefixOperator}
+use Rattle.nf_ast.specs.declared.marks.PrefixOperator.TheVariants as f
 use Rattle.nf_ast.specs.Tree as tree
 use Rattle.nf_ast.specs.Tree.{Tree}
 use Rattle.nf_printer.specs.Levels.{left_level, right_level, prefix_level, postfix_level, needs, prints}
@@ -30,7 +30,7 @@ word s tl = lx (t.Name s) ∷ tl
 abbrev pub separator : List Lexeme → List Lexeme
 separator tl = lx t.Separator ∷ tl
 
-abbrev pub infix_token : InfixMark → Token
+abbrev pub infix_token : InfixOperator → Token
 infix_token i.Or = t.Mark m.Or
 infix_token i.And = t.Mark m.And
 infix_token i.Pipe = t.Mark m.Pipe
@@ -48,7 +48,7 @@ infix_token i.Minus = t.Mark m.Minus
 infix_token i.Times = t.Mark m.Times
 infix_token i.Remainder = t.Mark m.Percent
 
-abbrev pub prefix_token : PrefixMark → Token
+abbrev pub prefix_token : PrefixOperator → Token
 prefix_token f.Not = t.Mark m.Not
 prefix_token f.Minus = t.Mark m.Minus
 

@@ -8,10 +8,10 @@ use Rattle.nf_token.specs.declared.token.Mark.TheVariants as m
 use Rattle.nf_token.specs.declared.token.Token.TheVariants as t
 use Rattle.nf_token.specs.declared.token.Lexeme.{Lexeme}
 use Rattle.nf_token.specs.declared.token.TemplateKind.{TemplateKind}
-use Rattle.nf_ast.specs.declared.marks.InfixMark.{InfixMark}
-use Rattle.nf_ast.specs.declared.marks.InfixMark.TheVariants as i
-use Rattle.nf_ast.specs.declared.marks.PrefixMark.{PrefixMark}
-use Rattle.nf_ast.specs.declared.marks.PrefixMark.TheVariants as f
+use Rattle.nf_ast.specs.declared.marks.InfixOperator.{InfixOperator}
+use Rattle.nf_ast.specs.declared.marks.InfixOperator.TheVariants as i
+use Rattle.nf_ast.specs.declared.marks.PrefixOperator.{PrefixOperator}
+use Rattle.nf_ast.specs.declared.marks.PrefixOperator.TheVariants as f
 use Rattle.nf_ast.specs.Tree as tree
 use Rattle.nf_ast.specs.Tree.{Tree, empty, cons}
 use Rattle.nf_printer.specs.Ink as ink
@@ -47,7 +47,7 @@ pub record PartSays (x : Tree) : Type 0 where
 
 -- ---- marks
 
-infix_told : (x : InfixMark) {rest : List Bit} {w : List Lexeme} → Any rest w → After (told (infix_inks x) rest) (lx (infix_token x) ∷ w)
+infix_told : (x : InfixOperator) {rest : List Bit} {w : List Lexeme} → Any rest w → After (told (infix_inks x) rest) (lx (infix_token x) ∷ w)
 infix_told i.Or h = after_any (any_mark m.Or h)
 infix_told i.And h = after_any (any_mark m.And h)
 infix_told i.Pipe h = after_any (any_mark m.Pipe h)
@@ -85,11 +85,11 @@ pub truth_says : (p : Place) (b : Bool) → Says (tree.truth p b)
 truth_says p true l g rest w h = any_token (t.Keyword k.True) refl refl h
 truth_says p false l g rest w h = any_token (t.Keyword k.False) refl refl h
 
-pub prefix_says : (p : Place) (x : PrefixMark) (e : Tree) → Says e → Says (tree.prefix p x e)
+pub prefix_says : (p : Place) (x : PrefixOperator) (e : Tree) → Says e → Says (tree.prefix p x e)
 prefix_says p f.Not e s l g rest w h = any_mark m.Not (held_told (needs 9 e) (inks e l false) (spell e l false) rest w (s l false) h)
 prefix_says p f.Minus e s l g rest w h = any_mark m.Minus (held_told (needs 9 e) (inks e l false) (spell e l false) rest w (s l false) h)
 
-pub binary_says : (p : Place) (x : InfixMark) (a b : Tree) → Says a → Says b → Says (tree.binary p x a b)
+pub binary_says : (p : Place) (x : InfixOperator) (a b : Tree) → Says a → Says b → Says (tree.binary p x a b)
 binary_says p x a b s u l g rest w h =
     let na : Bool = needs (left_level x) a in
     let nb : Bool = needs (right_level x) b in

@@ -3,8 +3,8 @@ use Rattle.std.specs.Prelude.{ℕ, ℤ, Bool, List, ◌∷◌}
 use Rattle.nf_value.specs.declared.place.Place.{Place}
 use Rattle.nf_token.specs.declared.token.PlainKind.{PlainKind}
 use Rattle.nf_token.specs.declared.token.TemplateKind.{TemplateKind}
-use Rattle.nf_ast.specs.declared.marks.InfixMark.{InfixMark}
-use Rattle.nf_ast.specs.declared.marks.PrefixMark.{PrefixMark}
+use Rattle.nf_ast.specs.declared.marks.InfixOperator.{InfixOperator}
+use Rattle.nf_ast.specs.declared.marks.PrefixOperator.{PrefixOperator}
 use Rattle.nf_ast.specs.Tree as tree
 use Rattle.nf_ast.specs.Tree.{Tree, empty, cons, name}
 
@@ -34,8 +34,8 @@ pub data Shaped : Sort → Tree → Type 0 where
   list : {p : Place} {xs : Tree} → Shaped (row expr) xs → Shaped expr (tree.list p xs)
   map : {p : Place} {xs : Tree} → Shaped (row pair) xs → Shaped expr (tree.map p xs)
   function : {x : Tree} → Shaped closure x → Shaped expr x
-  prefixed : {p : Place} {x : PrefixMark} {e : Tree} → Shaped expr e → Shaped expr (tree.prefix p x e)
-  binary : {p : Place} {x : InfixMark} {a b : Tree} → Shaped expr a → Shaped expr b → Shaped expr (tree.binary p x a b)
+  prefixed : {p : Place} {x : PrefixOperator} {e : Tree} → Shaped expr e → Shaped expr (tree.prefix p x e)
+  binary : {p : Place} {x : InfixOperator} {a b : Tree} → Shaped expr a → Shaped expr b → Shaped expr (tree.binary p x a b)
   conditional : {p : Place} {c a b : Tree} → Shaped expr c → Shaped expr a → Shaped expr b → Shaped expr (tree.conditional p c a b)
   elvis : {p : Place} {a b : Tree} → Shaped expr a → Shaped expr b → Shaped expr (tree.elvis p a b)
   property : {e n : Tree} → Shaped expr e → Shaped a_name n → Shaped expr (tree.property e n)

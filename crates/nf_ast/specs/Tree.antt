@@ -1,8 +1,8 @@
 -- What a script is, apart from where it lies in memory.
 use Rattle.std.specs.Prelude.{ℤ, ℕ, Bool, List}
 use Rattle.nf_value.specs.declared.place.Place.{Place}
-use Rattle.nf_ast.specs.declared.marks.InfixMark.{InfixMark}
-use Rattle.nf_ast.specs.declared.marks.PrefixMark.{PrefixMark}
+use Rattle.nf_ast.specs.declared.marks.InfixOperator.{InfixOperator}
+use Rattle.nf_ast.specs.declared.marks.PrefixOperator.{PrefixOperator}
 use Rattle.nf_token.specs.declared.token.PlainKind.{PlainKind}
 use Rattle.nf_token.specs.declared.token.TemplateKind.{TemplateKind}
 
@@ -33,8 +33,8 @@ pub data Tree : Type 0 where
   params : Tree → Tree
   label : Tree → Tree → Tree
   -- a mark that waits for its operand, or for both
-  prefix : Place → PrefixMark → Tree → Tree
-  binary : Place → InfixMark → Tree → Tree → Tree
+  prefix : Place → PrefixOperator → Tree → Tree
+  binary : Place → InfixOperator → Tree → Tree → Tree
   -- `c ? a : b`, and `a ?: b`
   conditional : Place → Tree → Tree → Tree → Tree
   elvis : Place → Tree → Tree → Tree

@@ -1,8 +1,8 @@
 -- The tree of what lies in memory.
 use Rattle.std.specs.Prelude.{ℕ, List, [], ◌∷◌, Option, Some, None, map, option_map}
 use Rattle.nf_value.specs.declared.place.Place.{Place}
-use Rattle.nf_ast.specs.declared.marks.BranchMark.{BranchMark}
-use Rattle.nf_ast.specs.declared.marks.BranchMark.TheVariants as branch
+use Rattle.nf_ast.specs.declared.marks.BranchOperator.{BranchOperator}
+use Rattle.nf_ast.specs.declared.marks.BranchOperator.TheVariants as branch
 use Rattle.nf_ast.specs.declared.expr.Prefix.{Prefix}
 use Rattle.nf_ast.specs.declared.expr.Key.{Key}
 use Rattle.nf_ast.specs.declared.expr.Key.TheVariants as key
@@ -86,14 +86,14 @@ turned q (asked p c ∷ fs) e = answered p c e ∷ fs
 turned q (answered p c a ∷ fs) e = turned q fs (tree.conditional p c a e)
 turned q (preferred p a ∷ fs) e = turned q fs (tree.elvis p a e)
 
-abbrev pub framed : Place → BranchMark → List Frame → Tree → List Frame
+abbrev pub framed : Place → BranchOperator → List Frame → Tree → List Frame
 framed p branch.Then fs e = asked p e ∷ fs
 framed p branch.Else fs e = turned p fs e
 framed p branch.Elvis fs e = preferred p e ∷ fs
 
 pub record BranchTree : Type 0 where
   pub place : Place
-  pub mark : BranchMark
+  pub mark : BranchOperator
   pub expr : Tree
 
 -- the operands with the marks between them, in the order of the text

@@ -14,7 +14,7 @@ pub use expr::{
     Arg, Arm, Branch, ClosureBody, ClosureExpr, Expr, Fragment, Key, Label, Operand, Pair, Postfix,
     Prefix, Stmt,
 };
-pub use marks::{BranchMark, InfixMark, PrefixMark};
+pub use marks::{BranchOperator, InfixOperator, PrefixOperator};
 pub use tops::{
     Directive, Emit, Emits, Function, Input, InputPart, Inputs, Output, OutputPart, OutputValue,
     Outputs, Parameter, Parts, Process, Script, Section, Take, Task, Top, Workflow, WorkflowBody,

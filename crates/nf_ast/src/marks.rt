@@ -2,7 +2,7 @@
 
 /// The mark between two operands (Nextflow reference documentation, "Syntax", "Binary expressions").
 #[derive(Debug, Clone, Copy, PartialEq, Eq)]
-pub enum InfixMark {
+pub enum InfixOperator {
     /// `||`
     Or,
     /// `&&`
@@ -39,7 +39,7 @@ pub enum InfixMark {
 
 /// A mark before an operand (Nextflow reference documentation, "Syntax", "Unary expressions").
 #[derive(Debug, Clone, Copy, PartialEq, Eq)]
-pub enum PrefixMark {
+pub enum PrefixOperator {
     /// `!`
     Not,
     /// `-`
@@ -48,7 +48,7 @@ pub enum PrefixMark {
 
 /// A mark of a conditional expression (Nextflow reference documentation, "Syntax", "Ternary expression").
 #[derive(Debug, Clone, Copy, PartialEq, Eq)]
-pub enum BranchMark {
+pub enum BranchOperator {
     /// `?`: what follows is what a true condition gives.
     Then,
     /// `:`: what follows is what a false condition gives.

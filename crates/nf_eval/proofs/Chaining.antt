@@ -11,8 +11,8 @@ use Rattle.nf_value.specs.declared.fault.EvalFault.{EvalFault}
 use Rattle.nf_value.specs.declared.fault.EvalRefusal.{EvalRefusal}
 use Rattle.nf_value.specs.declared.fault.EvalRefusal.TheVariants as refusal
 use Rattle.nf_value.specs.declared.fault.EvalKind.TheVariants.{WrongKind}
-use Rattle.nf_ast.specs.declared.marks.InfixMark.{InfixMark}
-use Rattle.nf_ast.specs.declared.marks.InfixMark.TheVariants as mark
+use Rattle.nf_ast.specs.declared.marks.InfixOperator.{InfixOperator}
+use Rattle.nf_ast.specs.declared.marks.InfixOperator.TheVariants as mark
 use Rattle.nf_ast.specs.declared.expr.Prefix.{Prefix}
 use Rattle.nf_ast.specs.declared.expr.Postfix.{Postfix}
 use Rattle.nf_ast.specs.declared.expr.ClosureBody.TheOpen as o
@@ -56,7 +56,7 @@ prefixes_value (x ∷ ms) e env = ap (λ (r : Placed Plain). r >>= λ v. made x.
 
 -- ---- operands
 
-binary_first : (p : Place) (k : InfixMark) (a : Env → Placed Plain) (re : Option (List ℕ)) (b : Env → Placed Plain) (env : Env) → binary p k a re b env ≡ (a env >>= λ v. binary p k (λ e. Ok v) re b env)
+binary_first : (p : Place) (k : InfixOperator) (a : Env → Placed Plain) (re : Option (List ℕ)) (b : Env → Placed Plain) (env : Env) → binary p k a re b env ≡ (a env >>= λ v. binary p k (λ e. Ok v) re b env)
 binary_first p mark.Or a re b env = refl
 binary_first p mark.And a re b env = refl
 binary_first p mark.Matches a (Some t) b env = refl

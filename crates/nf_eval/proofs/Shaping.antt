@@ -3,9 +3,9 @@ use Rattle.std.proofs.Common.{◌≡◌, ◌∙◌, Bool, true, false, List, [],
 use Rattle.std.specs.Prelude.{None, not}
 use Rattle.std.proofs.lemmas.Bool.{false≢true}
 use Rattle.nf_value.specs.declared.place.Place.{Place}
-use Rattle.nf_ast.specs.declared.marks.InfixMark.{InfixMark}
-use Rattle.nf_ast.specs.declared.marks.BranchMark.{BranchMark}
-use Rattle.nf_ast.specs.declared.marks.BranchMark.TheVariants as branch
+use Rattle.nf_ast.specs.declared.marks.InfixOperator.{InfixOperator}
+use Rattle.nf_ast.specs.declared.marks.BranchOperator.{BranchOperator}
+use Rattle.nf_ast.specs.declared.marks.BranchOperator.TheVariants as branch
 use Rattle.nf_ast.specs.declared.expr.Branch.{Branch}
 use Rattle.nf_ast.specs.declared.expr.Prefix.{Prefix}
 use Rattle.nf_ast.specs.declared.expr.Postfix.{Postfix}
@@ -39,7 +39,7 @@ pub record IsFlatChain (t : Tree) : Type 0 where
 prefixes_chain : (x : Prefix) (ms : List Prefix) (e : Tree) → IsFlatChain (prefixes (x ∷ ms) e)
 prefixes_chain x ms e = record { chain = record { no_closure = refl; plain_is = refl; no_pattern = refl }; flat = refl }
 
-of_operand : (P : Tree → Type 0) → ((p : Place) (x : InfixMark) (b : Tree) → P (tree.binary p x tree.empty b)) → (y : Operand) → P (view_operand y)
+of_operand : (P : Tree → Type 0) → ((p : Place) (x : InfixOperator) (b : Tree) → P (tree.binary p x tree.empty b)) → (y : Operand) → P (view_operand y)
 of_operand P h y =
     subst P (sym (fold_out-Operand Tree Tree Tree Tree Tree Tree ArmTree BranchTree Tree Tree Tree Tree body_step expr_step piece_step postfix_step stmt_step arg_step arm_step branch_step closure_step label_step operand_step pair_step y)) (h _ _ _)
 
@@ -69,7 +69,7 @@ some_turned P h q (asked p c ∷ fs) e = h _ _
 some_turned P h q (answered p c a ∷ fs) e = some_turned P h q fs (tree.conditional p c a e)
 some_turned P h q (preferred p a ∷ fs) e = some_turned P h q fs (tree.elvis p a e)
 
-by_mark : (P : BranchMark → Type 0) → P branch.Then → P branch.Elvis → P branch.Else → (k : BranchMark) → P k
+by_mark : (P : BranchOperator → Type 0) → P branch.Then → P branch.Elvis → P branch.Else → (k : BranchOperator) → P k
 by_mark P t e l branch.Then = t
 by_mark P t e l branch.Elvis = e
 by_mark P t e l branch.Else = l

@@ -7,8 +7,8 @@ use Rattle.nf_value.specs.declared.place.Place.{Place}
 use Rattle.nf_value.specs.declared.value.Value.{Value}
 use Rattle.nf_value.specs.declared.fault.EvalFault.{EvalFault}
 use Rattle.nf_value.specs.declared.fault.EvalKind.TheVariants.{WrongKind}
-use Rattle.nf_ast.specs.declared.marks.BranchMark.{BranchMark}
-use Rattle.nf_ast.specs.declared.marks.BranchMark.TheVariants as branch
+use Rattle.nf_ast.specs.declared.marks.BranchOperator.{BranchOperator}
+use Rattle.nf_ast.specs.declared.marks.BranchOperator.TheVariants as branch
 use Rattle.nf_ast.specs.Tree as tree
 use Rattle.nf_ast.specs.Tree.{Tree}
 use Rattle.nf_ast.specs.View.{BranchTree, Frame, asked, answered, preferred, ended, turned, framed, conditional}
@@ -146,12 +146,12 @@ module _ (env : Env) where
   turn_spoilt x fs q e (then_answered gs p c a s) = turn_spoilt x gs q (tree.conditional p c a e) s
   turn_spoilt x fs q e (then_preferred gs p a s) = turn_spoilt x gs q (tree.elvis p a e) s
 
-  frame_spoilt : (x : EvalFault) (p : Place) (k : BranchMark) (fs : List Frame) (e : Tree) → Spoilt x fs → Spoilt x (framed p k fs e)
+  frame_spoilt : (x : EvalFault) (p : Place) (k : BranchOperator) (fs : List Frame) (e : Tree) → Spoilt x fs → Spoilt x (framed p k fs e)
   frame_spoilt x p branch.Then fs e s = then_asked fs p e s
   frame_spoilt x p branch.Else fs e s = turn_spoilt x fs p e s
   frame_spoilt x p branch.Elvis fs e s = then_preferred fs p e s
 
-  frame_fault : (x : EvalFault) (n : ℕ) (p : Place) (k : BranchMark) (fs : List Frame) (e : Tree) → gives e ≡ Err x → Open env n fs → Spoilt x (framed p k fs e)
+  frame_fault : (x : EvalFault) (n : ℕ) (p : Place) (k : BranchOperator) (fs : List Frame) (e : Tree) → gives e ≡ Err x → Open env n fs → Spoilt x (framed p k fs e)
   frame_fault x n p branch.Then fs e is h = spoilt_asked n fs p e is h
   frame_fault x n p branch.Else fs e is h = turn_fault x n fs p e is h
   frame_fault x n p branch.Elvis fs e is h = spoilt_preferred n fs p e is h

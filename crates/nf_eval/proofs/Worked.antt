@@ -6,8 +6,8 @@ use Rattle.nf_value.specs.declared.place.Place.{Place}
 use Rattle.nf_value.specs.declared.fault.EvalKind.TheVariants.{WrongKind, DivZero, Arity, NoMethod, NoProperty}
 use Rattle.nf_token.specs.declared.token.PlainKind.TheVariants as kind
 use Rattle.nf_token.specs.declared.token.TemplateKind.TheVariants as template_kind
-use Rattle.nf_ast.specs.declared.marks.InfixMark.TheVariants as mark
-use Rattle.nf_ast.specs.declared.marks.PrefixMark.TheVariants as before
+use Rattle.nf_ast.specs.declared.marks.InfixOperator.TheVariants as mark
+use Rattle.nf_ast.specs.declared.marks.PrefixOperator.TheVariants as before
 use Rattle.nf_ast.specs.Tree as tree
 use Rattle.nf_ast.specs.Tree.{Tree, empty, cons}
 use Rattle.nf_infix.specs.Compare.{matches}

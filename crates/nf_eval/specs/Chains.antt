@@ -10,7 +10,7 @@ use Rattle.nf_value.specs.declared.fault.EvalRefusal.TheVariants as refusal
 use Rattle.nf_value.specs.declared.place.Place.{Place}
 use Rattle.nf_value.specs.declared.fault.EvalKind.TheVariants.{WrongKind}
 use Rattle.nf_infix.specs.Property.{property}
-use Rattle.nf_ast.specs.declared.marks.InfixMark.{InfixMark}
+use Rattle.nf_ast.specs.declared.marks.InfixOperator.{InfixOperator}
 use Rattle.nf_ast.specs.declared.expr.Prefix.{Prefix}
 use Rattle.nf_ast.specs.Tree as tree
 use Rattle.nf_ast.specs.Tree.{Tree}
@@ -37,7 +37,7 @@ prefixed (x ∷ xs) v = prefixed xs v >>= λ w. made x.place (prefix_of x.mark w
 -- ---- operands after a value
 
 -- what a mark makes of the value before it and the operand after it
-abbrev pub marked : Place → InfixMark → Tree → Env → Plain → Placed Plain
+abbrev pub marked : Place → InfixOperator → Tree → Env → Plain → Placed Plain
 marked p k b env v = binary p k (λ e. Ok v) (pattern_in b) (meaning_of b).value env
 
 abbrev pub going_on : List Tree → Env → Plain → Placed Plain

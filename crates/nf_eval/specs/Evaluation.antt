@@ -6,8 +6,8 @@ use Rattle.nf_value.specs.declared.place.Place.{Place}
 use Rattle.nf_value.specs.declared.fault.EvalKind.TheVariants.{WrongKind}
 use Rattle.nf_builtins.specs.Lists.{list_of}
 use Rattle.nf_builtins.specs.Natives.{is_among}
-use Rattle.nf_ast.specs.declared.marks.InfixMark.{InfixMark}
-use Rattle.nf_ast.specs.declared.marks.InfixMark.TheVariants as mark
+use Rattle.nf_ast.specs.declared.marks.InfixOperator.{InfixOperator}
+use Rattle.nf_ast.specs.declared.marks.InfixOperator.TheVariants as mark
 use Rattle.nf_ast.specs.Tree as tree
 use Rattle.nf_ast.specs.Tree.{Tree, empty, cons, place_of}
 use Rattle.nf_infix.specs.Compare.{matches}
@@ -100,7 +100,7 @@ abbrev pub matched : Place → (Env → Placed Plain) → Option (List ℕ) → 
 matched p a (Some re) b env = a env >>= λ v. if is_among re env.patterns then made p (matches v re) else fault WrongKind p
 matched p a None b env = a env >>= λ v. b env >>= λ w. fault WrongKind p
 
-abbrev pub binary : Place → InfixMark → (Env → Placed Plain) → Option (List ℕ) → (Env → Placed Plain) → Env → Placed Plain
+abbrev pub binary : Place → InfixOperator → (Env → Placed Plain) → Option (List ℕ) → (Env → Placed Plain) → Env → Placed Plain
 binary p mark.Or a re b env = either a b env
 binary p mark.And a re b env = both a b env
 binary p mark.Matches a re b env = matched p a re b env

@@ -11,7 +11,7 @@ ghost use Rattle.nf_eval.specs.Chains.{marked, going_on};
 
 use crate::around::{Around, match_seen};
 use crate::shapes::pattern_text;
-use nf_ast::{Expr, InfixMark, Operand};
+use nf_ast::{Expr, InfixOperator, Operand};
 use nf_builtins::Natives;
 use nf_placed::{fault_at, infix_value};
 use nf_value::{EvalKind, EvalRefusal, Place, Value, truth};
@@ -50,7 +50,7 @@ pub(crate) fn joined<N: Natives>(
     alloc: Global,
     expr: &Expr,
     place: Place,
-    mark: InfixMark,
+    mark: InfixOperator,
     left: Value,
     around: &Around<'_>,
     natives: &N,
@@ -59,21 +59,21 @@ pub(crate) fn joined<N: Natives>(
     ensures { Evaluates (marked place mark (view expr.now) (seen around.now (N.titles natives.now) (N.answer natives.now)) (plain_of left)) result }
 {
     match mark {
-        InfixMark::Or => {
+        InfixOperator::Or => {
             if truth(&left) {
                 return Ok(Value::Truth(true));
             }
             let right = crate::values::value(alloc, expr, around, natives)?;
             Ok(Value::Truth(truth(&right)))
         }
-        InfixMark::And => {
+        InfixOperator::And => {
             if !truth(&left) {
                 return Ok(Value::Truth(false));
             }
             let right = crate::values::value(alloc, expr, around, natives)?;
             Ok(Value::Truth(truth(&right)))
         }
-        InfixMark::Matches => matches(alloc, expr, place, left, around, natives),
+        InfixOperator::Matches => matches(alloc, expr, place, left, around, natives),
         _ => {
             let right = crate::values::value(alloc, expr, around, natives)?;
             infix_value(alloc, place, mark, left, right)

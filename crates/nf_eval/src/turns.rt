@@ -9,7 +9,7 @@ ghost use Rattle.nf_placed.specs.Scope.{Env};
 ghost use Rattle.nf_eval.specs.Evaluation.{meaning_of};
 ghost use Rattle.nf_eval.specs.Turns.{IsAt, IsNext, waits, next_waits};
 
-use nf_ast::BranchMark;
+use nf_ast::BranchOperator;
 use nf_placed::fault_at;
 use nf_value::{EvalKind, EvalRefusal, Place, Value, truth};
 
@@ -36,26 +36,26 @@ pub(crate) enum Next {
 }
 
 /// What comes of the operand after the next mark. Fewer than 2^64 - 1 conditions may wait.
-pub(crate) fn after(mark: BranchMark, turn: Turn) -> Next
+pub(crate) fn after(mark: BranchOperator, turn: Turn) -> Next
     requires { suc (waits turn) ≤ usize.MAX }
     ensures reads { (env : Env) (p : Mark) (fs : List Frame) (e : Tree) → IsAt env fs e turn → IsNext env (framed p mark fs e) result }
     ensures fits { next_waits result ≤ suc (waits turn) }
 {
     match turn {
         Turn::Live(outer, value) => match mark {
-            BranchMark::Then => asked(outer, value),
-            BranchMark::Elvis => preferred(outer, value),
-            BranchMark::Else => answered(outer, value),
+            BranchOperator::Then => asked(outer, value),
+            BranchOperator::Elvis => preferred(outer, value),
+            BranchOperator::Else => answered(outer, value),
         },
         Turn::Chosen(outer, value, inner) => match mark {
-            BranchMark::Then => Next::Chosen(outer, value, inner + 1),
-            BranchMark::Elvis => Next::Chosen(outer, value, inner),
-            BranchMark::Else => chosen(outer, value, inner),
+            BranchOperator::Then => Next::Chosen(outer, value, inner + 1),
+            BranchOperator::Elvis => Next::Chosen(outer, value, inner),
+            BranchOperator::Else => chosen(outer, value, inner),
         },
         Turn::Skipped(outer, inner) => match mark {
-            BranchMark::Then => Next::Skipped(outer, inner + 1),
-            BranchMark::Elvis => Next::Skipped(outer, inner),
-            BranchMark::Else => skipped(outer, inner),
+            BranchOperator::Then => Next::Skipped(outer, inner + 1),
+            BranchOperator::Elvis => Next::Skipped(outer, inner),
+            BranchOperator::Else => skipped(outer, inner),
         },
     }
 }
@@ -63,7 +63,7 @@ pub(crate) fn after(mark: BranchMark, turn: Turn) -> Next
 /// `?` after a value that is needed.
 fn asked(outer: usize, value: Value) -> Next
     requires { suc outer ≤ usize.MAX }
-    ensures reads { (env : Env) (p : Mark) (fs : List Frame) (e : Tree) → IsAt env fs e (Turn.Live outer value) → IsNext env (framed p BranchMark.Then fs e) result }
+    ensures reads { (env : Env) (p : Mark) (fs : List Frame) (e : Tree) → IsAt env fs e (Turn.Live outer value) → IsNext env (framed p BranchOperator.Then fs e) result }
     ensures fits { next_waits result ≤ suc outer }
 {
     if truth(&value) {
@@ -74,7 +74,7 @@ fn asked(outer: usize, value: Value) -> Next
 
 /// `?:` after a value that is needed.
 fn preferred(outer: usize, value: Value) -> Next
-    ensures reads { (env : Env) (p : Mark) (fs : List Frame) (e : Tree) → IsAt env fs e (Turn.Live outer value) → IsNext env (framed p BranchMark.Elvis fs e) result }
+    ensures reads { (env : Env) (p : Mark) (fs : List Frame) (e : Tree) → IsAt env fs e (Turn.Live outer value) → IsNext env (framed p BranchOperator.Elvis fs e) result }
     ensures fits { next_waits result ≤ outer }
 {
     if truth(&value) {

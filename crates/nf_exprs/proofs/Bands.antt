@@ -7,7 +7,7 @@ use Rattle.nf_grammar.specs.Parts.{no_next, none_of}
 use Rattle.nf_grammar.specs.Outcome.{Out, got, unexpected, too_deep}
 use Rattle.nf_grammar.proofs.Short.{at, at_deep, ret, takes, sinks, seq, fails, dives, off, ruled, stops, goes, part_fails, part_dives, maybe_not, maybe_is, IsStop}
 use Rattle.nf_exprs.specs.declared.band.Band.{Band}
-use Rattle.nf_ast.specs.declared.marks.InfixMark.{InfixMark}
+use Rattle.nf_ast.specs.declared.marks.InfixOperator.{InfixOperator}
 use Rattle.nf_ast.specs.declared.expr.Operand.{Operand}
 use Rattle.nf_ast.specs.Tree.{Tree, empty, binary}
 use Rattle.nf_exprs.specs.Level.{Operands, Gram}
@@ -19,7 +19,7 @@ use Rattle.nf_exprs.proofs.Leads.{Leads}
 use Rattle.nf_exprs.proofs.Steps.{short, long}
 
 -- the operands that were read, with one more
-pub operands_push : (a : Tree) (xs : List Tree) (p : Place) (mark : InfixMark) (e b : Tree) → operands a (xs ++ binary p mark e b ∷ []) ≡ binary p mark (operands a xs) b
+pub operands_push : (a : Tree) (xs : List Tree) (p : Place) (mark : InfixOperator) (e b : Tree) → operands a (xs ++ binary p mark e b ∷ []) ≡ binary p mark (operands a xs) b
 operands_push a [] p mark e b = refl
 operands_push a (binary q m x y ∷ xs) p mark e b = operands_push (binary q m a y) xs p mark e b
 operands_push a (_ ∷ xs) p mark e b = operands_push a xs p mark e b
@@ -31,7 +31,7 @@ more d b n a = many (no_next (infix_of b)) (operand_next d b) n a
 after_first : Bool → Gram → Gram → Gram
 after_first c g h = if c then g else h
 
-module _ (d n : ℕ) (b : Band) (acc : Tree) (ts after : List Lexeme) (p : Place) (mark : InfixMark) (takes_it : Takes (infix_of b) ts (operator p mark) after) where
+module _ (d n : ℕ) (b : Band) (acc : Tree) (ts after : List Lexeme) (p : Place) (mark : InfixOperator) (takes_it : Takes (infix_of b) ts (operator p mark) after) where
   goes_on : no_next (infix_of b) (takes_it.0 ∷ after) ≡ false
   goes_on = ap none_of takes_it.1
 
@@ -90,7 +90,7 @@ module _ (d : ℕ) (b : Band) (a : Tree) (ts us : List Lexeme) (first : Outcome 
   begins xs e = subst (λ l. Going d b 1 (operands a (map view_operand l)) ts us) (sym e) (begins_as (is_single b) refl)
 
 -- at a mark of the band
-module _ (d n : ℕ) (b : Band) (acc : Tree) (ts after us : List Lexeme) (p : Place) (mark : InfixMark) (takes_it : Takes (infix_of b) ts (operator p mark) after) where
+module _ (d n : ℕ) (b : Band) (acc : Tree) (ts after us : List Lexeme) (p : Place) (mark : InfixOperator) (takes_it : Takes (infix_of b) ts (operator p mark) after) where
   goes_here : no_next (infix_of b) (takes_it.0 ∷ after) ≡ false
   goes_here = ap none_of takes_it.1
 
@@ -125,7 +125,7 @@ ends_as d zero b acc ts us true some e f before = absurd (omega (arith, some))
 
 -- ---- over what was read
 
-module _ (d n : ℕ) (b : Band) (a : Tree) (xs : List Operand) (ts after us : List Lexeme) (p : Place) (mark : InfixMark) (takes_it : Takes (infix_of b) ts (operator p mark) after) (few : is_single b ≡ true → n ≤ 1) (some : 1 ≤ n) (before : Going d b n (operands a (map view_operand xs)) ts us) where
+module _ (d n : ℕ) (b : Band) (a : Tree) (xs : List Operand) (ts after us : List Lexeme) (p : Place) (mark : InfixOperator) (takes_it : Takes (infix_of b) ts (operator p mark) after) (few : is_single b ≡ true → n ≤ 1) (some : 1 ≤ n) (before : Going d b n (operands a (map view_operand xs)) ts us) where
   one : is_single b ≡ true → n ≡ 1
   one e = let le = few e in omega (arith, le, some)
 

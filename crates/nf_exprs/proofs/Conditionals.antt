@@ -10,8 +10,8 @@ use Rattle.nf_grammar.specs.Parts.{no_next}
 use Rattle.nf_grammar.specs.Outcome.{Out, got, unexpected, too_deep}
 use Rattle.nf_grammar.proofs.Outcomes.{arms_first, grouped, alone, ruled_first, maybe_is_then}
 use Rattle.nf_grammar.proofs.Short.{ret, seq, fails, dives, off, first_arm, second_arm, ruled, maybe_not, maybe_is, stop, IsStop}
-use Rattle.nf_ast.specs.declared.marks.BranchMark.{BranchMark}
-use Rattle.nf_ast.specs.declared.marks.BranchMark.TheVariants.{Then, Else, Elvis}
+use Rattle.nf_ast.specs.declared.marks.BranchOperator.{BranchOperator}
+use Rattle.nf_ast.specs.declared.marks.BranchOperator.TheVariants.{Then, Else, Elvis}
 use Rattle.nf_ast.specs.declared.expr.Branch.{Branch}
 use Rattle.nf_ast.specs.Tree as tree
 use Rattle.nf_ast.specs.Tree.{Tree, empty, point}
@@ -191,7 +191,7 @@ module _ (d : ℕ) (fs : List Frame) (e : Tree) (nested : ℕ) (kept : List ℕ)
   abbrev pub here : ℕ → Type 0
   here n = Reading d (record { frames = fs; expr = e }) n kept ts us
 
-  pub branch_goes : (next : ℕ) (left : List ℕ) (mark : BranchMark) (due : Bool) → past_branch mark nested ≡ false → (due ≡ true → kept ≡ [] → ⊥) → TakesBranch due mark ts p after → Nests mark kept nested left next → here nested → Going (operand_then d (framed p mark fs e)) after (rule (Expr d 0)) us
+  pub branch_goes : (next : ℕ) (left : List ℕ) (mark : BranchOperator) (due : Bool) → past_branch mark nested ≡ false → (due ≡ true → kept ≡ [] → ⊥) → TakesBranch due mark ts p after → Nests mark kept nested left next → here nested → Going (operand_then d (framed p mark fs e)) after (rule (Expr d 0)) us
   branch_goes next left Then due few some k n r o q = r.leads o (then_goes d fs e ts after p k.0 (subst (λ x. x < 256) (sym r.depth) (within nested few)) o q)
   branch_goes next left Elvis due few some k n r o q = r.leads o (elvis_goes d fs e ts after p k.0 (subst (λ x. x < 256) (sym r.depth) (within nested few)) o q)
   branch_goes next left Else due few some k n r o q = r.leads o (else_goes d fs e left next ts after p (r.waiting ∙ pending kept (some k.1) n) k.0 o q)
@@ -200,13 +200,13 @@ module _ (d : ℕ) (fs : List Frame) (e : Tree) (nested : ℕ) (kept : List ℕ)
       pending [] h g = absurd (h refl)
       pending (x ∷ xs) h g = g
 
-  pub branch_dives : (mark : BranchMark) (due : Bool) → past_branch mark nested ≡ true → TakesBranch due mark ts p after → here nested → Outcome (rule (Expr d 0)) us (too_deep (length ts))
+  pub branch_dives : (mark : BranchOperator) (due : Bool) → past_branch mark nested ≡ true → TakesBranch due mark ts p after → here nested → Outcome (rule (Expr d 0)) us (too_deep (length ts))
   branch_dives Then due many k r = r.leads (too_deep (length ts)) (then_dives d fs e ts after p k.0 (subst (λ x. 256 ≤ x) (sym r.depth) (beyond nested many)))
   branch_dives Elvis due many k r = r.leads (too_deep (length ts)) (elvis_dives d fs e ts after p k.0 (subst (λ x. 256 ≤ x) (sym r.depth) (beyond nested many)))
   branch_dives Else due many k r = absurd cc
 
   -- with the next operand
-  pub branch_read : (next : ℕ) (left : List ℕ) (mark : BranchMark) (due : Bool) (x : Tree) (r2 : List Lexeme) → past_branch mark nested ≡ false → (due ≡ true → kept ≡ [] → ⊥) → TakesBranch due mark ts p after → Nests mark kept nested left next → here nested → Outcome (rule (Operands d band.Or)) after (got x r2 (length r2)) → Reading d (record { frames = framed p mark fs e; expr = x }) next left r2 us
+  pub branch_read : (next : ℕ) (left : List ℕ) (mark : BranchOperator) (due : Bool) (x : Tree) (r2 : List Lexeme) → past_branch mark nested ≡ false → (due ≡ true → kept ≡ [] → ⊥) → TakesBranch due mark ts p after → Nests mark kept nested left next → here nested → Outcome (rule (Operands d band.Or)) after (got x r2 (length r2)) → Reading d (record { frames = framed p mark fs e; expr = x }) next left r2 us
   branch_read next left Then due x r2 few some k n r q = record { leads = λ o g. branch_goes next left Then due few some k n r o (seq q g); waiting = ap (λ l. l ++ suc (length fs) ∷ []) r.waiting ∙ ap (λ i. kept ++ suc i ∷ []) r.depth ∙ sym n.0; depth = ap suc r.depth ∙ sym n.1 }
   branch_read next left Elvis due x r2 few some k n r q = record { leads = λ o g. branch_goes next left Elvis due few some k n r o (seq q g); waiting = r.waiting ∙ sym n.0; depth = ap suc r.depth ∙ sym n.1 }
   branch_read next left Else due x r2 few some k n r q =
@@ -238,7 +238,7 @@ seen_push a xs ys y e = ap (seen a) e ∙ ap (state [] a) (map_pushed xs) ∙ st
 pub seen_none : (d : ℕ) (a : Tree) (xs : List Branch) (kept : List ℕ) (ts us : List Lexeme) → xs ≡ [] → kept ≡ [] → Outcome (rule (Operands d band.Or)) us (got a ts (length ts)) → Reading d (seen a xs) 0 kept ts us
 seen_none d a xs kept ts us e f p = subst (λ l. Reading d (seen a l) 0 kept ts us) (sym e) (subst (λ k. Reading d (seen a []) 0 k ts us) (sym f) (first_read d a ts us p))
 
-pub seen_next : (d : ℕ) (a : Tree) (xs ys : List Branch) (y : Branch) (nested next : ℕ) (kept left : List ℕ) (ts after r2 us : List Lexeme) (p : Place) (mark : BranchMark) (due : Bool) (x : Tree) → past_branch mark nested ≡ false → (due ≡ true → kept ≡ [] → ⊥) → TakesBranch due mark ts p after → Nests mark kept nested left next → ys ≡ xs ++ y ∷ [] → view_branch y ≡ record { place = p; mark = mark; expr = x } → Outcome (rule (Operands d band.Or)) after (got x r2 (length r2)) → Reading d (seen a xs) nested kept ts us → Reading d (seen a ys) next left r2 us
+pub seen_next : (d : ℕ) (a : Tree) (xs ys : List Branch) (y : Branch) (nested next : ℕ) (kept left : List ℕ) (ts after r2 us : List Lexeme) (p : Place) (mark : BranchOperator) (due : Bool) (x : Tree) → past_branch mark nested ≡ false → (due ≡ true → kept ≡ [] → ⊥) → TakesBranch due mark ts p after → Nests mark kept nested left next → ys ≡ xs ++ y ∷ [] → view_branch y ≡ record { place = p; mark = mark; expr = x } → Outcome (rule (Operands d band.Or)) after (got x r2 (length r2)) → Reading d (seen a xs) nested kept ts us → Reading d (seen a ys) next left r2 us
 seen_next d a xs ys y nested next kept left ts after r2 us p mark due x few some k n e f q r =
     let s = seen a xs in
     subst (λ z. Reading d z next left r2 us) (sym (seen_push a xs ys y e ∙ ap (λ z. with_branch z s) f))
@@ -256,13 +256,13 @@ turned_le q (answered p c a ∷ fs) e few = turned_le q fs (tree.conditional p c
 turned_le q (preferred p a ∷ fs) e few = turned_le q fs (tree.elvis p a e) (omega (arith, few))
 
 -- so many stand round what comes after a mark within the limit
-pub next_within : (d : ℕ) (a : Tree) (xs ys : List Branch) (y : Branch) (nested next : ℕ) (kept left : List ℕ) (ts r2 us : List Lexeme) (p : Place) (mark : BranchMark) (x : Tree) → past_branch mark nested ≡ false → nested ≤ 256 → ys ≡ xs ++ y ∷ [] → view_branch y ≡ record { place = p; mark = mark; expr = x } → Reading d (seen a xs) nested kept ts us → Reading d (seen a ys) next left r2 us → next ≤ 256
+pub next_within : (d : ℕ) (a : Tree) (xs ys : List Branch) (y : Branch) (nested next : ℕ) (kept left : List ℕ) (ts r2 us : List Lexeme) (p : Place) (mark : BranchOperator) (x : Tree) → past_branch mark nested ≡ false → nested ≤ 256 → ys ≡ xs ++ y ∷ [] → view_branch y ≡ record { place = p; mark = mark; expr = x } → Reading d (seen a xs) nested kept ts us → Reading d (seen a ys) next left r2 us → next ≤ 256
 next_within d a xs ys y nested next kept left ts r2 us p mark x few le e f old new =
     let s = seen a xs in
     let h : length (framed p mark s.frames s.expr) ≡ next = subst (λ z. length z.frames ≡ next) (seen_push a xs ys y e ∙ ap (λ z. with_branch z s) f) new.depth in
     by_mark mark s.frames s.expr few old.depth h
   where
-    by_mark : (k : BranchMark) (fs : List Frame) (v : Tree) → past_branch k nested ≡ false → length fs ≡ nested → length (framed p k fs v) ≡ next → next ≤ 256
+    by_mark : (k : BranchOperator) (fs : List Frame) (v : Tree) → past_branch k nested ≡ false → length fs ≡ nested → length (framed p k fs v) ≡ next → next ≤ 256
     by_mark Then fs v g h i = let j = within nested g in omega (arith, h, i, j)
     by_mark Elvis fs v g h i = let j = within nested g in omega (arith, h, i, j)
     by_mark Else fs v g h i = let j = turned_le p fs v (omega (arith, h, le)) in omega (arith, i, j)
@@ -273,14 +273,14 @@ missing_at d a xs nested kept ts us true f g n r = branch_missing d (seen a xs).
 
 -- ---- the same, by the list in memory
 
-pub seen_goes : (d : ℕ) (a : Tree) (xs : List Branch) (nested next : ℕ) (kept left : List ℕ) (ts after us : List Lexeme) (p : Place) (mark : BranchMark) (due : Bool) → past_branch mark nested ≡ false → (due ≡ true → kept ≡ [] → ⊥) → TakesBranch due mark ts p after → Nests mark kept nested left next → Reading d (seen a xs) nested kept ts us → (o : Out Lexeme Tree) → IsStop o → Outcome (rule (Operands d band.Or)) after o → Outcome (rule (Expr d 0)) us o
+pub seen_goes : (d : ℕ) (a : Tree) (xs : List Branch) (nested next : ℕ) (kept left : List ℕ) (ts after us : List Lexeme) (p : Place) (mark : BranchOperator) (due : Bool) → past_branch mark nested ≡ false → (due ≡ true → kept ≡ [] → ⊥) → TakesBranch due mark ts p after → Nests mark kept nested left next → Reading d (seen a xs) nested kept ts us → (o : Out Lexeme Tree) → IsStop o → Outcome (rule (Operands d band.Or)) after o → Outcome (rule (Expr d 0)) us o
 seen_goes d a xs nested next kept left ts after us p mark due few some k n r o s q = branch_goes d (seen a xs).frames (seen a xs).expr nested kept ts after us p next left mark due few some k n r o (stop o s q)
 
-pub seen_dives : (d : ℕ) (a : Tree) (xs : List Branch) (nested : ℕ) (kept : List ℕ) (ts after us : List Lexeme) (p : Place) (mark : BranchMark) (due : Bool) → past_branch mark nested ≡ true → TakesBranch due mark ts p after → Reading d (seen a xs) nested kept ts us → Outcome (rule (Expr d 0)) us (too_deep (length ts))
+pub seen_dives : (d : ℕ) (a : Tree) (xs : List Branch) (nested : ℕ) (kept : List ℕ) (ts after us : List Lexeme) (p : Place) (mark : BranchOperator) (due : Bool) → past_branch mark nested ≡ true → TakesBranch due mark ts p after → Reading d (seen a xs) nested kept ts us → Outcome (rule (Expr d 0)) us (too_deep (length ts))
 seen_dives d a xs nested kept ts after us p mark due many k r = branch_dives d (seen a xs).frames (seen a xs).expr nested kept ts after us p mark due many k r
 
 -- a mark is one token
-pub branch_shorter : (due : Bool) (mark : BranchMark) (ts after : List Lexeme) (p : Place) → TakesBranch due mark ts p after → length ts ≡ suc (length after)
+pub branch_shorter : (due : Bool) (mark : BranchOperator) (ts after : List Lexeme) (p : Place) → TakesBranch due mark ts p after → length ts ≡ suc (length after)
 branch_shorter due Then ts after p k = ap length k.0.2
 branch_shorter due Else ts after p k = ap length k.0.2
 branch_shorter due Elvis ts after p k = ap length k.0.2

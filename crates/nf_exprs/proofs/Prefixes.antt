@@ -6,7 +6,7 @@ use Rattle.nf_grammar.specs.Gram.{rule, bind}
 use Rattle.nf_grammar.specs.Parts.{no_next}
 use Rattle.nf_grammar.specs.Outcome.{Out, got, unexpected, too_deep}
 use Rattle.nf_grammar.proofs.Short.{at, at_deep, ret, takes, sinks, seq, fails, dives, off, first_arm, second_arm, ruled, IsStop}
-use Rattle.nf_ast.specs.declared.marks.PrefixMark.{PrefixMark}
+use Rattle.nf_ast.specs.declared.marks.PrefixOperator.{PrefixOperator}
 use Rattle.nf_ast.specs.declared.expr.Prefix.{Prefix}
 use Rattle.nf_ast.specs.Tree.{Tree, empty, prefix}
 use Rattle.nf_exprs.specs.Level.{Pre, Post, Gram}
@@ -25,7 +25,7 @@ prefixes_push (y ∷ ms) x e = ap (prefix y.place y.mark) (prefixes_push ms x e)
 pub same_leads : (g : Gram) (ts : List Lexeme) → Leads g ts (λ v. v) g ts
 same_leads g ts = record { goes = λ v rest p. p; stops = λ o s p. p }
 
-module _ (d n : ℕ) (ts after : List Lexeme) (p : Place) (mark : PrefixMark) (takes_it : Takes prefix_mark ts (prefix p mark empty) after) where
+module _ (d n : ℕ) (ts after : List Lexeme) (p : Place) (mark : PrefixOperator) (takes_it : Takes prefix_mark ts (prefix p mark empty) after) where
   no_post_here : Outcome (rule (Post d)) (takes_it.0 ∷ after) (unexpected (suc (length after)))
   no_post_here = post_at_prefix d takes_it.0 after (prefix p mark empty) takes_it.1
 

@@ -13,8 +13,8 @@ use Rattle.nf_exprs.specs.declared.fault.Fault.{Fault}
 use Rattle.nf_exprs.specs.declared.fault.Fault.TheVariants.{Unexpected, TooDeep, Mem}
 use Rattle.nf_exprs.specs.Level.{Gram}
 use Rattle.nf_exprs.specs.Rules.{rules}
-use Rattle.nf_ast.specs.declared.marks.BranchMark.{BranchMark}
-use Rattle.nf_ast.specs.declared.marks.BranchMark.TheVariants as branch
+use Rattle.nf_ast.specs.declared.marks.BranchOperator.{BranchOperator}
+use Rattle.nf_ast.specs.declared.marks.BranchOperator.TheVariants as branch
 use Rattle.nf_token.specs.declared.token.Mark.TheVariants as m
 use Rattle.nf_exprs.specs.Tokens.{Kind, mark_of, labels, after}
 
@@ -65,17 +65,17 @@ TakesTwo p q ts v rest = (x : Lexeme) × (y : Lexeme) × (w : Tree) × (p x ≡ 
 abbrev pub LabelAt : List Lexeme → ℕ → Type 0
 LabelAt ts n = (labels ts ≡ true) × (n ≡ length (after ts))
 
-abbrev pub branch_mark : BranchMark → Kind
+abbrev pub branch_mark : BranchOperator → Kind
 branch_mark branch.Then = mark_of m.Question
 branch_mark branch.Else = mark_of m.Colon
 branch_mark branch.Elvis = mark_of m.Elvis
 
-abbrev pub IsDue : BranchMark → Bool → Type 0
+abbrev pub IsDue : BranchOperator → Bool → Type 0
 IsDue branch.Else due = due ≡ true
 IsDue _ due = Unit {0}
 
 -- a mark of a conditional expression, a `:` only where one is due
-abbrev pub TakesBranch : Bool → BranchMark → List Lexeme → Place → List Lexeme → Type 0
+abbrev pub TakesBranch : Bool → BranchOperator → List Lexeme → Place → List Lexeme → Type 0
 TakesBranch due mark ts p rest = Takes (branch_mark mark) ts (point p) rest × IsDue mark due
 
 abbrev pub NoBranch : Bool → List Lexeme → Type 0

@@ -13,9 +13,9 @@ use Rattle.nf_token.specs.declared.token.Token.{Token}
 use Rattle.nf_token.specs.declared.token.Token.TheVariants as t
 use Rattle.nf_token.specs.declared.token.Lexeme.{Lexeme}
 use Rattle.nf_grammar.specs.Parts.{no_next}
-use Rattle.nf_ast.specs.declared.marks.InfixMark.{InfixMark}
-use Rattle.nf_ast.specs.declared.marks.InfixMark.TheVariants as i
-use Rattle.nf_ast.specs.declared.marks.PrefixMark.TheVariants as f
+use Rattle.nf_ast.specs.declared.marks.InfixOperator.{InfixOperator}
+use Rattle.nf_ast.specs.declared.marks.InfixOperator.TheVariants as i
+use Rattle.nf_ast.specs.declared.marks.PrefixOperator.TheVariants as f
 use Rattle.nf_exprs.specs.declared.band.Band.{Band}
 use Rattle.nf_exprs.specs.declared.band.Band.TheVariants as band
 use Rattle.nf_ast.specs.Tree.{Tree, empty, point, name, number, text, pattern, piece, truth, null, template, prefix, binary}
@@ -147,11 +147,11 @@ close_hole = at_place close_hole_at
 -- ---- marks of each level
 
 -- a mark that waits for its operands
-abbrev pub operator : Place → InfixMark → Tree
+abbrev pub operator : Place → InfixOperator → Tree
 operator p mark = binary p mark empty empty
 
 -- the mark of a band that a token is
-abbrev pub infix_mark : Band → Token → Option InfixMark
+abbrev pub infix_mark : Band → Token → Option InfixOperator
 infix_mark band.Or (t.Mark m.Or) = Some i.Or
 infix_mark band.And (t.Mark m.And) = Some i.And
 infix_mark band.Pipe (t.Mark m.Pipe) = Some i.Pipe
@@ -170,7 +170,7 @@ infix_mark band.Term (t.Mark m.Times) = Some i.Times
 infix_mark band.Term (t.Mark m.Percent) = Some i.Remainder
 infix_mark _ _ = None
 
-abbrev pub waits : Place → Option InfixMark → Option Tree
+abbrev pub waits : Place → Option InfixOperator → Option Tree
 waits p None = None
 waits p (Some mark) = Some (operator p mark)
 

@@ -12,7 +12,7 @@ use crate::band::Band;
 use crate::expect::MOST_PARTS;
 use crate::fault::Fault;
 use crate::{peek, posts};
-use nf_ast::{Branch, BranchMark, Expr, InfixMark, Operand, Prefix};
+use nf_ast::{Branch, BranchOperator, Expr, InfixOperator, Operand, Prefix};
 use nf_token::Lexeme;
 use nf_value::{Mem, Place};
 use std::alloc::Global;
@@ -57,35 +57,35 @@ fn is_asked(asked: &Vec<u32>) -> bool
 fn next_branch<'a>(
     tokens: &'a [Lexeme],
     asked: &Vec<u32>,
-) -> Option<(Place, BranchMark, &'a [Lexeme])>
+) -> Option<(Place, BranchOperator, &'a [Lexeme])>
     ensures { NextBranch tokens.now asked.now.items result }
 {
     peek::branch(tokens, is_asked(asked))
 }
 
 /// Whether one `?` or `?:` more, round which so many stand, passes the limit.
-fn is_past(mark: BranchMark, nested: u32) -> bool
+fn is_past(mark: BranchOperator, nested: u32) -> bool
     ensures { result ≡ past_branch mark nested }
 {
     match mark {
-        BranchMark::Then | BranchMark::Elvis => nested >= MOST_PARTS,
-        BranchMark::Else => false,
+        BranchOperator::Then | BranchOperator::Elvis => nested >= MOST_PARTS,
+        BranchOperator::Else => false,
     }
 }
 
 /// How many `?` and `?:` stand round what comes after the mark, the mark's own among them. Of each `?` whose `:` is still to come,
 /// `asked` has how many stand round what is on both sides of that `:`.
-fn nests(asked: &mut Vec<u32>, nested: u32, mark: BranchMark) -> Result<u32, Mem>
+fn nests(asked: &mut Vec<u32>, nested: u32, mark: BranchOperator) -> Result<u32, Mem>
     requires { nested ≤ 256 }
     ensures { IfOk result (λ next. Nests mark asked.old.items nested asked.new.items next) }
 {
     match mark {
-        BranchMark::Then => {
+        BranchOperator::Then => {
             asked.push(nested + 1)?;
             Ok(nested + 1)
         }
-        BranchMark::Elvis => Ok(nested + 1),
-        BranchMark::Else => Ok(asked.pop().unwrap_or(nested)),
+        BranchOperator::Elvis => Ok(nested + 1),
+        BranchOperator::Else => Ok(asked.pop().unwrap_or(nested)),
     }
 }
 
@@ -128,7 +128,7 @@ pub fn operands(
 }
 
 /// The mark of the band that comes, where so many operands may still have one after them.
-fn next_mark(tokens: &[Lexeme], band: Band, parts: u32) -> Option<(Place, InfixMark, &[Lexeme])>
+fn next_mark(tokens: &[Lexeme], band: Band, parts: u32) -> Option<(Place, InfixOperator, &[Lexeme])>
     ensures { NextMark tokens.now band parts result }
 {
     if parts > 1 && is_single(band) {

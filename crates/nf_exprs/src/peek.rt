@@ -11,7 +11,7 @@ ghost use Rattle.nf_exprs.specs.Parses.{Takes, TakesTwo, TakesBranch, NoBranch, 
 ghost use Rattle.nf_ast.specs.View.{view};
 
 use crate::band::Band;
-use nf_ast::{BranchMark, Expr, InfixMark, PrefixMark};
+use nf_ast::{BranchOperator, Expr, InfixOperator, PrefixOperator};
 use nf_token::{Keyword, Lexeme, Mark, PlainKind, TemplateKind, Token};
 use nf_value::{Mem, Place, Txt};
 
@@ -192,7 +192,7 @@ pub fn close_hole(tokens: &[Lexeme]) -> Option<(Place, &[Lexeme])>
 }
 
 /// A mark of the band, with its place, and what stands after it.
-pub fn infix(tokens: &[Lexeme], band: Band) -> Option<(Place, InfixMark, &[Lexeme])>
+pub fn infix(tokens: &[Lexeme], band: Band) -> Option<(Place, InfixOperator, &[Lexeme])>
     ensures { MatchOption result (no_next (kind.infix_of band) tokens.now ≡ true) (λ x. Takes (kind.infix_of band) tokens.now (operator x.0 x.1) x.2.now) }
 {
     let (first, rest) = tokens.split_first()?;
@@ -201,32 +201,32 @@ pub fn infix(tokens: &[Lexeme], band: Band) -> Option<(Place, InfixMark, &[Lexem
 }
 
 /// The mark of a band that a token is.
-fn infix_mark(band: Band, token: &Token) -> Option<InfixMark>
+fn infix_mark(band: Band, token: &Token) -> Option<InfixOperator>
     ensures { result ≡ kind.infix_mark band token.now }
 {
     match (band, token) {
-        (Band::Or, Token::Mark(Mark::Or)) => Some(InfixMark::Or),
-        (Band::And, Token::Mark(Mark::And)) => Some(InfixMark::And),
-        (Band::Pipe, Token::Mark(Mark::Pipe)) => Some(InfixMark::Pipe),
-        (Band::Same, Token::Mark(Mark::Same)) => Some(InfixMark::Same),
-        (Band::Same, Token::Mark(Mark::Differs)) => Some(InfixMark::Differs),
-        (Band::Same, Token::Mark(Mark::Matches)) => Some(InfixMark::Matches),
-        (Band::Compare, Token::Mark(Mark::Less)) => Some(InfixMark::Less),
-        (Band::Compare, Token::Mark(Mark::AtMost)) => Some(InfixMark::AtMost),
-        (Band::Compare, Token::Mark(Mark::Greater)) => Some(InfixMark::Greater),
-        (Band::Compare, Token::Mark(Mark::AtLeast)) => Some(InfixMark::AtLeast),
-        (Band::Compare, Token::Keyword(Keyword::In)) => Some(InfixMark::In),
-        (Band::Range, Token::Mark(Mark::DotDot)) => Some(InfixMark::Range),
-        (Band::Sum, Token::Mark(Mark::Plus)) => Some(InfixMark::Plus),
-        (Band::Sum, Token::Mark(Mark::Minus)) => Some(InfixMark::Minus),
-        (Band::Term, Token::Mark(Mark::Times)) => Some(InfixMark::Times),
-        (Band::Term, Token::Mark(Mark::Percent)) => Some(InfixMark::Remainder),
+        (Band::Or, Token::Mark(Mark::Or)) => Some(InfixOperator::Or),
+        (Band::And, Token::Mark(Mark::And)) => Some(InfixOperator::And),
+        (Band::Pipe, Token::Mark(Mark::Pipe)) => Some(InfixOperator::Pipe),
+        (Band::Same, Token::Mark(Mark::Same)) => Some(InfixOperator::Same),
+        (Band::Same, Token::Mark(Mark::Differs)) => Some(InfixOperator::Differs),
+        (Band::Same, Token::Mark(Mark::Matches)) => Some(InfixOperator::Matches),
+        (Band::Compare, Token::Mark(Mark::Less)) => Some(InfixOperator::Less),
+        (Band::Compare, Token::Mark(Mark::AtMost)) => Some(InfixOperator::AtMost),
+        (Band::Compare, Token::Mark(Mark::Greater)) => Some(InfixOperator::Greater),
+        (Band::Compare, Token::Mark(Mark::AtLeast)) => Some(InfixOperator::AtLeast),
+        (Band::Compare, Token::Keyword(Keyword::In)) => Some(InfixOperator::In),
+        (Band::Range, Token::Mark(Mark::DotDot)) => Some(InfixOperator::Range),
+        (Band::Sum, Token::Mark(Mark::Plus)) => Some(InfixOperator::Plus),
+        (Band::Sum, Token::Mark(Mark::Minus)) => Some(InfixOperator::Minus),
+        (Band::Term, Token::Mark(Mark::Times)) => Some(InfixOperator::Times),
+        (Band::Term, Token::Mark(Mark::Percent)) => Some(InfixOperator::Remainder),
         _ => None,
     }
 }
 
 /// A mark before an operand, with its place, and what stands after it.
-pub fn prefix(tokens: &[Lexeme]) -> Option<(Place, PrefixMark, &[Lexeme])>
+pub fn prefix(tokens: &[Lexeme]) -> Option<(Place, PrefixOperator, &[Lexeme])>
     ensures { MatchOption result (no_next kind.prefix_mark tokens.now ≡ true) (λ x. Takes kind.prefix_mark tokens.now (tree.prefix x.0 x.1 tree.empty) x.2.now) }
 {
     match tokens {
@@ -236,14 +236,14 @@ pub fn prefix(tokens: &[Lexeme]) -> Option<(Place, PrefixMark, &[Lexeme])>
                 place,
             },
             rest @ ..,
-        ] => Some((*place, PrefixMark::Not, rest)),
+        ] => Some((*place, PrefixOperator::Not, rest)),
         [
             Lexeme {
                 token: Token::Mark(Mark::Minus),
                 place,
             },
             rest @ ..,
-        ] => Some((*place, PrefixMark::Minus, rest)),
+        ] => Some((*place, PrefixOperator::Minus, rest)),
         _ => None,
     }
 }
@@ -365,20 +365,20 @@ pub fn starts_piece(tokens: &[Lexeme]) -> bool
 }
 
 /// A mark of a conditional expression: a `:` only where one is due.
-pub fn branch(tokens: &[Lexeme], due: bool) -> Option<(Place, BranchMark, &[Lexeme])>
+pub fn branch(tokens: &[Lexeme], due: bool) -> Option<(Place, BranchOperator, &[Lexeme])>
     ensures { MatchOption result (NoBranch due tokens.now) (λ x. TakesBranch due x.1 tokens.now x.0 x.2.now) }
 {
     if let Some((place, rest)) = mark(tokens, Mark::Question) {
-        return Some((place, BranchMark::Then, rest));
+        return Some((place, BranchOperator::Then, rest));
     }
     if let Some((place, rest)) = mark(tokens, Mark::Elvis) {
-        return Some((place, BranchMark::Elvis, rest));
+        return Some((place, BranchOperator::Elvis, rest));
     }
     if !due {
         return None;
     }
     let (place, rest) = mark(tokens, Mark::Colon)?;
-    Some((place, BranchMark::Else, rest))
+    Some((place, BranchOperator::Else, rest))
 }
 
 /// Whether a closure's parameters begin here: an arrow, or a name that an arrow or a comma follows.

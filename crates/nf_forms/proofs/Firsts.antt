@@ -1,9 +1,9 @@
 -- Readings that go from the left: of a chain they are that of its first operand, with the first mark after it.
 use Rattle.std.proofs.Common.{◌≡◌, List, [], ◌∷◌, Option, Some, None, map, refl, sym, ap, ◌∙◌}
 use Rattle.nf_value.specs.declared.place.Place.{Place}
-use Rattle.nf_ast.specs.declared.marks.InfixMark.{InfixMark}
-use Rattle.nf_ast.specs.declared.marks.BranchMark.{BranchMark}
-use Rattle.nf_ast.specs.declared.marks.BranchMark.TheVariants as branch
+use Rattle.nf_ast.specs.declared.marks.InfixOperator.{InfixOperator}
+use Rattle.nf_ast.specs.declared.marks.BranchOperator.{BranchOperator}
+use Rattle.nf_ast.specs.declared.marks.BranchOperator.TheVariants as branch
 use Rattle.nf_ast.specs.declared.expr.Postfix.{Postfix}
 use Rattle.nf_ast.specs.Tree as tree
 use Rattle.nf_ast.specs.Tree.{Tree}
@@ -23,7 +23,7 @@ module _ (X : Type 0) (R : Tree → X) (F : X → Place → X) (twice : (x : X) 
 
   -- ---- operands
 
-  pub operands_first : ((p : Place) (k : InfixMark) (a b : Tree) → R (tree.binary p k a b) ≡ F (R a) p) → (a : Tree) (xs : List Tree) → R (operands a xs) ≡ more (R a) (operand_at xs)
+  pub operands_first : ((p : Place) (k : InfixOperator) (a b : Tree) → R (tree.binary p k a b) ≡ F (R a) p) → (a : Tree) (xs : List Tree) → R (operands a xs) ≡ more (R a) (operand_at xs)
   operands_first on a [] = refl
   operands_first on a (tree.binary p k x b ∷ xs) = operands_first on (tree.binary p k a b) xs ∙ ap (λ r. more r (operand_at xs)) (on p k a b) ∙ absorbed (R a) p (operand_at xs)
   operands_first on a (_ ∷ xs) = operands_first on a xs
@@ -67,7 +67,7 @@ module _ (X : Type 0) (R : Tree → X) (F : X → Place → X) (twice : (x : X) 
       turns q (answered p c a ∷ fs) e t h = turns q fs (tree.conditional p c a e) t h
       turns q (preferred p a ∷ fs) e t h = turns q fs (tree.elvis p a e) t h
 
-      goes : (p : Place) (k : BranchMark) (fs : List Frame) (e t : Tree) → R (ended fs e) ≡ r → R (ended (framed p k fs e) t) ≡ r
+      goes : (p : Place) (k : BranchOperator) (fs : List Frame) (e t : Tree) → R (ended fs e) ≡ r → R (ended (framed p k fs e) t) ≡ r
       goes p branch.Then fs e t h = asks p fs e t h
       goes p branch.Else fs e t h = turns p fs e t h
       goes p branch.Elvis fs e t h = prefers p fs e t h
@@ -76,7 +76,7 @@ module _ (X : Type 0) (R : Tree → X) (F : X → Place → X) (twice : (x : X) 
       going fs e [] h = h
       going fs e (x ∷ xs) h = going (framed x.place x.mark fs e) x.expr xs (goes x.place x.mark fs e x.expr h)
 
-    begins : (p : Place) (k : BranchMark) (e t : Tree) → R (ended (framed p k [] e) t) ≡ F (R e) p
+    begins : (p : Place) (k : BranchOperator) (e t : Tree) → R (ended (framed p k [] e) t) ≡ F (R e) p
     begins p branch.Then e t = on_conditional p e t tree.empty
     begins p branch.Else e t = on_elvis p e t
     begins p branch.Elvis e t = on_elvis p e t

@@ -2,8 +2,8 @@
 use Rattle.std.specs.Prelude.{ℕ, false, List, [], ◌∷◌, Option, Some, None, Ok, Err, All}
 use Rattle.nf_value.specs.declared.place.Place.{Place}
 use Rattle.nf_value.specs.Plain.{Plain}
-use Rattle.nf_ast.specs.declared.marks.InfixMark.{InfixMark}
-use Rattle.nf_ast.specs.declared.marks.InfixMark.TheVariants as mark
+use Rattle.nf_ast.specs.declared.marks.InfixOperator.{InfixOperator}
+use Rattle.nf_ast.specs.declared.marks.InfixOperator.TheVariants as mark
 use Rattle.nf_ast.specs.Tree as tree
 use Rattle.nf_ast.specs.Tree.{Tree}
 use Rattle.nf_pattern.specs.Wrapped.{wrapped}
@@ -37,7 +37,7 @@ evaluated (Err f) = Err f.place
 abbrev pub value_from : Env → Tree → Built Plain
 value_from env e = after_place (unbound_in env e) (evaluated (eval_of e env))
 
-abbrev pub range_mark : Place → InfixMark → Option Place
+abbrev pub range_mark : Place → InfixOperator → Option Place
 range_mark p mark.Range = Some p
 range_mark p _ = None
 

@@ -14,7 +14,7 @@ use crate::items::unless;
 use crate::leaf::{
     Kind, branch_mark, expression, first_of, is_before, part_mark, prefix_mark, tell_no_label,
 };
-use nf_ast::{Arg, ClosureBody, ClosureExpr, Expr, InfixMark, Operand, Stmt};
+use nf_ast::{Arg, ClosureBody, ClosureExpr, Expr, InfixOperator, Operand, Stmt};
 use nf_builtins::Natives;
 use nf_eval::eval;
 use nf_value::{EvalRefusal, Place, Value};
@@ -109,11 +109,11 @@ fn last_range(first: Option<Place>, rest: &[Operand]) -> Option<Place>
     range
 }
 
-fn range_mark(place: Place, mark: InfixMark) -> Option<Place>
+fn range_mark(place: Place, mark: InfixOperator) -> Option<Place>
     ensures { result ≡ range_mark_of place mark }
 {
     match mark {
-        InfixMark::Range => Some(place),
+        InfixOperator::Range => Some(place),
         _ => None,
     }
 }

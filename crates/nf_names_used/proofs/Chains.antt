@@ -3,8 +3,8 @@ use Rattle.std.proofs.Common.{◌≡◌, Bool, true, false, List, [], ◌∷◌,
 use Rattle.std.proofs.lemmas.Bool.{false≢true}
 use Rattle.std.proofs.lemmas.List.{append_assoc, append-nil}
 use Rattle.nf_value.specs.declared.place.Place.{Place}
-use Rattle.nf_ast.specs.declared.marks.BranchMark.{BranchMark}
-use Rattle.nf_ast.specs.declared.marks.BranchMark.TheVariants.{Then, Else, Elvis}
+use Rattle.nf_ast.specs.declared.marks.BranchOperator.{BranchOperator}
+use Rattle.nf_ast.specs.declared.marks.BranchOperator.TheVariants.{Then, Else, Elvis}
 use Rattle.nf_ast.specs.declared.expr.Prefix.{Prefix}
 use Rattle.nf_ast.specs.declared.expr.Operand.{Operand}
 use Rattle.nf_ast.specs.declared.expr.ClosureBody.TheOpen.{Operand-F}
@@ -96,7 +96,7 @@ turned_used names q (asked p c ∷ fs) e = sym (append_assoc (frames_uses fs nam
 turned_used names q (answered p c a ∷ fs) e = turned_used names q fs (tree.conditional p c a e) ∙ regroup (frames_uses fs names) (uses c names) (uses a names) (uses e names)
 turned_used names q (preferred p a ∷ fs) e = turned_used names q fs (tree.elvis p a e) ∙ sym (append_assoc (frames_uses fs names) (uses a names) (uses e names))
 
-framed_used : (names : Names) (p : Place) (m : BranchMark) (fs : List Frame) (e : Tree) → frames_uses (framed p m fs e) names ≡ frames_uses fs names ++ uses e names
+framed_used : (names : Names) (p : Place) (m : BranchOperator) (fs : List Frame) (e : Tree) → frames_uses (framed p m fs e) names ≡ frames_uses fs names ++ uses e names
 framed_used names p Then fs e = refl
 framed_used names p Else fs e = turned_used names p fs e
 framed_used names p Elvis fs e = refl
@@ -127,7 +127,7 @@ turned_chain P h q (asked p c ∷ fs) e = h (answered p c e) fs
 turned_chain P h q (answered p c a ∷ fs) e = turned_chain P h q fs (tree.conditional p c a e)
 turned_chain P h q (preferred p a ∷ fs) e = turned_chain P h q fs (tree.elvis p a e)
 
-framed_chain : (P : List Frame → Type 0) → ((f : Frame) (fs : List Frame) → P (f ∷ fs)) → (p : Place) (m : BranchMark) (fs : List Frame) (e : Tree) → P (framed p m fs e)
+framed_chain : (P : List Frame → Type 0) → ((f : Frame) (fs : List Frame) → P (f ∷ fs)) → (p : Place) (m : BranchOperator) (fs : List Frame) (e : Tree) → P (framed p m fs e)
 framed_chain P h p Then fs e = h (asked p e) fs
 framed_chain P h p Else fs e = turned_chain P h p fs e
 framed_chain P h p Elvis fs e = h (preferred p e) fs

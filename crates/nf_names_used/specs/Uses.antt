@@ -2,8 +2,8 @@
 use Rattle.std.specs.Prelude.{ℕ, Bool, true, false, ◌||◌, List, [], ◌∷◌, ◌++◌, codes, if◌then◌else◌}
 use Rattle.nf_value.specs.declared.place.Place.{Place}
 use Rattle.nf_builtins.specs.Natives.{is_among}
-use Rattle.nf_ast.specs.declared.marks.InfixMark.{InfixMark}
-use Rattle.nf_ast.specs.declared.marks.InfixMark.TheVariants as mark
+use Rattle.nf_ast.specs.declared.marks.InfixOperator.{InfixOperator}
+use Rattle.nf_ast.specs.declared.marks.InfixOperator.TheVariants as mark
 use Rattle.nf_ast.specs.Tree as tree
 use Rattle.nf_ast.specs.Tree.{Tree, empty, cons, place_of}
 use Rattle.nf_placed.specs.Body.{name_in, names_in, is_math}
@@ -92,7 +92,7 @@ text_uses (tree.text p k s) = used kind.Pattern p s ∷ []
 text_uses _ = []
 
 -- a plain string that is matched against is a pattern
-abbrev pub pattern_uses : InfixMark → Tree → List Use
+abbrev pub pattern_uses : InfixOperator → Tree → List Use
 pattern_uses mark.Matches b = text_uses b
 pattern_uses _ b = []
 

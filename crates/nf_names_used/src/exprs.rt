@@ -10,7 +10,7 @@ use crate::leaves::{Leaf, Role, read_leaf, role_before};
 use crate::seen::Seen;
 use crate::stmts::put_closure;
 use crate::uses::{Use, UseKind};
-use nf_ast::{Arg, Branch, Expr, Fragment, InfixMark, Operand, Pair, Postfix};
+use nf_ast::{Arg, Branch, Expr, Fragment, InfixOperator, Operand, Pair, Postfix};
 use nf_value::{Mem, Place, Txt};
 use std::alloc::Global;
 
@@ -171,11 +171,11 @@ fn put_operands(rest: &[Operand], seen: &Seen, alloc: Global, out: &mut Vec<Use>
 }
 
 /// A plain string that is matched against.
-fn put_pattern(mark: InfixMark, expr: &Expr, out: &mut Vec<Use>) -> Result<(), Mem>
+fn put_pattern(mark: InfixOperator, expr: &Expr, out: &mut Vec<Use>) -> Result<(), Mem>
     ensures { OnOk result (out.new.items ≡ out.old.items ++ pattern_uses mark (view expr.now)) }
 {
     match mark {
-        InfixMark::Matches => put_text(expr, out),
+        InfixOperator::Matches => put_text(expr, out),
         _ => Ok(()),
     }
 }

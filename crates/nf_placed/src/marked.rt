@@ -7,7 +7,7 @@ ghost use Rattle.nf_placed.specs.Placed.{Evaluates, made};
 ghost use Rattle.nf_placed.specs.Marked.{infix_of, prefix_of};
 
 use crate::places::placed;
-use nf_ast::{InfixMark, PrefixMark};
+use nf_ast::{InfixOperator, PrefixOperator};
 use nf_builtins::CallFault;
 use nf_infix::{
     at_least, at_most, differs, greater, is_in, less, matches, minus, negative, plus, range,
@@ -27,7 +27,7 @@ use std::alloc::Global;
 pub fn infix_value(
     alloc: Global,
     place: Place,
-    mark: InfixMark,
+    mark: InfixOperator,
     left: Value,
     right: Value,
 ) -> Result<Value, EvalRefusal>
@@ -36,23 +36,28 @@ pub fn infix_value(
     placed(place, between(alloc, mark, left, right))
 }
 
-fn between(alloc: Global, mark: InfixMark, left: Value, right: Value) -> Result<Value, CallFault>
+fn between(
+    alloc: Global,
+    mark: InfixOperator,
+    left: Value,
+    right: Value,
+) -> Result<Value, CallFault>
     ensures { Gives (infix_of mark (plain_of left) (plain_of right)) result }
 {
     match mark {
-        InfixMark::Same => same(&left, &right),
-        InfixMark::Differs => differs(&left, &right),
-        InfixMark::Less => less(&left, &right),
-        InfixMark::AtMost => at_most(&left, &right),
-        InfixMark::Greater => greater(&left, &right),
-        InfixMark::AtLeast => at_least(&left, &right),
-        InfixMark::In => is_in(&left, &right),
-        InfixMark::Range => range(alloc, &left, &right),
-        InfixMark::Plus => plus(alloc, left, right),
-        InfixMark::Minus => minus(left, &right),
-        InfixMark::Times => times(&left, &right),
-        InfixMark::Remainder => remainder(&left, &right),
-        InfixMark::Or | InfixMark::And | InfixMark::Pipe | InfixMark::Matches => {
+        InfixOperator::Same => same(&left, &right),
+        InfixOperator::Differs => differs(&left, &right),
+        InfixOperator::Less => less(&left, &right),
+        InfixOperator::AtMost => at_most(&left, &right),
+        InfixOperator::Greater => greater(&left, &right),
+        InfixOperator::AtLeast => at_least(&left, &right),
+        InfixOperator::In => is_in(&left, &right),
+        InfixOperator::Range => range(alloc, &left, &right),
+        InfixOperator::Plus => plus(alloc, left, right),
+        InfixOperator::Minus => minus(left, &right),
+        InfixOperator::Times => times(&left, &right),
+        InfixOperator::Remainder => remainder(&left, &right),
+        InfixOperator::Or | InfixOperator::And | InfixOperator::Pipe | InfixOperator::Matches => {
             Err(CallFault::Kind(EvalKind::WrongKind))
         }
     }
@@ -81,17 +86,17 @@ pub fn matches_value(
 ///
 /// The fault of the mark at its place: `WrongKind` of `-` before what is no number, `Overflow` where its negation leaves 64 signed bits (own). Takes
 /// no memory.
-pub fn prefix_value(place: Place, mark: PrefixMark, value: &Value) -> Result<Value, EvalRefusal>
+pub fn prefix_value(place: Place, mark: PrefixOperator, value: &Value) -> Result<Value, EvalRefusal>
     ensures { Evaluates (made place (prefix_of mark (plain_of value.now))) result }
 {
     placed(place, turned(mark, value))
 }
 
-fn turned(mark: PrefixMark, value: &Value) -> Result<Value, CallFault>
+fn turned(mark: PrefixOperator, value: &Value) -> Result<Value, CallFault>
     ensures { Gives (prefix_of mark (plain_of value.now)) result }
 {
     match mark {
-        PrefixMark::Not => Ok(Value::Truth(!truth(value))),
-        PrefixMark::Minus => negative(value),
+        PrefixOperator::Not => Ok(Value::Truth(!truth(value))),
+        PrefixOperator::Minus => negative(value),
     }
 }

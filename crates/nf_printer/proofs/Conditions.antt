@@ -4,8 +4,8 @@ use Rattle.std.specs.Prelude.{◌&&◌, not}
 use Rattle.std.proofs.lemmas.List.{append_assoc, append-nil}
 use Rattle.nf_value.specs.declared.place.Place.{Place}
 use Rattle.nf_token.specs.declared.token.Mark.TheVariants as m
-use Rattle.nf_ast.specs.declared.marks.BranchMark.{BranchMark}
-use Rattle.nf_ast.specs.declared.marks.BranchMark.TheVariants.{Then, Else, Elvis}
+use Rattle.nf_ast.specs.declared.marks.BranchOperator.{BranchOperator}
+use Rattle.nf_ast.specs.declared.marks.BranchOperator.TheVariants.{Then, Else, Elvis}
 use Rattle.nf_ast.specs.Tree as tree
 use Rattle.nf_ast.specs.Tree.{Tree}
 use Rattle.nf_ast.specs.View.{Frame, asked, answered, preferred, ended, turned, framed, BranchTree, conditional}
@@ -178,7 +178,7 @@ late_text p t xs (f ∷ fs) e l g true ih h k =
     ∙ sym due
     ∙ ap (λ v. (open_ ∷ o) ++ before (f ∷ fs) l v ++ (i ++ ((close ∷ q) ++ w ++ r))) (sym guard)
 
-step : (p : Place) (k : BranchMark) (t : Tree) (xs : List BranchTree) (fs : List Frame) (e : Tree) (n : ℕ) (b : Bool) (l : Layout) (g : Bool) → ((fs : List Frame) (n : ℕ) (b : Bool) → waiting fs ≡ n → begun fs ≡ b → IsText xs fs t (conditional fs t xs) n b l g) → waiting fs ≡ n → begun fs ≡ b → IsText (record { place = p; mark = k; expr = t } ∷ xs) fs e (conditional (framed p k fs e) t xs) n b l g
+step : (p : Place) (k : BranchOperator) (t : Tree) (xs : List BranchTree) (fs : List Frame) (e : Tree) (n : ℕ) (b : Bool) (l : Layout) (g : Bool) → ((fs : List Frame) (n : ℕ) (b : Bool) → waiting fs ≡ n → begun fs ≡ b → IsText xs fs t (conditional fs t xs) n b l g) → waiting fs ≡ n → begun fs ≡ b → IsText (record { place = p; mark = k; expr = t } ∷ xs) fs e (conditional (framed p k fs e) t xs) n b l g
 step p Then t xs fs e n b l g ih h k = after_then p t xs fs e l g ih n b h
 step p Elvis t xs fs e n b l g ih h k = after_elvis p t xs fs e l g ih n b h
 step p Else t xs fs e zero b l g ih h k = late_text p t xs fs e l g b ih h k

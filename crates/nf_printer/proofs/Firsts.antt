@@ -2,8 +2,8 @@
 use Rattle.std.proofs.Common.{◌≡◌, ℕ, zero, suc, Bool, true, false, List, [], ◌∷◌, refl, sym, ap, ◌∙◌}
 use Rattle.std.specs.Prelude.{◌&&◌, ◌||◌, not, if◌then◌else◌}
 use Rattle.nf_value.specs.declared.place.Place.{Place}
-use Rattle.nf_ast.specs.declared.marks.BranchMark.{BranchMark}
-use Rattle.nf_ast.specs.declared.marks.BranchMark.TheVariants.{Then, Else, Elvis}
+use Rattle.nf_ast.specs.declared.marks.BranchOperator.{BranchOperator}
+use Rattle.nf_ast.specs.declared.marks.BranchOperator.TheVariants.{Then, Else, Elvis}
 use Rattle.nf_ast.specs.Tree as tree
 use Rattle.nf_ast.specs.Tree.{Tree}
 use Rattle.nf_ast.specs.View.{Frame, asked, answered, preferred, ended, turned, framed, BranchTree, conditional}
@@ -56,12 +56,12 @@ module _ (X : Type 0) (R F : Tree → X) (z : X) where
     late : (q : Place) (f : Frame) (fs : List Frame) (e t : Tree) → waiting (f ∷ fs) ≡ zero → R (ended (turned q (f ∷ fs) e) t) ≡ z
     late q f fs e t h = ap (λ gs. R (ended gs t)) (turned_late q (f ∷ fs) e h) ∙ on_elvis q (ended (f ∷ fs) e) t ∙ bracketed (ended (f ∷ fs) e) (ended_needs f fs e)
 
-    pub record Framed (k : BranchMark) (gs : List Frame) (n : ℕ) (t : Tree) (r : X) : Type 0 where
+    pub record Framed (k : BranchOperator) (gs : List Frame) (n : ℕ) (t : Tree) (r : X) : Type 0 where
       pub waits : waiting gs ≡ asked_after k n
       pub goes : begun gs ≡ true
       pub first : R (ended gs t) ≡ told (not (is_late k n true)) r
 
-    one_more : (p : Place) (k : BranchMark) (f : Frame) (fs : List Frame) (e t : Tree) (n : ℕ) → waiting (f ∷ fs) ≡ n → Framed k (framed p k (f ∷ fs) e) n t (R (ended (f ∷ fs) e))
+    one_more : (p : Place) (k : BranchOperator) (f : Frame) (fs : List Frame) (e t : Tree) (n : ℕ) → waiting (f ∷ fs) ≡ n → Framed k (framed p k (f ∷ fs) e) n t (R (ended (f ∷ fs) e))
     one_more p Then f fs e t n h = record { waits = ap suc h; goes = refl; first = then_more p f fs e t }
     one_more p Elvis f fs e t n h = record { waits = h; goes = refl; first = elvis_more p f fs e t }
     one_more p Else f fs e t (suc n) h = let r = turns p (f ∷ fs) e n h in record { waits = r.waits; goes = r.goes; first = else_more p (f ∷ fs) e t n h }
@@ -87,12 +87,12 @@ module _ (X : Type 0) (R F : Tree → X) (z : X) where
         swapped false true = refl
         swapped false false = refl
 
-    pub record First (k : BranchMark) (gs : List Frame) (e t : Tree) : Type 0 where
+    pub record First (k : BranchOperator) (gs : List Frame) (e t : Tree) : Type 0 where
       pub waits : waiting gs ≡ asked_after k zero
       pub goes : begun gs ≡ true
       pub first : R (ended gs t) ≡ F e
 
-    a_first : (p : Place) (k : BranchMark) (e t : Tree) → First k (framed p k [] e) e t
+    a_first : (p : Place) (k : BranchOperator) (e t : Tree) → First k (framed p k [] e) e t
     a_first p Then e t = record { waits = refl; goes = refl; first = on_conditional p e t tree.empty }
     a_first p Elvis e t = record { waits = refl; goes = refl; first = on_elvis p e t }
     a_first p Else e t = record { waits = refl; goes = refl; first = on_elvis p e t }
@@ -102,7 +102,7 @@ module _ (X : Type 0) (R F : Tree → X) (z : X) where
         let r = a_first x.place x.mark e x.expr in
         more xs (framed x.place x.mark [] e) x.expr (asked_after x.mark zero) r.goes r.waits ∙ ap (told (none_late xs (asked_after x.mark zero) true)) r.first ∙ ap (λ b. told (not b && none_late xs (asked_after x.mark zero) true) (F e)) (sym (never_late x.mark))
       where
-        never_late : (k : BranchMark) → is_late k zero false ≡ false
+        never_late : (k : BranchOperator) → is_late k zero false ≡ false
         never_late Then = refl
         never_late Else = refl
         never_late Elvis = refl
@@ -112,7 +112,7 @@ module _ (X : Type 0) (R F : Tree → X) (z : X) where
 first_held : (e : Tree) (x : BranchTree) (xs : List BranchTree) → is_held e (x ∷ xs) zero false ≡ needs 1 e
 first_held e x xs = ap (λ b. b && needs 1 e) (condition x.mark)
   where
-    condition : (k : BranchMark) → is_condition k zero false ≡ true
+    condition : (k : BranchOperator) → is_condition k zero false ≡ true
     condition Then = refl
     condition Else = refl
     condition Elvis = refl

@@ -2,7 +2,7 @@
 use Rattle.std.proofs.Common.{◌≡◌, ℕ, zero, suc, Some, List, [], ◌∷◌, length, map, sym, subst, ap, ◌∙◌, refl, arith}
 use Rattle.std.specs.List.{slice_get}
 use Rattle.nf_value.specs.declared.place.Place.{Place}
-use Rattle.nf_ast.specs.declared.marks.InfixMark.{InfixMark}
+use Rattle.nf_ast.specs.declared.marks.InfixOperator.{InfixOperator}
 use Rattle.nf_ast.specs.declared.expr.Operand.{Operand}
 use Rattle.nf_ast.specs.declared.expr.ClosureBody.TheFolds.{fold_out-Operand}
 use Rattle.nf_ast.specs.Tree as tree
@@ -12,7 +12,7 @@ use Rattle.nf_printer.specs.Levels.{mark_level}
 use Rattle.nf_printer.specs.Chains.{last_level}
 
 -- an operand in memory is its mark with what stands after it
-of_operand : (P : InfixMark → Tree → Type 0) → ((p : Place) (x : InfixMark) (b : Tree) → P x (tree.binary p x tree.empty b)) → (y : Operand) → P y.mark (view_operand y)
+of_operand : (P : InfixOperator → Tree → Type 0) → ((p : Place) (x : InfixOperator) (b : Tree) → P x (tree.binary p x tree.empty b)) → (y : Operand) → P y.mark (view_operand y)
 of_operand P h y =
     subst (P y.mark) (sym (fold_out-Operand Tree Tree Tree Tree Tree Tree ArmTree BranchTree Tree Tree Tree Tree body_step expr_step piece_step postfix_step stmt_step arg_step arm_step branch_step closure_step label_step operand_step pair_step y)) (h _ _ _)
 

@@ -5,7 +5,7 @@ use Rattle.std.specs.Prelude.{◌&&◌, ◌||◌, not, if◌then◌else◌}
 use Rattle.std.proofs.lemmas.List.{append_assoc, append-nil}
 use Rattle.nf_token.specs.declared.token.Mark.TheVariants as m
 use Rattle.nf_value.specs.declared.place.Place.{Place}
-use Rattle.nf_ast.specs.declared.marks.InfixMark.{InfixMark}
+use Rattle.nf_ast.specs.declared.marks.InfixOperator.{InfixOperator}
 use Rattle.nf_ast.specs.declared.expr.Prefix.{Prefix}
 use Rattle.nf_ast.specs.Tree as tree
 use Rattle.nf_ast.specs.Tree.{Tree}
@@ -72,7 +72,7 @@ pub operands_print : (a : Tree) (xs : List Tree) (next : Bool) → prints (opera
 operands_print a [] next = refl
 operands_print a (tree.binary p x y b ∷ xs) next = marked p x b xs a next
   where
-    marked : (p : Place) (x : InfixMark) (b : Tree) (xs : List Tree) (a : Tree) (next : Bool) → prints (operands (tree.binary p x a b) xs) next ≡ (not (needs (left_level x) a) && is_bare xs (mark_level x)) && prints a (is_minus x)
+    marked : (p : Place) (x : InfixOperator) (b : Tree) (xs : List Tree) (a : Tree) (next : Bool) → prints (operands (tree.binary p x a b) xs) next ≡ (not (needs (left_level x) a) && is_bare xs (mark_level x)) && prints a (is_minus x)
     marked p x b [] a next = ap (λ v. v && prints a (is_minus x)) (sym (and_true (not (needs (left_level x) a))))
     marked p x b (tree.binary q k z c ∷ xs) a next = marked q k c xs (tree.binary p x a b) next ∙ between_both (not (needs (left_level x) a)) (not (is_loose (tree.binary q k z c) (mark_level x)) && is_bare xs (mark_level k)) (prints a (is_minus x))
     marked p x b (_ ∷ xs) a next = marked p x b xs a next
@@ -90,11 +90,11 @@ operands_begin a (tree.binary p x y b ∷ xs) = operands_begin (tree.binary p x 
 operands_begin a (_ ∷ xs) = operands_begin a xs
 
 -- no operand in memory is anything but a mark with its operand
-of_operand : (P : Tree → Type 0) → ((p : Place) (x : InfixMark) (b : Tree) → P (tree.binary p x tree.empty b)) → (y : Operand) → P (view_operand y)
+of_operand : (P : Tree → Type 0) → ((p : Place) (x : InfixOperator) (b : Tree) → P (tree.binary p x tree.empty b)) → (y : Operand) → P (view_operand y)
 of_operand P h y =
     subst P (sym (fold_out-Operand Tree Tree Tree Tree Tree Tree ArmTree BranchTree Tree Tree Tree Tree body_step expr_step piece_step postfix_step stmt_step arg_step arm_step branch_step closure_step label_step operand_step pair_step y)) (h _ _ _)
 
-later_name : (w : List ℕ) (p : Place) (x : InfixMark) (a b : Tree) (xs : List Tree) → is_name w (operands (tree.binary p x a b) xs) ≡ false
+later_name : (w : List ℕ) (p : Place) (x : InfixOperator) (a b : Tree) (xs : List Tree) → is_name w (operands (tree.binary p x a b) xs) ≡ false
 later_name w p x a b [] = refl
 later_name w p x a b (tree.binary q k z c ∷ xs) = later_name w q k (tree.binary p x a b) c xs
 later_name w p x a b (_ ∷ xs) = later_name w p x a b xs

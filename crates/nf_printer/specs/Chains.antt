@@ -3,8 +3,8 @@ use Rattle.std.specs.Prelude.{ℕ, zero, suc, Bool, true, false, not, ◌&&◌, 
 use Rattle.nf_token.specs.declared.token.Keyword.TheVariants as k
 use Rattle.nf_token.specs.declared.token.Mark.{Mark}
 use Rattle.nf_token.specs.declared.token.Mark.TheVariants as m
-use Rattle.nf_ast.specs.declared.marks.BranchMark.{BranchMark}
-use Rattle.nf_ast.specs.declared.marks.BranchMark.TheVariants.{Then, Else, Elvis}
+use Rattle.nf_ast.specs.declared.marks.BranchOperator.{BranchOperator}
+use Rattle.nf_ast.specs.declared.marks.BranchOperator.TheVariants.{Then, Else, Elvis}
 use Rattle.nf_ast.specs.declared.expr.Prefix.{Prefix}
 use Rattle.nf_ast.specs.Tree as tree
 use Rattle.nf_ast.specs.Tree.{Tree}
@@ -76,24 +76,24 @@ parts_inks (x ∷ xs) l = part_inks x l ++ parts_inks xs l
 -- ---- conditions: how many `:` are to come, and whether a mark has come
 
 -- a `:` that no condition waits for stands for `?:`, and all before it is its operand
-abbrev pub is_late : BranchMark → ℕ → Bool → Bool
+abbrev pub is_late : BranchOperator → ℕ → Bool → Bool
 is_late Else zero begun = begun
 is_late _ n begun = false
 
-abbrev pub asked_after : BranchMark → ℕ → ℕ
+abbrev pub asked_after : BranchOperator → ℕ → ℕ
 asked_after Then n = suc n
 asked_after Elvis n = n
 asked_after Else zero = zero
 asked_after Else (suc n) = n
 
 -- the operand before the mark is a condition, or what stands before `?:`
-abbrev pub is_condition : BranchMark → ℕ → Bool → Bool
+abbrev pub is_condition : BranchOperator → ℕ → Bool → Bool
 is_condition Then n begun = true
 is_condition Elvis n begun = true
 is_condition Else zero begun = not begun
 is_condition Else (suc n) begun = false
 
-abbrev pub branch_inks : BranchMark → ℕ → Bool → List Ink
+abbrev pub branch_inks : BranchOperator → ℕ → Bool → List Ink
 branch_inks Then n begun = spaced (mark m.Question)
 branch_inks Elvis n begun = spaced (mark m.Elvis)
 branch_inks Else zero begun = bracket begun m.CloseRound ++ spaced (mark m.Elvis)

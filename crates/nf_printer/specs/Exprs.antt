@@ -3,10 +3,10 @@ use Rattle.std.specs.Prelude.{Bool, true, false, not, ◌&&◌, List, [], ◌∷
 use Rattle.nf_token.specs.declared.token.Keyword.TheVariants as k
 use Rattle.nf_token.specs.declared.token.Mark.TheVariants as m
 use Rattle.nf_token.specs.declared.token.TemplateKind.{TemplateKind}
-use Rattle.nf_ast.specs.declared.marks.InfixMark.{InfixMark}
-use Rattle.nf_ast.specs.declared.marks.InfixMark.TheVariants as i
-use Rattle.nf_ast.specs.declared.marks.PrefixMark.{PrefixMark}
-use Rattle.nf_ast.specs.declared.marks.PrefixMark.TheVariants as f
+use Rattle.nf_ast.specs.declared.marks.InfixOperator.{InfixOperator}
+use Rattle.nf_ast.specs.declared.marks.InfixOperator.TheVariants as i
+use Rattle.nf_ast.specs.declared.marks.PrefixOperator.{PrefixOperator}
+use Rattle.nf_ast.specs.declared.marks.PrefixOperator.TheVariants as f
 use Rattle.nf_ast.specs.Tree as tree
 use Rattle.nf_ast.specs.Tree.{Tree}
 use Rattle.nf_printer.specs.Ink as ink
@@ -16,7 +16,7 @@ use Rattle.nf_printer.specs.Lines.{Layout, inline, is_inline, deeper, between, a
 
 -- ---- marks with the blanks round them
 
-abbrev pub infix_ink : InfixMark → Ink
+abbrev pub infix_ink : InfixOperator → Ink
 infix_ink i.Or = mark m.Or
 infix_ink i.And = mark m.And
 infix_ink i.Pipe = mark m.Pipe
@@ -38,11 +38,11 @@ abbrev pub spaced : Ink → List Ink
 spaced x = blank ∷ x ∷ blank ∷ []
 
 -- only `..` has no blanks
-abbrev pub infix_inks : InfixMark → List Ink
+abbrev pub infix_inks : InfixOperator → List Ink
 infix_inks i.Range = mark m.DotDot ∷ []
 infix_inks x = spaced (infix_ink x)
 
-abbrev pub prefix_ink : PrefixMark → Ink
+abbrev pub prefix_ink : PrefixOperator → Ink
 prefix_ink f.Not = mark m.Not
 prefix_ink f.Minus = mark m.Minus
 

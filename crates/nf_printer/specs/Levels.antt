@@ -1,15 +1,15 @@
 -- Where brackets have to stand round an expression.
 use Rattle.std.specs.Prelude.{ℕ, suc, Bool, true, false, not, ◌||◌, ◌&&◌, List, [], ◌∷◌, ◌++◌, codes, bytes_eq, nat_lt, if◌then◌else◌}
 use Rattle.nf_token.specs.declared.token.Mark.TheVariants as m
-use Rattle.nf_ast.specs.declared.marks.InfixMark.{InfixMark}
-use Rattle.nf_ast.specs.declared.marks.InfixMark.TheVariants as i
+use Rattle.nf_ast.specs.declared.marks.InfixOperator.{InfixOperator}
+use Rattle.nf_ast.specs.declared.marks.InfixOperator.TheVariants as i
 use Rattle.nf_ast.specs.Tree as tree
 use Rattle.nf_ast.specs.Tree.{Tree}
 use Rattle.nf_printer.specs.Ink.{Ink, mark}
 
 -- ---- how closely marks bind
 
-abbrev pub mark_level : InfixMark → ℕ
+abbrev pub mark_level : InfixOperator → ℕ
 mark_level i.Or = 1
 mark_level i.And = 2
 mark_level i.Pipe = 3
@@ -42,7 +42,7 @@ level (tree.prefix p x e) = prefix_level
 level _ = postfix_level
 
 -- the level that the left operand of a mark has at least: of the marks of comparing and of `..` one alone may stand on a level
-abbrev pub left_level : InfixMark → ℕ
+abbrev pub left_level : InfixOperator → ℕ
 left_level i.Same = 5
 left_level i.Differs = 5
 left_level i.Matches = 5
@@ -55,7 +55,7 @@ left_level i.Range = 7
 left_level x = mark_level x
 
 -- and the right operand
-abbrev pub right_level : InfixMark → ℕ
+abbrev pub right_level : InfixOperator → ℕ
 right_level x = suc (mark_level x)
 
 -- brackets have to stand round an expression where this level is asked for
@@ -68,7 +68,7 @@ abbrev pub is_name : List ℕ → Tree → Bool
 is_name word (tree.name p s) = bytes_eq s word
 is_name word _ = false
 
-abbrev pub is_minus : InfixMark → Bool
+abbrev pub is_minus : InfixOperator → Bool
 is_minus i.Minus = true
 is_minus _ = false
 

@@ -7,7 +7,7 @@ ghost use Rattle.nf_printer.specs.Chains.{none_late as none_late_of, opens_late 
 
 use crate::levels::{CONDITION, level};
 use crate::writer::Writer;
-use nf_ast::{Branch, BranchMark, Expr};
+use nf_ast::{Branch, BranchOperator, Expr};
 use nf_token::Mark;
 use nf_value::Mem;
 
@@ -32,51 +32,51 @@ impl Marks {
     }
 
     /// With one mark more. Of a `?` fewer than 2^64 - 1 may have come.
-    pub fn after(self, mark: BranchMark) -> Marks
+    pub fn after(self, mark: BranchOperator) -> Marks
         requires { suc self.asked ≤ usize.MAX }
         ensures { result ≡ record { asked = asked_after mark self.asked; begun = true } }
     {
         let asked = match mark {
-            BranchMark::Then => self.asked + 1,
-            BranchMark::Else => self.asked.saturating_sub(1),
-            BranchMark::Elvis => self.asked,
+            BranchOperator::Then => self.asked + 1,
+            BranchOperator::Else => self.asked.saturating_sub(1),
+            BranchOperator::Elvis => self.asked,
         };
         Marks { asked, begun: true }
     }
 
     /// A `:` that no condition waits for stands for `?:`; all before it is its operand.
-    fn is_late(self, mark: BranchMark) -> bool
+    fn is_late(self, mark: BranchOperator) -> bool
         ensures { result ≡ is_late_of mark self.asked self.begun }
     {
         match mark {
-            BranchMark::Else => self.asked == 0 && self.begun,
+            BranchOperator::Else => self.asked == 0 && self.begun,
             _ => false,
         }
     }
 
     /// The operand before this mark is a condition, or what stands before `?:`.
-    fn is_condition(self, mark: BranchMark) -> bool
+    fn is_condition(self, mark: BranchOperator) -> bool
         ensures { result ≡ is_condition_of mark self.asked self.begun }
     {
         match mark {
-            BranchMark::Then | BranchMark::Elvis => true,
-            BranchMark::Else => self.asked == 0 && !self.begun,
+            BranchOperator::Then | BranchOperator::Elvis => true,
+            BranchOperator::Else => self.asked == 0 && !self.begun,
         }
     }
 
     /// The mark, with a bracket before it where all before it stands in brackets.
-    pub fn put(self, mark: BranchMark, out: &mut Writer) -> Result<(), Mem>
+    pub fn put(self, mark: BranchOperator, out: &mut Writer) -> Result<(), Mem>
         ensures { OnOk result (out.new ≡ out.old ++ inked (branch_inks mark self.asked self.begun)) }
     {
         match mark {
-            BranchMark::Then => out.spaced(Mark::Question),
-            BranchMark::Elvis => out.spaced(Mark::Elvis),
-            BranchMark::Else => self.put_else(out),
+            BranchOperator::Then => out.spaced(Mark::Question),
+            BranchOperator::Elvis => out.spaced(Mark::Elvis),
+            BranchOperator::Else => self.put_else(out),
         }
     }
 
     fn put_else(self, out: &mut Writer) -> Result<(), Mem>
-        ensures { OnOk result (out.new ≡ out.old ++ inked (branch_inks BranchMark.Else self.asked self.begun)) }
+        ensures { OnOk result (out.new ≡ out.old ++ inked (branch_inks BranchOperator.Else self.asked self.begun)) }
     {
         if self.asked > 0 {
             return out.spaced(Mark::Colon);

@@ -19,7 +19,7 @@ use crate::levels::{
 };
 use crate::writer::Writer;
 use nf_ast::{
-    Arg, Branch, Expr, Fragment, InfixMark, Key, Operand, Pair, Postfix, Prefix, PrefixMark,
+    Arg, Branch, Expr, Fragment, InfixOperator, Key, Operand, Pair, Postfix, Prefix, PrefixOperator,
 };
 use nf_token::{Keyword, Mark, TemplateKind};
 use nf_value::{Mem, Place, Txt};
@@ -92,8 +92,8 @@ fn put_marks(marks: &[Prefix], out: &mut Writer) -> Result<(), Mem>
 {
     for prefix in marks {
         match prefix.mark {
-            PrefixMark::Not => out.mark(Mark::Not)?,
-            PrefixMark::Minus => out.mark(Mark::Minus)?,
+            PrefixOperator::Not => out.mark(Mark::Not)?,
+            PrefixOperator::Minus => out.mark(Mark::Minus)?,
         }
     }
     Ok(())
@@ -140,26 +140,26 @@ fn put_operand(operand: &Operand, last: u8, margin: &Margin, out: &mut Writer) -
 }
 
 /// A mark between operands; all but `..` have a blank on both sides.
-fn put_infix(mark: InfixMark, out: &mut Writer) -> Result<(), Mem>
+fn put_infix(mark: InfixOperator, out: &mut Writer) -> Result<(), Mem>
     ensures { OnOk result (out.new ≡ out.old ++ inked (infix_inks mark)) }
 {
     match mark {
-        InfixMark::Or => out.spaced(Mark::Or),
-        InfixMark::And => out.spaced(Mark::And),
-        InfixMark::Pipe => out.spaced(Mark::Pipe),
-        InfixMark::Same => out.spaced(Mark::Same),
-        InfixMark::Differs => out.spaced(Mark::Differs),
-        InfixMark::Matches => out.spaced(Mark::Matches),
-        InfixMark::Less => out.spaced(Mark::Less),
-        InfixMark::AtMost => out.spaced(Mark::AtMost),
-        InfixMark::Greater => out.spaced(Mark::Greater),
-        InfixMark::AtLeast => out.spaced(Mark::AtLeast),
-        InfixMark::In => out.spaced_keyword(Keyword::In),
-        InfixMark::Range => out.mark(Mark::DotDot),
-        InfixMark::Plus => out.spaced(Mark::Plus),
-        InfixMark::Minus => out.spaced(Mark::Minus),
-        InfixMark::Times => out.spaced(Mark::Times),
-        InfixMark::Remainder => out.spaced(Mark::Percent),
+        InfixOperator::Or => out.spaced(Mark::Or),
+        InfixOperator::And => out.spaced(Mark::And),
+        InfixOperator::Pipe => out.spaced(Mark::Pipe),
+        InfixOperator::Same => out.spaced(Mark::Same),
+        InfixOperator::Differs => out.spaced(Mark::Differs),
+        InfixOperator::Matches => out.spaced(Mark::Matches),
+        InfixOperator::Less => out.spaced(Mark::Less),
+        InfixOperator::AtMost => out.spaced(Mark::AtMost),
+        InfixOperator::Greater => out.spaced(Mark::Greater),
+        InfixOperator::AtLeast => out.spaced(Mark::AtLeast),
+        InfixOperator::In => out.spaced_keyword(Keyword::In),
+        InfixOperator::Range => out.mark(Mark::DotDot),
+        InfixOperator::Plus => out.spaced(Mark::Plus),
+        InfixOperator::Minus => out.spaced(Mark::Minus),
+        InfixOperator::Times => out.spaced(Mark::Times),
+        InfixOperator::Remainder => out.spaced(Mark::Percent),
     }
 }
 

@@ -9,7 +9,7 @@ ghost use Rattle.nf_printer.specs.Leading.{next_minus as next_minus_of, after_fi
 
 use crate::branches::{Marks, has_late, holds};
 use crate::levels::{POSTFIX, both, bracketed, is_bare, level, no_branches, no_marks, no_parts};
-use nf_ast::{Expr, InfixMark, Operand, Postfix};
+use nf_ast::{Expr, InfixOperator, Operand, Postfix};
 
 /// Whether an expression, before a token with which another may begin or not, is read as a statement of `println` or `log` where it
 /// begins one.
@@ -56,7 +56,7 @@ fn next_minus(rest: &[Operand], next: bool) -> bool
 {
     match rest {
         [] => next,
-        [operand, ..] => operand.mark == InfixMark::Minus,
+        [operand, ..] => operand.mark == InfixOperator::Minus,
     }
 }
 

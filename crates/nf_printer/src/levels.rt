@@ -5,7 +5,7 @@ ghost use Rattle.nf_ast.specs.View.{view, view_operand, view_branch, view_postfi
 ghost use Rattle.nf_printer.specs.Levels.{mark_level as level_of_mark, left_level as left_level_of, right_level as right_level_of, level as level_of};
 ghost use Rattle.nf_printer.specs.Chains.{is_nil, is_bare as is_bare_of};
 
-use nf_ast::{Branch, Expr, InfixMark, Operand, Postfix, Prefix};
+use nf_ast::{Branch, Expr, InfixOperator, Operand, Postfix, Prefix};
 
 /// The level that a condition, and what stands before `?:`, has at least.
 pub const CONDITION: u8 = 1;
@@ -17,43 +17,43 @@ pub const PREFIX: u8 = 9;
 pub const POSTFIX: u8 = 10;
 
 /// How closely a mark binds its operands.
-pub fn mark_level(mark: InfixMark) -> u8
+pub fn mark_level(mark: InfixOperator) -> u8
     ensures { result ≡ level_of_mark mark }
 {
     match mark {
-        InfixMark::Or => 1,
-        InfixMark::And => 2,
-        InfixMark::Pipe => 3,
-        InfixMark::Same | InfixMark::Differs | InfixMark::Matches => 4,
-        InfixMark::Less
-        | InfixMark::AtMost
-        | InfixMark::Greater
-        | InfixMark::AtLeast
-        | InfixMark::In => 5,
-        InfixMark::Range => 6,
-        InfixMark::Plus | InfixMark::Minus => 7,
-        InfixMark::Times | InfixMark::Remainder => 8,
+        InfixOperator::Or => 1,
+        InfixOperator::And => 2,
+        InfixOperator::Pipe => 3,
+        InfixOperator::Same | InfixOperator::Differs | InfixOperator::Matches => 4,
+        InfixOperator::Less
+        | InfixOperator::AtMost
+        | InfixOperator::Greater
+        | InfixOperator::AtLeast
+        | InfixOperator::In => 5,
+        InfixOperator::Range => 6,
+        InfixOperator::Plus | InfixOperator::Minus => 7,
+        InfixOperator::Times | InfixOperator::Remainder => 8,
     }
 }
 
 /// The level that the left operand of a mark has at least: of the marks of comparing and of `..` one alone may stand on a level.
-pub fn left_level(mark: InfixMark) -> u8
+pub fn left_level(mark: InfixOperator) -> u8
     ensures { result ≡ left_level_of mark }
 {
     match mark {
-        InfixMark::Same | InfixMark::Differs | InfixMark::Matches => 5,
-        InfixMark::Less
-        | InfixMark::AtMost
-        | InfixMark::Greater
-        | InfixMark::AtLeast
-        | InfixMark::In => 6,
-        InfixMark::Range => 7,
+        InfixOperator::Same | InfixOperator::Differs | InfixOperator::Matches => 5,
+        InfixOperator::Less
+        | InfixOperator::AtMost
+        | InfixOperator::Greater
+        | InfixOperator::AtLeast
+        | InfixOperator::In => 6,
+        InfixOperator::Range => 7,
         _ => mark_level(mark),
     }
 }
 
 /// The level that the right operand of a mark has at least.
-pub fn right_level(mark: InfixMark) -> u8
+pub fn right_level(mark: InfixOperator) -> u8
     ensures { result ≡ right_level_of mark }
 {
     mark_level(mark) + 1

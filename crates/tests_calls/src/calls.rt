@@ -4,7 +4,7 @@ ghost use Rattle.std.specs.Prelude.{slice_get};
 ghost use Rattle.nf_builtins.specs.Natives.{AnswersNative, program_answer};
 
 use crate::makers::txt;
-use nf_ast::{InfixMark, PrefixMark};
+use nf_ast::{InfixOperator, PrefixOperator};
 use nf_builtins::{
     CallFault, NativeBook, ProgramBook, StoredNatives, program_names, program_native,
 };
@@ -22,22 +22,22 @@ use std::test::Fail;
 const PLACE: Place = Place { line: 1, col: 9 };
 
 /// A mark, two numbers, and the value or the fault with its place.
-const MARKED: &[(InfixMark, i64, i64, &str)] = &[
-    (InfixMark::Plus, 1, 2, "3"),
-    (InfixMark::Minus, 1, 2, "-1"),
-    (InfixMark::Times, 3, -4, "-12"),
-    (InfixMark::Remainder, -7, 3, "-1"),
-    (InfixMark::Remainder, 7, 0, "DivZero at 1:9"),
-    (InfixMark::Plus, i64::MAX, 1, "Overflow at 1:9"),
-    (InfixMark::Less, 1, 2, "true"),
-    (InfixMark::AtMost, 2, 1, "false"),
-    (InfixMark::Greater, 1, 2, "false"),
-    (InfixMark::AtLeast, 2, 2, "true"),
-    (InfixMark::Same, 2, 2, "true"),
-    (InfixMark::Differs, 2, 2, "false"),
-    (InfixMark::Range, 2, 1, "[2, 1]"),
-    (InfixMark::In, 2, 1, "WrongKind at 1:9"),
-    (InfixMark::Pipe, 1, 1, "WrongKind at 1:9"),
+const MARKED: &[(InfixOperator, i64, i64, &str)] = &[
+    (InfixOperator::Plus, 1, 2, "3"),
+    (InfixOperator::Minus, 1, 2, "-1"),
+    (InfixOperator::Times, 3, -4, "-12"),
+    (InfixOperator::Remainder, -7, 3, "-1"),
+    (InfixOperator::Remainder, 7, 0, "DivZero at 1:9"),
+    (InfixOperator::Plus, i64::MAX, 1, "Overflow at 1:9"),
+    (InfixOperator::Less, 1, 2, "true"),
+    (InfixOperator::AtMost, 2, 1, "false"),
+    (InfixOperator::Greater, 1, 2, "false"),
+    (InfixOperator::AtLeast, 2, 2, "true"),
+    (InfixOperator::Same, 2, 2, "true"),
+    (InfixOperator::Differs, 2, 2, "false"),
+    (InfixOperator::Range, 2, 1, "[2, 1]"),
+    (InfixOperator::In, 2, 1, "WrongKind at 1:9"),
+    (InfixOperator::Pipe, 1, 1, "WrongKind at 1:9"),
 ];
 
 fn shown(alloc: Global, answer: Result<Value, EvalRefusal>) -> Result<String, Mem> {
@@ -62,9 +62,15 @@ fn marks_fault_at_their_places(rt: HostRuntime) -> Result<(), Fail> {
         let answer = shown(alloc, answer)?;
         assert_eq!(rt; answer.as_str(), expected);
     }
-    let turned = shown(alloc, prefix_value(PLACE, PrefixMark::Not, &Value::Null))?;
+    let turned = shown(
+        alloc,
+        prefix_value(PLACE, PrefixOperator::Not, &Value::Null),
+    )?;
     assert_eq!(rt; turned.as_str(), "true");
-    let negated = shown(alloc, prefix_value(PLACE, PrefixMark::Minus, &Value::Null))?;
+    let negated = shown(
+        alloc,
+        prefix_value(PLACE, PrefixOperator::Minus, &Value::Null),
+    )?;
     assert_eq!(rt; negated.as_str(), "WrongKind at 1:9");
     let re = WholeRe::new(alloc, "a+")?;
     let matched = shown(alloc, matches_value(alloc, PLACE, &Value::Null, &re))?;

@@ -1,10 +1,10 @@
 //! Copies of trees are made where there is memory: of an expression and of a script with every kind of node.
 
 use nf_ast::{
-    Arg, Arm, Branch, BranchMark, ClosureBody, ClosureExpr, Directive, Emit, Emits, Expr, Fragment,
-    Function, InfixMark, Input, InputPart, Inputs, Key, Label, Operand, Output, OutputPart,
-    OutputValue, Outputs, Pair, Parameter, Parts, Postfix, Prefix, PrefixMark, Process, Script,
-    Section, Stmt, Take, Task, Top, Workflow, WorkflowBody,
+    Arg, Arm, Branch, BranchOperator, ClosureBody, ClosureExpr, Directive, Emit, Emits, Expr,
+    Fragment, Function, InfixOperator, Input, InputPart, Inputs, Key, Label, Operand, Output,
+    OutputPart, OutputValue, Outputs, Pair, Parameter, Parts, Postfix, Prefix, PrefixOperator,
+    Process, Script, Section, Stmt, Take, Task, Top, Workflow, WorkflowBody,
 };
 use nf_token::{PlainKind, TemplateKind};
 use nf_value::{Mem, Place, Txt};
@@ -103,19 +103,19 @@ fn labelled(alloc: Global) -> Result<ClosureExpr, Mem> {
 fn prefix(alloc: Global) -> Result<Expr, Mem> {
     let mark = Prefix {
         place: AT,
-        mark: PrefixMark::Not,
+        mark: PrefixOperator::Not,
     };
     let marks = vec![in alloc; mark]?;
     Expr::prefix(alloc, marks, name(alloc))
 }
 
 fn infix(alloc: Global) -> Result<Expr, Mem> {
-    let rest = vec![in alloc; Operand::new(AT, InfixMark::Minus, name(alloc))]?;
+    let rest = vec![in alloc; Operand::new(AT, InfixOperator::Minus, name(alloc))]?;
     Expr::infix(alloc, name(alloc), rest)
 }
 
 fn conditional(alloc: Global) -> Result<Expr, Mem> {
-    let rest = vec![in alloc; Branch::new(AT, BranchMark::Elvis, name(alloc))]?;
+    let rest = vec![in alloc; Branch::new(AT, BranchOperator::Elvis, name(alloc))]?;
     Expr::conditional(alloc, name(alloc), rest)
 }
 

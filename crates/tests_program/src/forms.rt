@@ -3,8 +3,8 @@
 ghost use Rattle.nf_builtins.specs.Natives.{AnswersNative, program_answer};
 
 use nf_ast::{
-    Arg, ClosureBody, ClosureExpr, Expr, InfixMark, Operand, Postfix, Script, Stmt, Top, Workflow,
-    WorkflowBody,
+    Arg, ClosureBody, ClosureExpr, Expr, InfixOperator, Operand, Postfix, Script, Stmt, Top,
+    Workflow, WorkflowBody,
 };
 use nf_builtins::{CallFault, ProgramBook, StoredNatives, program_names, program_native};
 use nf_forms::{FormFault, Items, Plan, plan_of};
@@ -26,7 +26,7 @@ fn method(alloc: Global, name: &str) -> Result<Postfix, Mem> {
 fn closure(alloc: Global) -> Result<ClosureExpr, Mem> {
     let two = Operand {
         place: Place { line: 1, col: 9 },
-        mark: InfixMark::Plus,
+        mark: InfixOperator::Plus,
         expr: Expr::Number(AT, 2),
     };
     let it = Expr::Name(AT, text(alloc, "it")?);

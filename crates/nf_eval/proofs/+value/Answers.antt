@@ -23,7 +23,7 @@ use Rattle.nf_eval.proofs.+value.Goals.{values::text-in-Plain+in_ok-push-in-Plai
 use Rattle.std.proofs.lemmas.Bool.{false≢true}
 use Rattle.std.specs.Prelude.{Option, Some, not, option_map}
 use Rattle.nf_placed.specs.Body.{pattern_in, names_in, split, paired}
-use Rattle.nf_ast.specs.declared.marks.BranchMark.{BranchMark}
+use Rattle.nf_ast.specs.declared.marks.BranchOperator.{BranchOperator}
 use Rattle.nf_ast.specs.declared.expr.Branch.{Branch, the_lemmas as branch_lemmas}
 use Rattle.nf_eval.specs.Shapes.{is_nil, is_flat, is_closure, block_of}
 use Rattle.nf_eval.proofs.Shaping.{prefixes_none, prefixes_some, operands_none, operands_some, conditional_none, conditional_some, closure_argument, plain_argument, prefixes_closure, operands_closure, conditional_closure, postfix_closure}
@@ -232,7 +232,7 @@ conditionals::conditional-loop-branch-preserved g t0 c = record {
       let next : k + 1 ≡ suc k = omega arith in
       let left : drop k rest ≡ b ∷ drop (k + 1) rest = left_here rest k (k + 1) b c.loop-branch-test.true c.branch-item.is next in
       let m : vb.mark ≡ b.mark = search (rules, branch_lemmas) in
-      let whole : conditional (framed vb.place b.mark i.0 i.1) vb.expr ys ≡ conditional [] e (map view_branch rest) = ap (λ (mk : BranchMark). conditional (framed vb.place mk i.0 i.1) vb.expr ys) (sym m) ∙ sym (ap (λ (l : List Branch). conditional i.0 i.1 (map view_branch l)) left) ∙ i.3 in
+      let whole : conditional (framed vb.place b.mark i.0 i.1) vb.expr ys ≡ conditional [] e (map view_branch rest) = ap (λ (mk : BranchOperator). conditional (framed vb.place mk i.0 i.1) vb.expr ys) (sym m) ∙ sym (ap (λ (l : List Branch). conditional i.0 i.1 (map view_branch l)) left) ∙ i.3 in
       (framed vb.place b.mark i.0 i.1, vb.expr, c.in_ok-turn.ensures.steps i.0 i.1 i.2, whole);
 }
 
@@ -248,7 +248,7 @@ conditionals::conditional-returns-in_err-turn g t0 c e h =
     let next : k + 1 ≡ suc k = omega arith in
     let left : drop k rest ≡ b ∷ drop (k + 1) rest = left_here rest k (k + 1) b c.loop-branch-test.true c.branch-item.is next in
     let m : vb.mark ≡ b.mark = search (rules, branch_lemmas) in
-    let whole : conditional (framed vb.place b.mark i.0 i.1) vb.expr ys ≡ conditional [] e (map view_branch rest) = ap (λ (mk : BranchMark). conditional (framed vb.place mk i.0 i.1) vb.expr ys) (sym m) ∙ sym (ap (λ (l : List Branch). conditional i.0 i.1 (map view_branch l)) left) ∙ i.3 in
+    let whole : conditional (framed vb.place b.mark i.0 i.1) vb.expr ys ≡ conditional [] e (map view_branch rest) = ap (λ (mk : BranchOperator). conditional (framed vb.place mk i.0 i.1) vb.expr ys) (sym m) ∙ sym (ap (λ (l : List Branch). conditional i.0 i.1 (map view_branch l)) left) ∙ i.3 in
     let err : c.from_residual.result ≡ Err c.in_err-turn.field-0.0 = search rules in
     steps_fault env (framed vb.place b.mark i.0 i.1) vb.expr ys (conditional [] e (map view_branch rest)) c.in_err-turn.field-0.0 c.from_residual.result err (sym whole) (c.in_err-turn.ensures.steps i.0 i.1 i.2)
 

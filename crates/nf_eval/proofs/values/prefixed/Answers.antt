@@ -2,7 +2,7 @@ use Rattle.std.proofs.Common.{◌≡◌, ◌∙◌, ◌-◌, ◌+◌, ◌<◌, t
 use Rattle.nf_value.specs.Plain.{Plain}
 use Rattle.nf_value.specs.View.{plain_of}
 use Rattle.nf_ast.specs.declared.expr.Prefix.{Prefix}
-use Rattle.nf_ast.specs.declared.marks.PrefixMark.TheVariants as before
+use Rattle.nf_ast.specs.declared.marks.PrefixOperator.TheVariants as before
 use Rattle.nf_placed.specs.Placed.{Placed, ◌>>=◌, made}
 use Rattle.nf_placed.specs.Marked.{prefix_of}
 use Rattle.nf_eval.specs.Chains.{prefixed}
