@@ -5,7 +5,7 @@ ghost use Rattle.nf_lexer.specs.Open.{innermost as innermost_of, around, lets_li
 ghost use Rattle.nf_lexer.specs.View.{opens, IsSummed};
 
 use crate::fault::LexFault;
-use nf_token::TextKind;
+use nf_token::{PlainKind, TemplateKind, TextKind};
 use nf_value::{Mem, Place};
 use std::alloc::Global;
 use std::marker::Model;
