@@ -1,4 +1,4 @@
--- From what is known before the writing to how the call ends.
+-- What is known before the writing gives how the call ends.
 use Rattle.std.proofs.Common.{◌≡◌, ℕ, List, [], Option, Some, None, Result, Ok, Err, IfSome, IfOk, IfErr, refl, sym, ◌∙◌, subst}
 use Rattle.nf_words.specs.declared.command.Command.{Command}
 use Rattle.nf_words.specs.declared.fault.UsageFault.{UsageFault}
@@ -22,7 +22,7 @@ use Rattle.nf_cli.specs.Due.{RunEnds, MayEnd, Ended, as_due, host_failed, no_mem
 use Rattle.nf_cli.specs.Work.{WorkGives, HasWorked, IsDue, IsRefusal, IsWritten, IsKept, EndsAs, output_text}
 use Rattle.nf_cli.proofs.Patterned.{over_same}
 
--- the end stays, or it is Mem
+-- what holds of the end and of Mem holds of the end after its error line
 same_or_memory : (P : End → Type 0) → P end.Mem → (before after : End) → P before → IsKept before after → P after
 same_or_memory P m before end.Mem h k = m
 same_or_memory P m before end.Ok h k = subst P (sym k) h
@@ -37,7 +37,7 @@ same_or_memory P m before end.HostFault h k = subst P (sym k) h
 same_or_memory P m before end.LaneFault h k = subst P (sym k) h
 same_or_memory P m before end.SinkFault h k = subst P (sym k) h
 
--- what holds of both ends of a call that writes an output
+-- what holds of Ok and SinkFault holds of every end that wrote an output
 written : (P : End → Type 0) → P end.Ok → P end.SinkFault → (e : End) → IsWritten e → P e
 written P a b end.Ok w = a
 written P a b end.SinkFault w = b
@@ -52,9 +52,9 @@ written P a b end.HostFault w = absurd w
 written P a b end.LaneFault w = absurd w
 written P a b end.Mem w = absurd w
 
--- ---- the end is the outcome
+-- ---- each end has its cause
 
--- what is due to be written may be the end
+-- an outcome with an output may end by writing it
 due_may : (outcome : Outcome) (h : List Event) (o : Output) (e : End) → IsDue outcome h o → IsWritten e → MayEnd outcome h e
 due_may (runs form) h o e due k = written (RunEnds form h) due.well due.well e k
 due_may (formats tree) h o e due k = written (MayEnd (formats tree) h) tt tt e k
@@ -68,7 +68,7 @@ ended : (env : Env) (words : List (List ℕ)) (files : Files) (h : List Event) (
 ended env words files h (Ok o) e g k = as_due g.0 g.1 (due_may g.0 h o e g.2 k)
 ended env words files h (Err before) e g k = same_or_memory (Ended env words files h) no_memory before e g k
 
--- ---- the outcome is the end
+-- ---- each cause has its end
 
 -- memory may end any call
 memory_may : (o : Outcome) (h : List Event) → MayEnd o h end.Mem
@@ -80,7 +80,7 @@ memory_may (unlexed due) h = tt
 memory_may (unparsed due) h = tt
 memory_may (unbuilt due) h = tt
 
--- the host ends a call whose words are right, before anything is run
+-- a failed host may end a call with a right command line, before anything is run
 host_may : (env : Env) (words : List (List ℕ)) (files : Files) (h : List Event) (command : Command) → command_of words ≡ Ok command → h ≡ [] → (o : Outcome) → Means env words files o → MayEnd o h end.HostFault
 host_may env words files h command right nothing (runs form) means = nothing
 host_may env words files h command right nothing (formats tree) means = tt
@@ -95,7 +95,7 @@ complete env words files h e (as_due due is may) o means = subst (λ o. MayEnd o
 complete env words files h e (host_failed command right nothing) o means = host_may env words files h command right nothing o means
 complete env words files h e no_memory o means = memory_may o h
 
--- ---- a stop is the end
+-- ---- a stopped history ends the call
 
 run_stops : (form : Form) (h : List Event) (e : End) → RunEnds form h e → StopEnds (state_after form h).stop e
 run_stops form h end.Ok w = subst (λ s. StopEnds s end.Ok) (sym w.ended.goes_on) tt
@@ -160,7 +160,7 @@ on_output end.HostFault P h = tt
 on_output end.LaneFault P h = tt
 on_output end.Mem P h = tt
 
--- what the sink took of this output, where it tells it
+-- what the sink took of this output, if it reveals its bytes
 abbrev pub Took : Option (List ℕ) → Option (List ℕ) → Result Output End → End → Type 0
 Took old new r e = IfOk r (λ o. IfSome old (λ before. IfSome new (λ after. WroteOutput e (output_text o) before after)))
 

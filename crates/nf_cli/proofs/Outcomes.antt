@@ -1,4 +1,4 @@
--- From a text's tree to what the text comes to.
+-- The outcome of a text follows from its one tree or its one fault.
 use Rattle.std.proofs.Common.{◌≡◌, ℕ, ◌<◌, List, length, Option, Result, Ok, Err, refl, sym, ap, ◌∙◌, subst, arith}
 use Rattle.nf_value.specs.declared.place.Place.{Place}
 use Rattle.nf_ast.specs.Tree.{Tree}
@@ -53,7 +53,7 @@ too_long_only text h = record {
 }
 
 module _ (env : Env) where
-  -- a text with one tree comes to what the tree comes to
+  -- a text with one tree has that tree's outcome
   module _ (command : Command) (text : List ℕ) (tree : Tree) (one : IsOnlyScript text tree) where
     same : (outcome other : Outcome) → outcome_of_tree env command tree ≡ outcome → TreeMeans env command text other → other ≡ outcome
     same outcome other is h = sym h.comes ∙ ap (outcome_of_tree env command) (one.only h.tree h.script) ∙ is
@@ -101,7 +101,7 @@ module _ (env : Env) where
       only (unparsed f) h = absurd (one.none h.tokens h.tokens_of)
       only (unbuilt p) h = absurd (one.none h.script.tokens h.script.tokens_of)
 
-  -- ---- what a function answers
+  -- ---- what a function gives
 
   module _ (command : Command) (text : List ℕ) where
     lex_refused : (fault : LexFault) → BreaksRule text fault → TextRefused env command text (end_of_lex fault)
@@ -125,7 +125,7 @@ module _ (env : Env) where
     pub fault_refused : (fault : ScriptFault) (e : End) → BreaksIn text fault → e ≡ end_of_script fault → TextRefused env command text e
     fault_refused fault e h is = subst (TextRefused env command text) (sym is) (script_refused fault h)
 
-  -- ---- what a command asks of a text's tree
+  -- ---- what a command does with a text's tree
 
   tree_refused : (command : Command) (text : List ℕ) (tree : Tree) → IsOnlyScript text tree → (e : End) → TreeRefused env command tree e → TextRefused env command text e
   tree_refused command text tree one end.Ok h = absurd h
@@ -145,7 +145,7 @@ module _ (env : Env) where
   request_given command text s (Ok r) one h = asked command text (view_script s) one r h
   request_given command text s (Err e) one h = tree_refused command text (view_script s) one e h
 
-  -- a tree that is run asks for its plan
+  -- to run a tree is to run its plan
   pub plan_asked : (words : RunWords) (tree : Tree) (plan : Plan) → form_of env tree ≡ Ok (view_plan env.titles env.answer plan) → Asks env (Run words) tree (Ok (request.Run plan))
   plan_asked words tree plan h = ap outcome_of_form h
 
@@ -163,7 +163,7 @@ module _ (env : Env) where
   plan_refused words tree end.SinkFault h = absurd h
   plan_refused words tree end.Mem h = tt
 
-  -- want of memory, or the place
+  -- a form's refusal is an unsupported construct or want of memory
   form_refused : (due : Built Form) (fault : FormFault) → Builds (view_plan env.titles env.answer) due (Err fault) → FormRefused due (end_of_form fault)
   form_refused due (form_fault.Unbuilt p) h = h
   form_refused due form_fault.Mem h = tt
@@ -171,7 +171,7 @@ module _ (env : Env) where
   pub form_ends : (due : Built Form) (fault : FormFault) (e : End) → Builds (view_plan env.titles env.answer) due (Err fault) → e ≡ end_of_form fault → Plans env due (Err e)
   form_ends due fault e h is = subst (FormRefused due) (sym is) (form_refused due fault h)
 
--- ---- over some patterns that are built
+-- ---- over some patterns that `regex` accepts
 
 module _ (titles : List (List ℕ)) (answer : ℕ → List Plain → Option Plain) where
   abbrev around : List (List ℕ) → Env
@@ -213,7 +213,7 @@ OneBreak = (text : List ℕ) (f g : LexFault) → Breaks text f → Breaks text 
 abbrev pub NeverBoth : Type 0
 NeverBoth = (text : List ℕ) (t : List Lexeme × Place) (f : LexFault) → IsTokensOf text t → Breaks text f → ⊥
 
--- the laws of the grammar: one tree; one place where tokens are unexpected, and one past a limit; and no two of these
+-- the laws of the grammar: at most one tree, one unexpected place and one too deep place, and no two of these together
 pub record Laws : Type 0 where
   pub one_unexpected : (ts : List Lexeme) (end p q : Place) → IsUnexpected ts end p → IsUnexpected ts end q → p ≡ q
   pub one_too_deep : (ts : List Lexeme) (end p q : Place) → IsTooDeep ts end p → IsTooDeep ts end q → p ≡ q

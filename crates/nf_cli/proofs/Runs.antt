@@ -1,4 +1,4 @@
--- From what a file's text comes to, to what the words come to.
+-- The outcome of a command line follows from its file's text.
 use Rattle.std.proofs.Common.{◌≡◌, ℕ, List, [], Option, Some, None, Result, Ok, Err, refl, sym, ap, ◌∙◌, subst}
 use Rattle.nf_words.specs.declared.command.Command.{Command}
 use Rattle.nf_words.specs.declared.fault.UsageFault.{UsageFault}
@@ -35,7 +35,7 @@ module _ (env : Env) (words : List (List ℕ)) (files : Files) (command : Comman
   held : (other : Command) → command_of words ≡ Ok other → files (file_of other) ≡ files (file_of command)
   held other r = ap (λ c. files (file_of c)) (one_command words other command r reads)
 
-  -- the outcome of the text that is there
+  -- only the outcome of the file's text
   only_text : (outcome : Outcome) → HasText env command (files (file_of command)) outcome → (other : Outcome) → NamesText env words files other → other ≡ outcome
   only_text outcome h other m =
       let e : m.text ≡ h.text = some_is (sym m.there ∙ held m.command m.reads ∙ h.there) in
@@ -90,7 +90,7 @@ module _ (env : Env) (words : List (List ℕ)) (files : Files) (command : Comman
   given (Ok r) h = asked r h
   given (Err e) h = refused e h
 
--- the words are wrong
+-- a wrong command line has no other outcome
 misuse : (env : Env) (words : List (List ℕ)) (files : Files) (fault : UsageFault) → command_of words ≡ Err fault → (other : Outcome) → Means env words files other → other ≡ misused fault
 misuse env words files fault e (misused f) m = ap misused (let q : ◌≡◌ {A = Result Command UsageFault} (Err f) (Err fault) = sym m ∙ e in cc)
 misuse env words files fault e absent m = absurd (no_fault words m.command fault m.reads e)
@@ -103,13 +103,13 @@ misuse env words files fault e (unbuilt p) m = absurd (no_fault words m.command 
 misuse_ends : (env : Env) (words : List (List ℕ)) (files : Files) (fault : UsageFault) → command_of words ≡ Err fault → Ended env words files [] (end.Usage fault)
 misuse_ends env words files fault e = as_due (misused fault) (record { means = e; only = misuse env words files fault e }) refl
 
--- some files, those that are told where any are
+-- some files, the host's if it reveals them
 some_files : (told : Option Files) → (files : Files) × Tells told files
 some_files None = (no_files, tt)
 some_files (Some files) = (files, refl)
 
 module _ (titles : List (List ℕ)) (answer : ℕ → List Plain → Option Plain) where
-  -- what the words give over some files, those that are told where any are
+  -- what the command line asks for over some files, the host's if it reveals them
   abbrev pub SomeFiles : Option Files → List (List ℕ) → Result Request End → Type 0
   SomeFiles told words r = (files : Files) × Tells told files × OverBuilt titles answer (λ env. Gives env words files r)
 

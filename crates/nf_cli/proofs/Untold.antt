@@ -1,4 +1,4 @@
--- What a file gives, whatever its host tells.
+-- What a command does with a file whose host may not reveal its files.
 use Rattle.std.proofs.Common.{◌≡◌, ℕ, ◌+◌, ◌<◌, List, length, replicate, Option, Some, None, Result, Ok, Err, IfSome, refl, sym, subst, arith}
 use Rattle.std.proofs.lemmas.List.{length-replicate}
 use Rattle.nf_host.specs.Files.{Files}
@@ -53,7 +53,7 @@ long_file env command None h = absurd (let e : whole.TooLong ≡ whole.Absent = 
 long_file env command (Some text) h = too_long env command text h
 
 module _ (titles : List (List ℕ)) (answer : ℕ → List Plain → Option Plain) where
-  -- what a file that may be told gives
+  -- what a command does with some file, the host's if it reveals its files
   abbrev pub SomeFile : Command → Option Files → List ℕ → Result Request End → Type 0
   SomeFile command told path r = (held : Option (List ℕ)) × TellsAt told path held × OverBuilt titles answer (λ env. FileGives env command held r)
 

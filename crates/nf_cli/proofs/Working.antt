@@ -1,4 +1,4 @@
--- What was run before the writing.
+-- What a call runs, and the output or end that this gives.
 use Rattle.std.proofs.Common.{◌≡◌, ◌++◌, ℕ, List, [], Option, Result, Ok, Err, refl, sym, ap, ◌∙◌, subst}
 use Rattle.nf_value.specs.Plain.{Plain}
 use Rattle.nf_job.specs.declared.report.Report.{Report}
@@ -34,7 +34,7 @@ never_run env command file text form is h = let e : formats h.tree ≡ runs form
 no_run : (env : Env) (words : List (List ℕ)) (files : Files) (file : List ℕ) (form : Form) → Formats words file → Means env words files (runs form) → ⊥
 no_run env words files file form formats_it m = never_run env m.command file m.text form (one_command words m.command (fmt file) m.reads formats_it) m.means
 
--- the canonical text, or the end for want of memory
+-- formatting gives the canonical text, or Mem
 text_gives : (tree : Tree) (h : List Event) (r : Result Output End) → IsTextOrEnd tree r → OutcomeGives (formats tree) h r
 text_gives tree h (Ok o) is = is
 text_gives tree h (Err e) is = subst (λ e. OutcomeGives (formats tree) h (Err e)) (sym is) tt
@@ -76,7 +76,7 @@ module _ {L D : Type 0} (Genuine : D → Type 0) (job_of : D → List ℕ) (repo
         gives = work_gives env words files (outcome_of env.titles env.answer q) h r is done.gives;
       }
 
-  -- the words of `fmt` don't ask for a run
+  -- `fmt FILE` asks for no run
   pub fmt_idles : (env : Env) (words : List (List ℕ)) (files : Files) (q : Request) (h : List Event) (kept : List D) (old new : List L) (r : Result Output End) → Gives env words files (Ok q)
       → HasDone Genuine job_of report_by number run_count world (outcome_of env.titles env.answer q) h kept old new r → FmtRunsNothing words h kept old new
   fmt_idles env words files (request.Run plan) h kept old new r is done file formats_it = absurd (no_run env words files file (view_plan env.titles env.answer plan) formats_it is.means)

@@ -1,4 +1,4 @@
--- What two writes, or one, leave in a sink that may tell it.
+-- What one or two writes leave in a sink.
 use Rattle.std.proofs.Common.{◌≡◌, ◌≢◌, ℕ, suc, true, false, ◌+◌, List, [], ◌∷◌, ◌++◌, length, take, Option, Some, None, Result, Ok, Err, IsSome, IfSome, OnOk, OnErr, ◌↔◌, ◌⊎◌, inl, inr, refl, sym, ap, ◌∙◌, subst, arith, append_assoc, length-append}
 use Rattle.nf_host.specs.Sink.{GrowsByFront}
 use Rattle.nf_host.specs.declared.sink.SinkFailed.{SinkFailed}
@@ -8,7 +8,7 @@ use Rattle.nf_cli.specs.Ends.{error_line}
 use Rattle.nf_cli.specs.Due.{WroteLine}
 use Rattle.nf_cli.specs.Work.{IsRefusal, IsKept}
 
--- both tell what they hold, and it stands so, or one of them doesn't tell
+-- P holds of the bytes before and after, if the sink reveals both
 abbrev pub Grew : Option (List ℕ) → Option (List ℕ) → (List ℕ → List ℕ → Type 0) → Type 0
 Grew old new P = IfSome old (λ before. IfSome new (λ after. P before after))
 

@@ -21,6 +21,7 @@ use Rattle.nf_cli.specs.declared.ends.End.TheVariants as end
 use Rattle.nf_cli.specs.declared.ends.ItemCause.{ItemCause}
 use Rattle.nf_cli.specs.declared.ends.ItemCause.TheVariants.{Eval}
 
+-- the program's exit status
 abbrev pub status_of : End → ℕ
 status_of end.Ok = 0
 status_of (end.TaskFailed p i n f) = 1
@@ -54,6 +55,7 @@ parse_text (parse.Unexpected p) = placed p (codes "Unexpected")
 parse_text (parse.TooDeep p) = placed p (codes "TooDeep")
 parse_text parse.Mem = codes "Mem"
 
+-- an end without `error: ` and the line end
 abbrev pub end_text : End → List ℕ
 end_text (end.TaskFailed p i n f) = task_text p i n f
 end_text (end.ItemFault p c) = placed p (cause_text c)
@@ -66,11 +68,11 @@ end_text end.HostFault = codes "HostFault"
 end_text end.LaneFault = codes "LaneFault"
 end_text _ = []
 
--- the line that is written, after each end but Ok, SinkFault and Mem
+-- the line that each end but Ok, SinkFault and Mem writes
 abbrev pub error_line : End → List ℕ
 error_line e = codes "error: " ++ end_text e ++ codes "\n"
 
--- want of memory has an end of its own
+-- a fault as an end: out of memory is always `Mem`
 abbrev pub end_of_usage : UsageFault → End
 end_of_usage usage.Mem = end.Mem
 end_of_usage fault = end.Usage fault

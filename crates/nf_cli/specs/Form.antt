@@ -1,4 +1,4 @@
--- What a text is.
+-- Which tree a text spells, or why it spells none.
 use Rattle.std.specs.Prelude.{ℕ, List}
 use Rattle.nf_value.specs.declared.place.Place.{Place}
 use Rattle.nf_ast.specs.Tree.{Tree}
@@ -14,13 +14,13 @@ pub record IsScript (text : List ℕ) (tree : Tree) : Type 0 where
   pub tokens_of : IsTokensOf text tokens
   pub spelled : Spells tokens.0 tree
 
--- tokens that spell no script, and why; the text ends at the place
+-- the tokens spell no script, for this reason; the text ends at the place
 abbrev pub SpellNone : List Lexeme → Place → ParseFault → Type 0
 SpellNone ts end (parse.Unexpected p) = IsUnexpected ts end p
 SpellNone ts end (parse.TooDeep p) = IsTooDeep ts end p
 SpellNone ts end parse.Mem = ⊥
 
--- the text's tokens spell no script
+-- the text has tokens, and they spell no script, for this reason
 pub record BreaksOff (text : List ℕ) (fault : ParseFault) : Type 0 where
   pub tokens : List Lexeme × Place
   pub tokens_of : IsTokensOf text tokens

@@ -1,4 +1,4 @@
--- What a command line over files comes to.
+-- The outcomes of a command line over files.
 use Rattle.nf_value.specs.declared.place.Place.{Place}
 use Rattle.nf_ast.specs.Tree.{Tree}
 use Rattle.nf_lexer.specs.declared.fault.LexFault.{LexFault}
@@ -9,15 +9,15 @@ use Rattle.nf_forms.specs.Form.{Form}
 pub data Outcome : Type 0 where
   -- a script of this form is run
   runs : Form → Outcome
-  -- a script with this tree is written in its canonical text
+  -- the canonical text of this tree is written
   formats : Tree → Outcome
-  -- the words are wrong
+  -- the command line is wrong
   misused : UsageFault → Outcome
-  -- the script isn't there
+  -- the script's file doesn't exist
   absent : Outcome
-  -- the script breaks a rule of the tokens, this one first
+  -- the text breaks this rule of the tokens first
   unlexed : LexFault → Outcome
-  -- the script's tokens spell none
+  -- the tokens spell no script
   unparsed : ParseFault → Outcome
-  -- the script isn't of a form that is built
+  -- `run` doesn't support the script; the place of its first unsupported construct
   unbuilt : Place → Outcome

@@ -1,4 +1,4 @@
--- What reading a script's text answers.
+-- What reading a script's text gives.
 use Rattle.std.specs.Prelude.{◌≡◌, ℕ, List, Option, Result, Ok, Err}
 use Rattle.nf_value.specs.Plain.{Plain}
 use Rattle.nf_value.specs.declared.place.Place.{Place}
@@ -30,29 +30,32 @@ use Rattle.nf_cli.specs.Form.{IsScript, BreaksOff}
 use Rattle.nf_cli.specs.Outcome.{Outcome, runs, formats, unbuilt}
 use Rattle.nf_cli.specs.Means.{outcome_of_tree}
 
+-- the text spells this tree, no other, and has no fault
 pub record IsOnlyScript (text : List ℕ) (tree : Tree) : Type 0 where
   pub is : IsScript text tree
   pub only : (other : Tree) → IsScript text other → other ≡ tree
   pub whole : (fault : ParseFault) → BreaksOff text fault → ⊥
   pub lexed : (fault : LexFault) → Breaks text fault → ⊥
 
+-- the text's tokens spell no script for this reason alone
 pub record IsOnlyBreak (text : List ℕ) (fault : ParseFault) : Type 0 where
   pub is : BreaksOff text fault
   pub only : (other : ParseFault) → BreaksOff text other → other ≡ fault
   pub none : (tree : Tree) → IsScript text tree → ⊥
   pub lexed : (other : LexFault) → Breaks text other → ⊥
 
+-- the text breaks this rule of the tokens, no other first, and has no tokens
 pub record IsOnlyFault (text : List ℕ) (fault : LexFault) : Type 0 where
   pub is : Breaks text fault
   pub only : (other : LexFault) → Breaks text other → other ≡ fault
   pub none : (tokens : List Lexeme × Place) → IsTokensOf text tokens → ⊥
 
--- the one rule that the text breaks first, unless memory ran out
+-- the text breaks this rule first, unless memory ran out
 abbrev pub BreaksRule : List ℕ → LexFault → Type 0
 BreaksRule text lex.Mem = Unit {0}
 BreaksRule text fault = IsOnlyFault text fault
 
--- the one reason why its tokens spell no script, unless memory ran out
+-- its tokens spell no script for this reason, unless memory ran out
 abbrev pub SpellsNone : List ℕ → ParseFault → Type 0
 SpellsNone text parse.Mem = Unit {0}
 SpellsNone text fault = IsOnlyBreak text fault
@@ -61,7 +64,7 @@ abbrev pub BreaksIn : List ℕ → ScriptFault → Type 0
 BreaksIn text (Lex fault) = BreaksRule text fault
 BreaksIn text (Parse fault) = SpellsNone text fault
 
--- the one tree of the text, or the one rule or place where it breaks, unless memory ran out
+-- the text's one tree, or its one fault, unless memory ran out
 abbrev pub ReadsScript : List ℕ → Result Script ScriptFault → Type 0
 ReadsScript text (Ok s) = IsOnlyScript text (view_script s)
 ReadsScript text (Err e) = BreaksIn text e
@@ -76,7 +79,7 @@ abbrev pub end_of_form : FormFault → End
 end_of_form (form_fault.Unbuilt place) = end.Unbuilt place
 end_of_form form_fault.Mem = end.Mem
 
--- why a tree has no plan: where it is of no form, or want of memory
+-- why a tree has no plan: it has no form, or memory ran out
 abbrev pub FormRefused : Built Form → End → Type 0
 FormRefused due (end.Unbuilt place) = due ≡ Err place
 FormRefused due end.Mem = Unit {0}
@@ -87,20 +90,20 @@ abbrev pub Plans : Env → Built Form → Result Plan End → Type 0
 Plans env due (Ok p) = due ≡ Ok (view_plan env.titles env.answer p)
 Plans env due (Err e) = FormRefused due e
 
--- ---- what a command asks of a tree
+-- ---- what a command does with a tree
 
--- the outcome that a request is, over the names and answers of the program's functions
+-- a request as an outcome; titles and answer are the names and results of the program's functions
 abbrev pub outcome_of : List (List ℕ) → (ℕ → List Plain → Option Plain) → Request → Outcome
 outcome_of titles answer (request.Run plan) = runs (view_plan titles answer plan)
 outcome_of titles answer (request.Format script) = formats (view_script script)
 
--- why a command asks nothing of a tree: there is a place of what isn't built, or want of memory
+-- why a command refuses a tree: an unsupported construct, or memory ran out
 abbrev pub TreeRefused : Env → Command → Tree → End → Type 0
 TreeRefused env command tree (end.Unbuilt place) = outcome_of_tree env command tree ≡ unbuilt place
 TreeRefused env command tree end.Mem = Unit {0}
 TreeRefused env command tree _ = ⊥
 
--- what a command asks of a tree, or why it asks nothing
+-- what a command does with a tree, or why it refuses it
 abbrev pub Asks : Env → Command → Tree → Result Request End → Type 0
 Asks env command tree (Ok r) = outcome_of_tree env command tree ≡ outcome_of env.titles env.answer r
 Asks env command tree (Err e) = TreeRefused env command tree e

@@ -1,4 +1,4 @@
--- What the steps of a call answer before anything is written.
+-- What each step of a call gives, up to the writing.
 use Rattle.std.specs.Prelude.{◌≡◌, ℕ, List, [], ◌++◌, Option, Some, None, Result, Ok, Err}
 use Rattle.nf_value.specs.Plain.{Plain}
 use Rattle.nf_host.specs.Files.{Files}
@@ -28,7 +28,7 @@ use Rattle.nf_cli.specs.Due.{Ended, MayEnd, RanTasks}
 
 -- ---- up to the script
 
--- why nothing is asked of a text: its own outcome, or want of memory
+-- why a text is refused: its outcome, or memory ran out
 abbrev pub TextRefused : Env → Command → List ℕ → End → Type 0
 TextRefused env command text (end.Lex fault) = IsTextOutcome env command text (unlexed fault)
 TextRefused env command text (end.Parse fault) = IsTextOutcome env command text (unparsed fault)
@@ -36,18 +36,18 @@ TextRefused env command text (end.Unbuilt place) = IsTextOutcome env command tex
 TextRefused env command text end.Mem = Unit {0}
 TextRefused env command text _ = ⊥
 
--- what a command asks of a text, or why it asks nothing
+-- what a command does with a text, or why it refuses it
 abbrev pub TextGives : Env → Command → List ℕ → Result Request End → Type 0
 TextGives env command text (Ok r) = IsTextOutcome env command text (outcome_of env.titles env.answer r)
 TextGives env command text (Err e) = TextRefused env command text e
 
--- the file is there, and its text comes to this
+-- the file exists, and its text has this outcome
 pub record HasText (env : Env) (command : Command) (file : Option (List ℕ)) (outcome : Outcome) : Type 0 where
   pub text : List ℕ
   pub there : file ≡ Some text
   pub comes : IsTextOutcome env command text outcome
 
--- why nothing is asked of a file: it isn't there, its text's own outcome, an outside fault, or want of memory
+-- why a file is refused: it doesn't exist, its text is refused, the host failed, or memory ran out
 abbrev pub FileRefused : Env → Command → Option (List ℕ) → End → Type 0
 FileRefused env command file end.NoScript = file ≡ None
 FileRefused env command file (end.Lex fault) = HasText env command file (unlexed fault)
@@ -57,22 +57,22 @@ FileRefused env command file end.HostFault = Unit {0}
 FileRefused env command file end.Mem = Unit {0}
 FileRefused env command file _ = ⊥
 
--- what a command asks of a file, or why it asks nothing
+-- what a command does with a file, or why it refuses it
 abbrev pub FileGives : Env → Command → Option (List ℕ) → Result Request End → Type 0
 FileGives env command file (Ok r) = HasText env command file (outcome_of env.titles env.answer r)
 FileGives env command file (Err e) = FileRefused env command file e
 
--- this is what the host tells of the path, where it tells its files
+-- this is the host's file at the path, if it reveals its files
 abbrev pub TellsAt : Option Files → List ℕ → Option (List ℕ) → Type 0
 TellsAt None path file = Unit {0}
 TellsAt (Some told) path file = file ≡ told path
 
--- what the words ask for over the files, or how the call ends
+-- what the command line asks for over the files, or how the call ends
 abbrev pub Gives : Env → List (List ℕ) → Files → Result Request End → Type 0
 Gives env words files (Ok r) = IsOutcome env words files (outcome_of env.titles env.answer r)
 Gives env words files (Err e) = Ended env words files [] e
 
--- an end before anything is written
+-- an end that writes its error line or nothing
 abbrev pub IsRefusal : End → Type 0
 IsRefusal end.Ok = ⊥
 IsRefusal end.SinkFault = ⊥
@@ -98,7 +98,7 @@ abbrev pub output_text : Output → List ℕ
 output_text (out.Report report line) = report ++ line
 output_text (out.Text text) = text.items
 
--- of what the view got, or why it got nothing: what is written, or how the call ends
+-- from what the view got, or why it got nothing: what is written, or how the call ends
 abbrev pub IsOutputOrEnd : Result (List Plain) RunFault → List Event → Result Output End → Type 0
 IsOutputOrEnd (Ok items) h (Ok o) = output_text o ≡ report_of items ++ summary (starts h)
 IsOutputOrEnd (Ok items) h (Err e) = e ≡ end.Mem
@@ -115,35 +115,35 @@ pub record IsReported (form : Form) (h : List Event) (o : Output) : Type 0 where
   pub well : WentWell form h
   pub output : output_text o ≡ report_of (meant form h).viewed ++ summary (starts h)
 
--- this is to be written with this outcome
+-- this is the output of this outcome
 abbrev pub IsDue : Outcome → List Event → Output → Type 0
 IsDue (runs form) h o = IsReported form h o
 IsDue (formats tree) h o = output_text o ≡ canonical tree
 IsDue _ h o = ⊥
 
--- what a call with this outcome gives to be written, or how it ends
+-- the output of this outcome, or how the call ends
 abbrev pub OutcomeGives : Outcome → List Event → Result Output End → Type 0
 OutcomeGives outcome h (Ok o) = IsDue outcome h o
 OutcomeGives outcome h (Err e) = MayEnd outcome h e
 
--- what a call with this outcome runs, and what it gives to be written
+-- what a call with this outcome runs, and its output
 pub record HasDone {L D : Type 0} (Genuine : D → Type 0) (job_of : D → List ℕ) (report_by : D → Report) (number : D → ℕ) (run_count : L → ℕ) (world : L → Option World) (outcome : Outcome) (h : List Event) (kept : List D) (old new : List L) (r : Result Output End) : Type 0 where
   pub ran : RanTasks Genuine job_of report_by number run_count world outcome h kept old new
   pub gives : OutcomeGives outcome h r
 
--- what is to be written, or how the call ends
+-- the output, or how the call ends
 abbrev pub WorkGives : Env → List (List ℕ) → Files → List Event → Result Output End → Type 0
 WorkGives env words files h (Ok o) = (outcome : Outcome) × IsOutcome env words files outcome × IsDue outcome h o
 WorkGives env words files h (Err e) = Ended env words files h e
 
--- all that comes before the writing
+-- the call up to its writing
 pub record HasWorked {L D : Type 0} (env : Env) (Genuine : D → Type 0) (job_of : D → List ℕ) (report_by : D → Report) (number : D → ℕ) (run_count : L → ℕ) (world : L → Option World) (words : List (List ℕ)) (files : Files) (h : List Event) (kept : List D) (old new : List L) (r : Result Output End) : Type 0 where
   pub ran : (outcome : Outcome) → Means env words files outcome → RanTasks Genuine job_of report_by number run_count world outcome h kept old new
   pub gives : WorkGives env words files h r
 
 -- ---- the writing
 
--- the end stays, or memory ran out for its line
+-- the end stays, or becomes `Mem` if there is no memory for its line
 abbrev pub IsKept : End → End → Type 0
 IsKept before end.Mem = Unit {0}
 IsKept before after = after ≡ before
@@ -154,7 +154,7 @@ IsWritten end.Ok = Unit {0}
 IsWritten end.SinkFault = Unit {0}
 IsWritten _ = ⊥
 
--- how a call ends that has an output, or an end already
+-- how a call ends by what it had to write: an output, or an error line
 abbrev pub EndsAs : Result Output End → End → Type 0
 EndsAs (Ok o) e = IsWritten e
 EndsAs (Err before) e = IsKept before e

@@ -1,4 +1,4 @@
-//! How a call ends.
+//! How a call of the program ends: its outcome, its status and what it gives back.
 
 ghost use Rattle.std.specs.Prelude.{◌≡◌};
 ghost use Rattle.nf_cli.specs.Ends.{status_of};
@@ -14,70 +14,69 @@ use nf_words::UsageFault;
 /// How a call ended (own).
 #[derive(Drop)]
 pub enum End {
-    /// All was written.
+    /// The output was written whole.
     Ok,
-    /// A task failed: that of these inputs at this call of a process. `n` counts from 0 the tasks of equal inputs that
-    /// were taken before.
+    /// A task of `process` failed with these inputs. `n` is how many tasks with equal inputs were taken before it, from 0.
     TaskFailed {
         process: Txt,
         inputs: Vals,
         n: u32,
         fault: TaskFault,
     },
-    /// An item has a fault: the first item in the text that has one, with its first fault. `place` is that of the
-    /// operator's mark.
+    /// `map`'s closure fails on an item: the first such item in the text, with its fault. `place` is where the operator or
+    /// name that failed stands.
     ItemFault {
         place: Place,
         fault: ItemCause,
     },
-    /// The words aren't a command line.
+    /// The command line is wrong.
     Usage(UsageFault),
-    /// The script isn't there.
+    /// The script's file doesn't exist.
     NoScript,
-    /// The text breaks a rule of the tokens: the first that is broken, at its place.
+    /// The text has no tokens: the first rule of the tokens that it breaks.
     Lex(LexFault),
-    /// The text's tokens spell no script: `Unexpected` with the place of the first token that no reading of a script goes on with, or of
-    /// the text's end; `TooDeep` with that of the first token past a limit.
+    /// The tokens spell no script. `Unexpected` has the place of the first token that can't follow those before it, or of
+    /// the text's end; `TooDeep` that of the first token past a limit.
     Parse(ParseFault),
-    /// The script isn't of a form that is built. `place` is the first, in the order of the text, of what isn't built.
+    /// `run` doesn't support this script yet. `place` is that of its first unsupported construct.
     Unbuilt {
         place: Place,
     },
-    /// The host failed.
+    /// The host failed: the script's file couldn't be read.
     HostFault,
     /// A lane failed: a task couldn't be started, or what it wrote couldn't be read.
     LaneFault,
-    /// The sink failed.
+    /// The sink failed: the output couldn't be written whole.
     SinkFault,
-    /// Want of memory. Nothing was written.
+    /// Out of memory. Nothing was written.
     Mem,
 }
 
 /// What is wrong with an item.
 #[derive(Drop)]
 pub enum ItemCause {
-    /// An evaluation with this item has a fault.
+    /// The evaluation of `map`'s closure on this item fails.
     Eval { item: Value, fault: EvalFault },
 }
 
-/// What a call leaves.
+/// What `nf_main` gives back.
 #[derive(Drop)]
 pub struct NfEnd<L: Lane> {
-    /// The status with which the program ends: 0 where all went well, 1 for a fault of the run, 2 for the words, 3 for the
-    /// script, 4 for what is outside of the program, 5 for want of memory (own).
+    /// The program's exit status: 0 if all went well, 1 if a task or an item failed, 2 for a wrong command line, 3 for the
+    /// script, 4 if the host, a lane or the sink failed, 5 if memory ran out (own).
     pub status: u8,
     /// How the call ended.
     pub end: End,
-    /// All events of the run, in their order; none where no task was taken.
+    /// The run's events in order. Empty if no task was taken.
     pub history: Vec<Event>,
     /// The jobs that were run, in the order of their Finish events.
     pub kept: Kept<L>,
-    /// All lanes that were handed in, in their order.
+    /// The lanes that `nf_main` was given, in the same order.
     pub lanes: Vec<L>,
 }
 
 impl End {
-    /// The status with which the program ends.
+    /// The program's exit status, as `NfEnd::status` lists them.
     pub fn status(&self) -> u8
         ensures { result ≡ status_of self.now }
     {

@@ -1,4 +1,4 @@
-//! The call that the program makes: from its words to the lines it writes and its status.
+//! The program as one function, `nf_main`: from the command line to what is written and the exit status.
 #![tactic(auto)]
 
 mod ends;

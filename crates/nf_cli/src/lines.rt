@@ -1,4 +1,4 @@
-//! The lines of text that a call writes.
+//! The error line that a failed call writes.
 
 ghost use Rattle.std.specs.Prelude.{◌≡◌, IfOk, string_bytes};
 ghost use Rattle.nf_cli.specs.Ends.{cause_text, end_text, parse_text, placed, task_text, error_line as error_line_of};
@@ -9,11 +9,11 @@ use nf_parser::ParseFault;
 use nf_value::{Mem, Place, Txt, Vals, Value, text_of};
 use std::alloc::Global;
 
-/// The error line of an end.
+/// The error line of an end: `error: `, the end's text, a line end (own).
 ///
 /// # Errors
 ///
-/// `Mem` where there is no memory for it.
+/// `Mem` if there is no memory for it.
 pub fn error_line(alloc: Global, end: &End) -> Result<String, Mem>
     ensures { IfOk result (λ s. string_bytes s ≡ error_line_of end.now) }
 {

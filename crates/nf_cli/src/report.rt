@@ -9,12 +9,12 @@ use nf_bag::sorted;
 use nf_value::{Mem, Txt, Vals, Value, text_of};
 use std::alloc::Global;
 
-/// The report of the items of one `view`: in the order of values, one text a line (own: the order; Nextflow
+/// The report of one `view`: its items sorted in the order of values, each on a line of its own (own: the order; Nextflow
 /// reference documentation, "Operators", `view`).
 ///
 /// # Errors
 ///
-/// `Mem` where there is no memory for it.
+/// `Mem` if there is no memory for it.
 #[tactic(auto, unfolding(crate::specs::Report::report_of))]
 pub fn report(alloc: Global, items: Vals) -> Result<Txt, Mem>
     ensures { IfOk result (λ t. t ≡ report_of items) }

@@ -1,4 +1,4 @@
-//! From the words to what they ask of the script that they name.
+//! Reads the command line and the file that it names, and finds out what is to be done with the script.
 
 ghost use Rattle.std.specs.Prelude.{◌≡◌, ℕ, ◌≤◌, List, IfErr, map, string_bytes};
 ghost use Rattle.std.specs.declared.option.Option.{Option};
@@ -18,14 +18,14 @@ use nf_lexer::LexFault;
 use nf_words::{Command, UsageFault, read_words};
 use std::alloc::Global;
 
-/// The most bytes of a script (own).
+/// The longest script that is read, in bytes (own).
 pub const SCRIPT_LIMIT: u64 = 1_048_576;
 
-/// What a command line asks for, over the files of a host.
+/// What a command line asks for: a plan to run or a script to format. Reads the script's file by the host.
 ///
 /// # Errors
 ///
-/// The end of a call that has no such script.
+/// The end of a call whose command line, file or script is refused.
 pub fn request_of_words<H: Host, N: Natives>(
     alloc: Global,
     words: &[String],
@@ -45,7 +45,7 @@ pub fn request_of_words<H: Host, N: Natives>(
     }
 }
 
-/// What a command asks for.
+/// The same of a command that was read.
 fn request_of_command<H: Host, N: Natives>(
     alloc: Global,
     command: &Command,
@@ -74,7 +74,7 @@ fn usage_end(fault: UsageFault) -> End
     }
 }
 
-/// What a command asks of the script of a file.
+/// The same with the path of the command's file.
 fn request_of_file<H: Host, N: Natives>(
     alloc: Global,
     command: &Command,

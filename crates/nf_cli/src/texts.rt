@@ -1,4 +1,4 @@
-//! What a command asks of a text.
+//! From a script's text to what a command does with it.
 
 ghost use Rattle.std.specs.Prelude.{◌≡◌};
 ghost use Rattle.nf_ast.specs.Tops.{view_script};
@@ -17,12 +17,12 @@ use nf_parser::{ParseFault, script};
 use nf_words::Command;
 use std::alloc::Global;
 
-/// What a command asks for, with what it needs of the script.
+/// What is to be done.
 #[derive(Drop)]
 pub enum Request {
-    /// To run this plan.
+    /// Run this plan.
     Run(Plan),
-    /// To write the canonical text of this script.
+    /// Write the canonical text of this script.
     Format(Script),
 }
 
@@ -30,17 +30,17 @@ pub enum Request {
 pub enum ScriptFault {
     /// It breaks a rule of the tokens.
     Lex(LexFault),
-    /// Its tokens spell no tree.
+    /// Its tokens spell no script.
     Parse(ParseFault),
 }
 
-/// What a command asks of the script of a text. To run a script it needs a form that is built; `fmt` takes any script.
+/// What a command does with the script of a text. `run` supports two forms of script so far; `fmt` takes every script.
 ///
 /// # Errors
 ///
-/// `Lex` exactly where the text breaks a rule of the tokens, with the first that is broken; `Parse` exactly where its tokens spell no
-/// script, with the place; `Unbuilt` exactly where its script is to be run and is of no form that is built, with the place; `Mem` where
-/// there is no memory.
+/// `Lex` exactly if the text breaks a rule of the tokens, with the first such rule; `Parse` exactly if its tokens spell no
+/// script, with the place; `Unbuilt` exactly if `run` doesn't support the script, with the place of its first unsupported
+/// construct. `Mem` if there is no memory.
 pub fn request_of_text<N: Natives>(
     alloc: Global,
     command: &Command,
@@ -78,7 +78,7 @@ fn read_script(alloc: Global, text: &[u8]) -> Result<Script, ScriptFault>
     }
 }
 
-/// What a command asks of a script.
+/// What a command does with a script.
 fn request_of_script<N: Natives>(
     alloc: Global,
     command: &Command,

@@ -1,4 +1,4 @@
-//! The call that the program makes.
+//! `nf_main`, the whole program over the traits of what lies outside it.
 
 ghost use Rattle.std.specs.Prelude.{◌≡◌, ℕ, ◌+◌, ◌<◌, ◌≤◌, ◌^◌, ◌↔◌, All, IsSome, IfSome, length, map, sum_by, string_bytes};
 ghost use Rattle.nf_host.specs.Faults.{Rose};
@@ -17,21 +17,23 @@ use nf_host::{Host, Sink};
 use nf_lane::Lane;
 use std::alloc::Global;
 
-/// How many lanes a call takes (own).
+/// How many lanes `nf_main` takes (own).
 pub const LANES: usize = 16;
 
-/// Does what a command line asks for: reads the script by the host, runs its tasks on the lanes, and writes to the sink the
-/// report and the summary line, or one error line. Words are those after the program's name. There are 16 lanes, which come
-/// back whatever happens; tasks run on the first of them, one after another in the order of the items.
+/// Does what a command line asks for. `words` are those after the program's name.
 ///
-/// `fmt` runs nothing: it writes the canonical text of the script in one write, and of an empty text nothing. It takes each script
-/// of the language, also where `run` doesn't.
+/// `run FILE` reads the script by the host, runs its tasks on the lanes, and writes the report and a summary line to the
+/// sink, or one error line. There are 16 lanes, and all are given back. The tasks run on the first one, one after another
+/// in the order of the items.
 ///
-/// The functions that the program adds to the language of scripts are handed in: a script's expressions find these and no other names.
+/// `fmt FILE` runs nothing. It writes the script's canonical text in one write, and nothing if that text is empty. It takes
+/// every script of the language, also those that `run` doesn't support.
 ///
-/// What is said of a script stands over the files that the host tells, and over some files where it tells none, and over some patterns that `regex` built: which it refuses for their size no contract says; what is said
-/// of written bytes stands where the sink tells them, and that a report is the lane's world's where the lane tells it. Want
-/// of memory may end any call (`End::Mem`); then nothing was written.
+/// `natives` are the functions that the program adds to the language. A script's expressions find these and no other names.
+///
+/// If the host reveals its files, the contract is about those; otherwise about some files. It assumes some set of patterns
+/// that `regex` accepts: no contract says which ones `regex` refuses for their size. Written bytes are described if the sink
+/// reveals them, and the tasks' reports if the lane reveals its world. Any call may end by `End::Mem`; then it wrote nothing.
 pub fn nf_main<H: Host, N: Natives, L: Lane, O: Sink>(
     alloc: Global,
     words: &[String],
@@ -44,28 +46,28 @@ pub fn nf_main<H: Host, N: Natives, L: Lane, O: Sink>(
     requires lanes { length lanes.items ≡ 16 }
     requires room { All (λ l. L.runs l < 2 ^ 62) lanes.items }
 
-    // The status is that of the end.
+    // The status is the end's.
     ensures status { result.status ≡ status_of result.end }
 
-    // There are files, those of the host where it tells them, and patterns that `regex` built, over which the call ends, runs and writes as is due:
-    // the end is that of the words over the files and of the history's outcomes, and has its cause; whatever they come to is
-    // how the call ends, unless the host failed or memory ran out; the history is lawful, each Start has one run of a lane and
-    // each Finish a job of its own that was run, with its report; a stop of the history is the end; and what was written is
-    // the report of what the script means under the history's outcomes, with the count of its Start events, or, of `fmt`, the
-    // canonical text of the tree that its tokens spell.
+    // For the host's files and some patterns that `regex` accepts (`EndsOver`):
+    // - The end follows from the command line, the files and the history. Each end has its cause, and each cause its end,
+    //   unless the host failed or memory ran out.
+    // - The history is lawful. Each Start is one run of a lane; each Finish has a job of its own that was run, and its report.
+    // - If the history stops, the call ends by that stop.
+    // - What was written is the report of what the script means under the history's outcomes, and the count of its Start
+    //   events; or, for `fmt`, the canonical text of the tree that the script's tokens spell.
     ensures over { (f : Files) × Tells (H.files host.old) f × OverBuilt (N.titles natives.now) (N.answer natives.now) (λ env. EndsOver env L.Done.genuine L.Done.job L.Done.told L.Done.number L.runs L.world (map string_bytes words.now) f result.history.items result.kept.dones.items lanes.items result.lanes.items (O.written out.old) (O.written out.new) result.end) }
-    // After each end but Ok, SinkFault and Mem its error line was written, or a front of it where the sink failed; after Mem
-    // nothing.
+    // Every end but Ok, SinkFault and Mem writes its error line, or the front of it if the sink failed. Mem writes nothing.
     ensures line { IfSome (O.written out.old) (λ before. IfSome (O.written out.new) (λ after. WroteLine result.end (Rose (O.faults out.old) (O.faults out.new)) before after)) }
 
-    // Whatever the files hold and however the call ends, `fmt` runs nothing, and the lanes come back as they were.
+    // `fmt` runs nothing: no event, no job, and the lanes are unchanged.
     ensures idle { FmtRunsNothing (map string_bytes words.now) result.history.items result.kept.dones.items lanes.items result.lanes.items }
 
-    // The lanes ran as often as tasks were started, and tell what they told.
+    // The lanes ran once for each Start, and reveal what they revealed before.
     ensures runs { sum_by L.runs result.lanes.items ≡ sum_by L.runs lanes.items + starts result.history.items }
     ensures worlds { map L.world result.lanes.items ≡ map L.world lanes.items }
 
-    // Outside faults are counted.
+    // An end that blames the host, a lane or the sink has a fault counted there. No count falls.
     ensures host_fault { OnHostFault result.end (Rose (H.faults host.old) (H.faults host.new)) }
     ensures lane_fault { OnLaneFault result.end (OneRose L.faults lanes.items result.lanes.items) }
     ensures sink_fault { OnSinkFault result.end (Rose (O.faults out.old) (O.faults out.new)) }
@@ -73,7 +75,7 @@ pub fn nf_main<H: Host, N: Natives, L: Lane, O: Sink>(
     ensures lanes_later { NoneFell L.faults lanes.items result.lanes.items }
     ensures sink_later { O.faults out.old ≤ O.faults out.new }
 
-    // The host keeps its files, and the sink tells what it told.
+    // The host's files are unchanged. The sink reveals its bytes exactly if it did before.
     ensures files { H.files host.new ≡ H.files host.old }
     ensures told { IsSome (O.written out.new) ↔ IsSome (O.written out.old) }
 {

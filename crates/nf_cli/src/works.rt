@@ -1,4 +1,4 @@
-//! All that comes before the writing: the script, its run, and the text of its report, or its canonical text.
+//! A call up to its writing: reads the script, runs or formats it, and makes the texts to be written.
 
 ghost use Rattle.std.specs.Prelude.{◌≡◌, ◌+◌, ◌<◌, ◌≤◌, ◌^◌, [], ◌++◌, length, map, sum_by, string_bytes, All, IfOk, IfErr, Err};
 ghost use Rattle.nf_host.specs.Faults.{Rose};
@@ -29,27 +29,27 @@ use nf_run::{Ran, RunFault, laws, run_plan, starts};
 use nf_value::{Mem, Txt, Vals};
 use std::alloc::Global;
 
-/// What a call that goes well writes.
+/// What a successful call writes.
 #[derive(Drop)]
 pub enum Output {
-    /// Of a run: its report, and the line after it with its line end.
+    /// Of `run`: the report, then the summary line with its line end.
     Report { report: Txt, summary: Txt },
-    /// Of a script that is formatted: its canonical text.
+    /// Of `fmt`: the script's canonical text.
     Text(Vec<u8>),
 }
 
-/// What a call comes to before it writes.
+/// What a call has done before it writes.
 #[derive(Drop)]
 pub struct Work<L: Lane> {
-    /// All events, in their order.
+    /// The run's events in order.
     pub history: Vec<Event>,
     /// The jobs that were run, in the order of their Finish events.
     pub kept: Kept<L>,
-    /// What is to be written, or how the call ends.
+    /// What is to be written, or how the call failed.
     pub outcome: Result<Output, End>,
 }
 
-/// Reads the script that the words name, does over the lanes what they ask of it, and makes the texts to be written.
+/// Reads the script, runs or formats it, and makes the texts to be written.
 pub fn work_of_words<H: Host, N: Natives, L: Lane>(
     alloc: Global,
     words: &[String],
@@ -78,7 +78,7 @@ pub fn work_of_words<H: Host, N: Natives, L: Lane>(
     }
 }
 
-/// Nothing was run, and this is to be written, or the call ends so.
+/// The work of a call that ran nothing.
 fn nothing_ran<L: Lane>(alloc: Global, outcome: Result<Output, End>) -> Work<L>
     ensures history { result.history.items ≡ [] }
     ensures kept { result.kept.dones.items ≡ [] }
@@ -93,7 +93,7 @@ fn nothing_ran<L: Lane>(alloc: Global, outcome: Result<Output, End>) -> Work<L>
     }
 }
 
-/// Does what is asked for, and makes the texts to be written.
+/// Runs the plan or formats the script.
 fn work_of_request<N: Natives, L: Lane>(
     alloc: Global,
     request: &Request,
@@ -118,7 +118,7 @@ fn work_of_request<N: Natives, L: Lane>(
     }
 }
 
-/// The canonical text of a script, or the end for want of memory.
+/// The canonical text of a script, or `End::Mem`.
 fn text_or_end(alloc: Global, script: &Script) -> Result<Output, End>
     ensures { IsTextOrEnd (view_script script.now) result }
 {
@@ -128,7 +128,7 @@ fn text_or_end(alloc: Global, script: &Script) -> Result<Output, End>
     }
 }
 
-/// Runs a plan, and makes the texts to be written.
+/// Runs a plan, and makes its report and summary.
 fn work_of_plan<N: Natives, L: Lane>(
     alloc: Global,
     plan: &Plan,
@@ -159,7 +159,7 @@ fn work_of_plan<N: Natives, L: Lane>(
     }
 }
 
-/// What a run writes, or how it ends.
+/// The report and summary of a run, or how it failed.
 fn output_or_end(
     alloc: Global,
     outcome: Result<Vals, RunFault>,

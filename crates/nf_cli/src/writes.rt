@@ -1,4 +1,4 @@
-//! What a call writes to its sink.
+//! Writes the output or the error line to the sink.
 
 ghost use Rattle.std.specs.Prelude.{◌≡◌, ◌≤◌, ◌++◌, ◌↔◌, IsSome, IfSome, IfOk, IfErr, OnOk, OnErr};
 ghost use Rattle.nf_host.specs.Faults.{Rose};
@@ -12,7 +12,7 @@ use crate::works::Output;
 use nf_host::{Sink, SinkFailed};
 use std::alloc::Global;
 
-/// Writes an output, or the error line of an end, and answers the end of the call.
+/// Writes an output, or the error line of a failed call. Gives the end of the call.
 pub fn write<O: Sink>(alloc: Global, out: &mut O, outcome: Result<Output, End>) -> End
     requires { IfErr outcome IsRefusal }
     ensures later { O.faults out.old ≤ O.faults out.new }
@@ -28,7 +28,7 @@ pub fn write<O: Sink>(alloc: Global, out: &mut O, outcome: Result<Output, End>) 
     }
 }
 
-/// Writes an output.
+/// Writes an output. Gives `Ok` or `SinkFault`.
 fn write_output<O: Sink>(out: &mut O, output: &Output) -> End
     ensures later { O.faults out.old ≤ O.faults out.new }
     ensures cause { OnSinkFault result (Rose (O.faults out.old) (O.faults out.new)) }
@@ -46,7 +46,7 @@ fn write_output<O: Sink>(out: &mut O, output: &Output) -> End
     }
 }
 
-/// Writes a text in one write, unless it is empty.
+/// Writes a text in one write. An empty text isn't written.
 fn write_text<O: Sink>(out: &mut O, text: &[u8]) -> End
     ensures later { O.faults out.old ≤ O.faults out.new }
     ensures cause { OnSinkFault result (Rose (O.faults out.old) (O.faults out.new)) }
@@ -60,7 +60,7 @@ fn write_text<O: Sink>(out: &mut O, text: &[u8]) -> End
     End::Ok
 }
 
-/// Writes a report and its summary line, each in one write; an empty report isn't written.
+/// Writes a report and its summary line, each in one write. An empty report isn't written.
 fn write_report<O: Sink>(out: &mut O, report: &[u8], summary: &[u8]) -> End
     ensures later { O.faults out.old ≤ O.faults out.new }
     ensures cause { OnSinkFault result (Rose (O.faults out.old) (O.faults out.new)) }
@@ -91,8 +91,8 @@ fn write_piece<O: Sink>(out: &mut O, piece: &[u8]) -> Result<(), SinkFailed>
     out.write(piece)
 }
 
-/// Writes the error line of an end, and answers the end: `Mem` in place of it where there is no memory for the line.
-/// Where the sink fails in that line the end stays.
+/// Writes the error line of an end, and gives the end; `Mem` if there is no memory for the line. A sink that fails in this
+/// line doesn't change the end.
 fn write_line<O: Sink>(alloc: Global, out: &mut O, end: End) -> End
     requires { IsRefusal end }
     ensures later { O.faults out.old ≤ O.faults out.new }
