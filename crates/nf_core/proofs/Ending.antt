@@ -1,4 +1,4 @@
--- How a run of tasks ends: with what the process means under the outcomes of its history, or with a fault that is among its faults.
+-- A run ends with what the process means under its history's outcomes, or with one of the faults that it means.
 use Rattle.std.proofs.Common.{◌≡◌, ℕ, suc, ◌≤◌, Bool, true, List, [], ◌∷◌, ◌++◌, map, refl, ap, sym, subst, ◌∙◌, arith, length, drop}
 use Rattle.std.specs.Prelude.{Result, Ok, Err, flat_map}
 use Rattle.std.specs.List.{Contains}

@@ -1,4 +1,4 @@
--- What a task leaves at each of its exits, in the histories as the code makes them.
+-- What a task leaves at each return of `task`, over the histories as the code builds them.
 use Rattle.std.proofs.Common.{◌≡◌, ℕ, suc, ◌+◌, ◌<◌, ◌≤◌, true, false, List, [], ◌∷◌, ◌++◌, refl, ap, sym, subst, ◌∙◌, length, get_or, take}
 use Rattle.std.specs.Prelude.{Result, Ok, Err, IfSome}
 use Rattle.std.specs.declared.option.Option.{Option}

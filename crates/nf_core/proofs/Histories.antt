@@ -1,4 +1,4 @@
--- Histories that go on by an event.
+-- Histories with one more event.
 use Rattle.std.proofs.Common.{◌≡◌, List, [], ◌∷◌, ◌++◌, refl}
 use Rattle.nf_core.specs.declared.event.Event.{Event}
 use Rattle.nf_core.specs.Rules.{ProcessRules}

@@ -1,4 +1,4 @@
--- What came back is what is meant: each instance has its own reports, and so emits what its entry emitted.
+-- Tasks that came back emitted what is meant: each instance finds its own reports.
 use Rattle.std.proofs.Common.{◌≡◌, ℕ, false, List, [], ◌∷◌, ◌++◌, map, refl, ap, sym, subst, ◌∙◌}
 use Rattle.std.specs.Prelude.{Result, Ok}
 use Rattle.std.specs.List.{AllByRecursion, flat_map, Contains}

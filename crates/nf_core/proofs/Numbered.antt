@@ -1,4 +1,4 @@
--- Takes that are numbered among their equals: no two are alike, so each instance finds its own reports.
+-- No two takes have the same inputs and number, so each instance finds its own reports.
 use Rattle.std.proofs.Common.{◌≡◌, ℕ, ◌+◌, ◌<◌, Bool, true, false, cond, List, [], ◌∷◌, ◌++◌, map, refl, ap, sym, subst, ◌∙◌, arith}
 use Rattle.std.specs.Bool.{Decides}
 use Rattle.std.specs.Prelude.{◌==◌, ◌&&◌, bytes_eq}

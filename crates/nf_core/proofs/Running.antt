@@ -1,4 +1,4 @@
--- What one task leaves, whatever comes of it.
+-- What one task leaves, however it ends.
 use Rattle.std.proofs.Common.{◌≡◌, ℕ, suc, ◌+◌, ◌<◌, Bool, true, false, cond, List, [], ◌∷◌, ◌++◌, map, refl, ap, sym, subst, ◌∙◌, length, ⊎_elim}
 use Rattle.std.specs.Prelude.{Ok, Err, flat_map}
 use Rattle.std.specs.List.{Contains, count_by}

@@ -1,4 +1,4 @@
--- One task after another: what each event of it does to a state in which the tasks before it came back.
+-- What each event of a task does to a state in which the earlier tasks came back.
 use Rattle.std.proofs.Common.{◌≡◌, ℕ, suc, ◌<◌, Bool, true, false, cond, List, [], ◌∷◌, ◌++◌, map, refl, ap, sym, subst, ◌∙◌, arith, length, get_or, take, drop}
 use Rattle.std.specs.Prelude.{◌==◌, Ok, Err, remove, MatchOption}
 use Rattle.std.specs.List.{AllByRecursion}

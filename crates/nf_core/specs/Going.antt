@@ -1,4 +1,4 @@
--- What a run of tasks keeps while it goes on, and what it leaves.
+-- The invariant of a run of tasks, what it owes to its lane, and how a task stops it.
 use Rattle.std.specs.Prelude.{ℕ, ◌≡◌, ◌⊎◌, ◌+◌, ◌<◌, ◌≤◌, List, [], ◌∷◌, ◌++◌, Result, Ok, Err, IfSome}
 use Rattle.std.specs.List.{AllByRecursion}
 use Rattle.std.specs.declared.option.Option.{Option}
@@ -19,9 +19,9 @@ use Rattle.nf_core.specs.Machine.{Taken, opening, replay, starts, finishes, IsLa
 use Rattle.nf_core.specs.Serial.{IsServed, StopsBy}
 use Rattle.nf_lane.specs.World.{World, report_of}
 
--- ---- what lanes gave
+-- ---- what a run owes to its lane
 
--- a genuine Done of this job and this report
+-- a genuine Done of this job with this report
 pub record IsDone {D : Type 0} (Genuine : D → Type 0) (job_of : D → List ℕ) (report_by : D → Report) (d : D) (x : Result JobParts TaskFault × Report) : Type 0 where
   pub genuine : Genuine d
   pub parts : JobParts
@@ -29,77 +29,77 @@ pub record IsDone {D : Type 0} (Genuine : D → Type 0) (job_of : D → List ℕ
   pub job : job_of d ≡ job_text parts
   pub told : report_by d ≡ x.1
 
--- two lists whose members belong together, place by place
+-- P holds of the members of both lists, place by place; the lists have one length
 abbrev pub Matches : {D X : Type 0} → (D → X → Type 0) → List D → List X → Type 0
 Matches P [] [] = Unit {0}
 Matches P (d ∷ ds) (x ∷ xs) = P d x × Matches P ds xs
 Matches P [] (x ∷ xs) = ⊥
 Matches P (d ∷ ds) [] = ⊥
 
--- their numbers rise, above the one and up to the other
+-- the numbers rise strictly, above `low` and up to `high`
 abbrev pub RisesWithin : {D : Type 0} → (D → ℕ) → ℕ → List D → ℕ → Type 0
 RisesWithin number low [] high = low ≤ high
 RisesWithin number low (d ∷ ds) high = (low < number d) × RisesWithin number (number d) ds high
 
--- the report is the world's of its job
+-- the report is the one that the world has for the job
 abbrev pub IsOfWorld : World → Result JobParts TaskFault × Report → Type 0
 IsOfWorld w x = (p : JobParts) × (x.0 ≡ Ok p) × (x.1 ≡ report_of w (job_text p))
 
--- what a history and its Dones owe to a lane that had `first` runs before
+-- how a history and its Dones fit a lane that had `first` runs before, and has `now`
 pub record IsBooked {D : Type 0} (Genuine : D → Type 0) (job_of : D → List ℕ) (report_by : D → Report) (number : D → ℕ) (R : ProcessRules) (items : List Plain) (h : List Event) (kept : List D) (world : Option World) (first now : ℕ) : Type 0 where
-  -- a run for each Start
+  -- one run for each Start
   pub runs : now ≡ first + starts h
   -- a Done of its own for each Finish
   pub dones : Matches (IsDone Genuine job_of report_by) kept (finishes R (opening items) h)
   pub numbers : RisesWithin number first kept now
-  -- where the lane tells its world
+  -- if the lane reveals its world, the reports are the world's
   pub of_world : IfSome world (λ w. AllByRecursion (IsOfWorld w) (finishes R (opening items) h))
 
 -- ---- while it goes on
 
--- the first k items came back, these were emitted, and so many were started
+-- the first k items came back, and `out` was emitted
 pub record IsGoing (R : ProcessRules) (items : List Plain) (k : ℕ) (h : List Event) (out : List Plain) : Type 0 where
   pub lawful : IsLawful R (opening items) h
   pub served : IsServed R items k (replay (opening items) h)
   pub emitted : out ≡ (replay (opening items) h).emitted
 
--- the history stops by this
+-- the history is lawful and stops by x
 pub record Halts (R : ProcessRules) (items : List Plain) (h : List Event) (x : Stop) : Type 0 where
   pub lawful : IsLawful R (opening items) h
   pub stops : (call : List ℕ) → StopsBy R call items h x
 
 -- ---- how a task stops a run
 
--- it has no job, or there is no memory for it
+-- the task has no job, or there is no memory for it
 abbrev pub IsRefused : ProcessRules → Taken → Stop → Type 0
 IsRefused R t stop.Mem = Unit {0}
 IsRefused R t (stop.Outside o) = ⊥
 IsRefused R t (stop.Task node inputs n fault) = (node ≡ 1) × (inputs ≡ t.inputs) × (n ≡ t.n) × (R.job t.inputs t.n 1 ≡ Err fault)
 
--- a task's refusal as a stop
+-- the stop of a task without a job
 abbrev pub IsStopOf : List Plain → ℕ → TaskRefusal → Stop → Type 0
 IsStopOf inputs n refusal.Mem x = x ≡ stop.Mem
 IsStopOf inputs n (refusal.Fault f) x = x ≡ stop.Task 1 inputs n f
 
--- its lane failed, or there is no memory for it
+-- the lane failed, or memory ran out
 abbrev pub IsLost : Stop → Type 0
 IsLost stop.Mem = Unit {0}
 IsLost (stop.Outside o) = Unit {0}
 IsLost (stop.Task node inputs n fault) = ⊥
 
--- where a lane stopped the run, its count rose
+-- if a lane stopped the run, its count rose
 abbrev pub OnOutside : Stop → Type 0 → Type 0
 OnOutside stop.Mem rose = Unit {0}
 OnOutside (stop.Outside o) rose = rose
 OnOutside (stop.Task node inputs n fault) rose = Unit {0}
 
--- the same stop, or want of memory in place of it
+-- the same stop, or Mem instead
 abbrev pub IsKeptStop : Stop → Stop → Type 0
 IsKeptStop before after = (after ≡ before) ⊎ (after ≡ stop.Mem)
 
 -- ---- what a report amounts to
 
--- no attempt comes after it
+-- no further attempt follows
 abbrev pub IsFinalOuts : Outs → Type 0
 IsFinalOuts (Ok (Emits vs)) = Unit {0}
 IsFinalOuts (Ok Ignored) = Unit {0}
@@ -107,7 +107,7 @@ IsFinalOuts (Ok (Failed f)) = Unit {0}
 IsFinalOuts (Ok Again) = ⊥
 IsFinalOuts (Err f) = Unit {0}
 
--- the process goes on
+-- the run goes on
 abbrev pub GoesOn : Outs → Type 0
 GoesOn (Ok (Emits vs)) = Unit {0}
 GoesOn (Ok Ignored) = Unit {0}
@@ -129,7 +129,7 @@ IsFault outs t stop.Mem = ⊥
 IsFault outs t (stop.Outside o) = ⊥
 IsFault outs t (stop.Task node inputs n fault) = (node ≡ 1) × (inputs ≡ t.inputs) × (n ≡ t.n) × Failing outs fault
 
--- the outputs were emitted, or they stop the run
+-- the outputs were emitted, or the task's fault stops the run
 abbrev pub IsSettled : Outs → Taken → List Plain → List Plain → Option Stop → Type 0
 IsSettled outs t old new None = GoesOn outs × (new ≡ old ++ emitted_by outs)
 IsSettled outs t old new (Some x) = IsFault outs t x

@@ -17,27 +17,28 @@ use Rattle.nf_core.specs.declared.event.Stop.{Stop}
 use Rattle.nf_core.specs.declared.event.Stop.TheVariants as stop
 use Rattle.nf_core.specs.Rules.{Outs, ProcessRules, emitted_by}
 
--- what was taken: the inputs, and how many takes of equal inputs came before
+-- a take: the inputs, and how many takes of equal inputs came before it
 pub record Taken : Type 0 where
   pub inputs : List Plain
   pub n : ℕ
 
--- what is in flight
+-- a task in flight
 pub record Ticket : Type 0 where
   pub number : ℕ
   pub taken : Taken
-  -- the reports of the attempts before
+  -- the reports of its earlier attempts
   pub told : List Report
   pub started : Bool
 
--- what came back
+-- a task that came back
 pub record Ended : Type 0 where
   pub taken : Taken
   -- the reports of its attempts
   pub told : List Report
-  -- what the last one amounts to
+  -- what the last report amounts to
   pub outs : Outs
 
+-- the state of a run between two events
 pub record State : Type 0 where
   -- the items that wait at the process's port
   pub waiting : List Plain
@@ -52,18 +53,18 @@ pub record State : Type 0 where
   -- the next ticket's number
   pub next : ℕ
 
--- all items of the source wait at the process's port
+-- the first state: all items of the source wait at the process's port
 abbrev pub opening : List Plain → State
 opening items = record { waiting = items; taken = []; tickets = []; ended = []; gone = []; emitted = []; stop = None; next = 1 }
 
 abbrev pub same_items : List Plain → List Plain → Bool
 same_items = pointwise (eq_by_cmp value_cmp)
 
--- how many takes had these inputs
+-- how many of the takes had these inputs
 abbrev pub number_of : List Plain → List Taken → ℕ
 number_of inputs taken = count_by (λ t. same_items t.inputs inputs) taken
 
--- the inputs with the item at this place
+-- the inputs of a take of the item at this place
 abbrev pub inputs_at : State → ℕ → List Plain
 inputs_at s place = get_or s.waiting place null ∷ []
 
@@ -95,7 +96,7 @@ abbrev pub started_at : ℕ → List Ticket → List Ticket
 started_at t [] = []
 started_at t (k ∷ ks) = if k.number == t then (record k { started = true }) ∷ ks else k ∷ started_at t ks
 
--- the ticket's instance came back; s is without the ticket
+-- the ticket's task came back; s is without the ticket
 abbrev pub ends : State → Ticket → Report → Outs → State
 ends s k r outs =
     let e : Ended = record { taken = k.taken; told = k.told ++ r ∷ []; outs = outs } in
@@ -133,7 +134,7 @@ abbrev pub replay : State → List Event → State
 replay s [] = s
 replay s (x ∷ h) = replay (step s x) h
 
--- ---- when they are legal
+-- ---- when events are legal
 
 pub record TakeIsLegal (s : State) (node port place ticket n : ℕ) : Type 0 where
   pub goes_on : s.stop ≡ None
@@ -143,7 +144,7 @@ pub record TakeIsLegal (s : State) (node port place ticket n : ℕ) : Type 0 whe
   pub is_next : ticket ≡ s.next
   pub counted : n ≡ number_of (inputs_at s place) s.taken
 
--- the ticket is in flight, with P
+-- the ticket is in flight, and P holds of it
 abbrev pub InFlight : State → ℕ → (Ticket → Type 0) → Type 0
 InFlight s t P = MatchOption (ticket_at t s.tickets) ⊥ P
 
@@ -153,7 +154,7 @@ IsCause R k stop.Mem = Unit {0}
 IsCause R k (stop.Outside o) = Unit {0}
 IsCause R k (stop.Task node inputs n fault) = (node ≡ 1) × (inputs ≡ k.taken.inputs) × (n ≡ k.taken.n) × (R.job inputs n (attempt_of k) ≡ Err fault)
 
--- without a reason only in a run that is stopped
+-- a ticket may be given up for a reason, or without one in a stopped run
 abbrev pub MayAbort : ProcessRules → State → Option Stop → Ticket → Type 0
 MayAbort R s None k = IsSome s.stop
 MayAbort R s (Some x) k = IsCause R k x
@@ -191,7 +192,7 @@ finish_at R s (e.Start ticket cause) = []
 finish_at R s (e.Finish ticket report outs) = finish_of R report (ticket_at ticket s.tickets)
 finish_at R s (e.Abort ticket cause) = []
 
--- of each Finish event the job of its attempt, and its report
+-- for each Finish event the job of its attempt, and its report
 abbrev pub finishes : ProcessRules → State → List Event → List (Result JobParts TaskFault × Report)
 finishes R s [] = []
 finishes R s (x ∷ h) = finish_at R s x ++ finishes R (step s x) h

@@ -1,4 +1,4 @@
--- What a run of one process's tasks comes to, one after another on one thread.
+-- What `serial` gives: how a run of one process's tasks ends, and its states between two tasks.
 use Rattle.std.specs.Prelude.{ℕ, suc, ◌≡◌, Bool, List, [], ◌∷◌, ◌++◌, map, flat_map, take, drop, count_by, Result, Ok, Err, Contains}
 use Rattle.std.specs.List.{AllByRecursion}
 use Rattle.std.specs.declared.option.Option.{Option}
@@ -20,15 +20,15 @@ use Rattle.nf_core.specs.Rules.{Outs, ProcessRules, emitted_by, decided_by}
 use Rattle.nf_core.specs.Machine.{Taken, Ended, State, opening, replay, EndsWell}
 use Rattle.nf_core.specs.Tasks.{numbered, input_lists, or_later, Meaning, meaning, outcomes}
 
--- ---- what rules answer
+-- ---- the rules' answers
 
--- what a call gave is the answer, unless memory ran out
+-- the call gave this answer, unless memory ran out
 abbrev pub AnswersTask : {A : Type 0} → Result A TaskFault → Result A TaskRefusal → Type 0
 AnswersTask due (Ok x) = due ≡ Ok x
 AnswersTask due (Err (refusal.Fault f)) = due ≡ Err f
 AnswersTask due (Err refusal.Mem) = Unit {0}
 
--- it isn't tried again
+-- the task isn't tried again
 abbrev pub IsFinal : Outputs → Type 0
 IsFinal (Emits vs) = Unit {0}
 IsFinal Ignored = Unit {0}
@@ -37,17 +37,17 @@ IsFinal Again = ⊥
 
 -- ---- how a run ends
 
--- the meaning of the items under the outcomes of this history
+-- what the process means over the items under this history's outcomes
 abbrev pub meant : ProcessRules → List ℕ → List Plain → List Event → Meaning
 meant R call items h = meaning R (outcomes call (replay (opening items) h)) call items
 
--- all went well, and these were emitted
+-- all items came back without a fault, and `emitted` is what the process means
 pub record RunsWell (R : ProcessRules) (call : List ℕ) (items : List Plain) (h : List Event) (emitted : List Plain) : Type 0 where
   pub ended : EndsWell (replay (opening items) h)
   pub bag : (meant R call items h).bag ≡ emitted
   pub faults : (meant R call items h).faults ≡ []
 
--- the history stops so; the fault of a task is one of its instance
+-- the history stops by this; a task's fault is one that the process means
 abbrev pub StopsBy : ProcessRules → List ℕ → List Plain → List Event → Stop → Type 0
 StopsBy R call items h stop.Mem = Unit {0}
 StopsBy R call items h (stop.Outside o) = (replay (opening items) h).stop ≡ Some (stop.Outside o)
@@ -78,7 +78,7 @@ inputs_of t = t.inputs
 abbrev pub emitted_all : List Ended → List Plain
 emitted_all es = flat_map (λ e. emitted_by e.outs) es
 
--- an entry with a job and the one report that decides
+-- a task that came back: it has a job, and its one report decides
 pub record IsOwn (R : ProcessRules) (e : Ended) : Type 0 where
   pub report : Report
   pub told : e.told ≡ report ∷ []
@@ -87,7 +87,7 @@ pub record IsOwn (R : ProcessRules) (e : Ended) : Type 0 where
   pub outs : e.outs ≡ R.outputs e.taken.inputs 1 report
   pub decides : (later : Option Outs) → decided_by e.outs later ≡ Some e.outs
 
--- an entry without a fault
+-- a task that came back without a fault
 pub record IsFine (R : ProcessRules) (e : Ended) : Type 0 where
   pub own : IsOwn R e
   pub faultless : (later : List TaskFault) → or_later e.outs later ≡ []

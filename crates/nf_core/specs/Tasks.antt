@@ -1,4 +1,4 @@
--- What one process means, with no item in motion: its instances, what they emit under outcomes, and their faults.
+-- What one process means, whatever the order of its events: its instances, what they emit under given outcomes, and their faults.
 use Rattle.std.specs.Prelude.{ℕ, suc, ◌==◌, ◌&&◌, Bool, List, [], ◌∷◌, ◌++◌, if◌then◌else◌, map, flat_map, bytes_eq, Result, Ok, Err}
 use Rattle.std.specs.declared.option.Option.{Option}
 use Rattle.std.specs.declared.option.Option.TheVariants.{None, Some}
@@ -10,20 +10,20 @@ use Rattle.nf_job.specs.declared.emitted.Outputs.TheVariants.{Emits, Ignored, Fa
 use Rattle.nf_core.specs.Rules.{Outs, ProcessRules, emitted_by, decided}
 use Rattle.nf_core.specs.Machine.{Taken, Ticket, Ended, State, same_items, number_of}
 
--- a process's call, a list of inputs, and how many equal ones came before
+-- a task by its process's call, its inputs, and how many equal inputs came before
 pub record Instance : Type 0 where
   pub call : List ℕ
   pub inputs : List Plain
   pub n : ℕ
 
--- for some instances the reports of their attempts
+-- the reports of some instances' attempts
 abbrev pub Outcomes : Type 0
 Outcomes = List (Instance × List Report)
 
 abbrev pub is_instance : Instance → Instance → Bool
 is_instance i j = bytes_eq i.call j.call && (same_items i.inputs j.inputs && (i.n == j.n))
 
--- the reports of an instance: those of its first entry
+-- the reports of an instance: its first entry's
 abbrev pub reports_of : Outcomes → Instance → List Report
 reports_of [] i = []
 reports_of (e ∷ o) i = if is_instance e.0 i then e.1 else reports_of o i
@@ -31,20 +31,20 @@ reports_of (e ∷ o) i = if is_instance e.0 i then e.1 else reports_of o i
 abbrev pub instance_of : List ℕ → Taken → Instance
 instance_of call t = record { call = call; inputs = t.inputs; n = t.n }
 
--- each list of inputs with how many equal ones stand before it, after those that were taken
+-- each list of inputs with the count of equal ones before it, those in `before` included
 abbrev pub numbered : List Taken → List (List Plain) → List Taken
 numbered before [] = []
 numbered before (x ∷ xs) = let t : Taken = record { inputs = x; n = number_of x before } in t ∷ numbered (before ++ t ∷ []) xs
 
--- a list of inputs for each item of a process's one queue
+-- the lists of inputs of a process with one queue: one for each item
 abbrev pub input_lists : List Plain → List (List Plain)
 input_lists items = map (λ x. x ∷ []) items
 
--- the instances of a process with one queue, for the items of its bag
+-- the instances of a process with one queue over these items
 abbrev pub instances : List ℕ → List Plain → List Instance
 instances call items = map (instance_of call) (numbered [] (input_lists items))
 
--- what the report that decides amounts to
+-- what an instance's deciding report amounts to
 abbrev pub outs_of : ProcessRules → Outcomes → Instance → Option Outs
 outs_of R o i = decided (R.outputs i.inputs) 1 (reports_of o i)
 
@@ -69,7 +69,7 @@ or_later (Ok Ignored) later = []
 or_later (Ok (Failed f)) later = f ∷ []
 or_later (Err f) later = f ∷ []
 
--- the faults of an instance's attempts, from this one on, that its reports lead to
+-- the faults of the attempts that the reports lead to, from this attempt on
 abbrev pub faults_from : (ℕ → Result JobParts TaskFault) → (ℕ → Report → Outs) → ℕ → List Report → List TaskFault
 faults_from job outputs attempt [] = refused (job attempt)
 faults_from job outputs attempt (r ∷ rs) = refused (job attempt) ++ or_later (outputs attempt r) (faults_from job outputs (suc attempt) rs)
@@ -83,7 +83,7 @@ pub record Meaning : Type 0 where
   pub instances : List Instance
   pub faults : List (Instance × TaskFault)
 
--- what a process means over the items of its queue, under outcomes
+-- what a process means over its items, under given outcomes
 abbrev pub meaning : ProcessRules → Outcomes → List ℕ → List Plain → Meaning
 meaning R o call items = record {
   bag = flat_map (emits R o) (instances call items);
@@ -96,7 +96,7 @@ meaning R o call items = record {
 abbrev pub ended_outcome : List ℕ → Ended → Instance × List Report
 ended_outcome call e = (instance_of call e.taken, e.told)
 
--- a ticket that was tried
+-- the reports of a task that has some
 abbrev pub tried : List ℕ → Taken → List Report → Outcomes
 tried call t [] = []
 tried call t (r ∷ rs) = (instance_of call t, r ∷ rs) ∷ []
@@ -104,6 +104,6 @@ tried call t (r ∷ rs) = (instance_of call t, r ∷ rs) ∷ []
 abbrev pub ticket_outcome : List ℕ → Ticket → Outcomes
 ticket_outcome call k = tried call k.taken k.told
 
--- for each instance that came back the reports of its attempts, by the state that the history leads to
+-- the reports of each instance in a state: of tasks that came back, were given up or are in flight
 abbrev pub outcomes : List ℕ → State → Outcomes
 outcomes call s = map (ended_outcome call) s.ended ++ flat_map (ticket_outcome call) s.gone ++ flat_map (ticket_outcome call) s.tickets

@@ -1,4 +1,4 @@
-//! One chain: each item, and what answers it.
+//! `chain`: the image of each item.
 
 ghost use Rattle.std.specs.Prelude.{◌≡◌, IfErr, List};
 ghost use Rattle.nf_value.specs.Plain.{Plain};
@@ -10,19 +10,19 @@ ghost use Rattle.nf_core.specs.Outcome.{Chained};
 use nf_value::{EvalFault, EvalRefusal, Mem, Vals, Value};
 use std::alloc::{AllocFailed, Global};
 
-/// What answers the items of an operator (own). The answer is determined by the rules and the item alone.
+/// Maps an item to its image or its fault (own). The answer depends on the rules and the item alone.
 pub trait ItemRules {
     /// The answer to an item: its image, or its fault.
     ghost gives: { Self → Plain → Answered Plain };
 
-    /// That they answer so.
+    /// What the rules need to hold to answer so.
     ghost keeps: { Self → Type 0 };
 
     /// The image of an item.
     ///
     /// # Errors
     ///
-    /// `Fault` with the item's fault exactly where it has one, but for `Mem`, where there was no memory.
+    /// `Fault` exactly if the item has a fault, with that fault; `Mem` instead of any answer if there is no memory.
     fn gives(&self, alloc: Global, item: &Value) -> Result<Value, EvalRefusal>
         requires { keeps self.now }
         ensures { Answers (gives self.now (plain_of item.now)) result };
@@ -31,9 +31,9 @@ pub trait ItemRules {
 /// Why a chain has no images (own).
 #[derive(Drop)]
 pub enum ChainFault {
-    /// The first item of the list that has a fault, and the fault that its rules answer.
+    /// The first item with a fault, and its fault.
     Item { item: Value, fault: EvalFault },
-    /// Want of memory.
+    /// Out of memory.
     Mem,
 }
 
@@ -61,8 +61,8 @@ impl<T: Drop> From<AllocFailed<T>> for ChainFault {
 ///
 /// # Errors
 ///
-/// `Item` exactly where some item has a fault, with the first such item of the list and its fault; `Mem` where there
-/// is no memory for an image or for a copy of that item. No image comes with an error.
+/// `Item` exactly if some item has a fault, with the first such item and its fault; `Mem` instead of any answer if there is
+/// no memory for an image or for a copy of that item.
 pub fn chain<R: ItemRules>(alloc: Global, items: &Vals, rules: &R) -> Result<Vals, ChainFault>
     requires { R.keeps rules.now }
     ensures { Chained (images (R.gives rules.now) items.now) result }

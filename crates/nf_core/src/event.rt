@@ -1,4 +1,4 @@
-//! The events of a run.
+//! The events of a run, which make up its history.
 
 ghost use Rattle.std.specs.Prelude.{◌≡◌, IfOk};
 
@@ -8,7 +8,7 @@ use nf_value::{Mem, Vals};
 /// Why a task was started (own).
 #[derive(Debug, Clone, Copy, PartialEq, Eq, Drop)]
 pub enum Cause {
-    /// The run doesn't go on from an earlier one, so nobody asked for a record.
+    /// The run doesn't resume an earlier one, so no record of the task was asked for.
     NotAsked,
 }
 
@@ -22,29 +22,29 @@ pub enum Outside {
 /// Why a run stopped (own).
 #[derive(Drop)]
 pub enum Stop {
-    /// A task failed: that of these inputs and this number, at this node.
+    /// A task failed.
     Task {
         /// The process's place among the nodes.
         node: u32,
-        /// The inputs.
+        /// The task's inputs.
         inputs: Vals,
-        /// How many takes of equal inputs came before, from 0.
+        /// How many takes of equal inputs came before it, from 0.
         n: u32,
         /// What is wrong with it.
         fault: TaskFault,
     },
     /// Something outside of the program failed.
     Outside(Outside),
-    /// Want of memory.
+    /// Out of memory.
     Mem,
 }
 
 impl Stop {
-    /// Another stop, equal to this one.
+    /// A copy of the stop.
     ///
     /// # Errors
     ///
-    /// `Mem` where there is no memory for it.
+    /// `Mem` if there is no memory for it.
     pub fn copy(&self) -> Result<Stop, Mem>
         ensures { IfOk result (λ x. x ≡ self.now) }
     {
@@ -70,43 +70,43 @@ impl Stop {
     }
 }
 
-/// One step of a run (own). Nodes are counted from 0: the source, the process and the view.
+/// One step of a run (own). Node 0 is the source, node 1 the process, node 2 the view.
 #[derive(Drop)]
 pub enum Event {
-    /// A process takes an item: a new ticket.
+    /// A process takes an item and gives it a ticket, the number of its task in this run.
     Take {
         /// The process's place among the nodes.
         node: u32,
-        /// The port's place among the node's.
+        /// The port's place among the node's ports.
         port: u32,
-        /// The item's place among those that wait at the port.
+        /// The item's place among the items that wait at the port.
         place: u32,
         /// The ticket's number, from 1.
         ticket: u32,
-        /// How many takes of equal inputs came before, from 0.
+        /// How many takes of equal inputs came before it, from 0.
         n: u32,
     },
-    /// The ticket's attempt is started.
+    /// The ticket's attempt starts.
     Start {
         /// The ticket's number.
         ticket: u32,
-        /// Why it is started.
+        /// Why it starts.
         cause: Cause,
     },
-    /// The ticket's attempt ended so.
+    /// The ticket's attempt ended.
     Finish {
         /// The ticket's number.
         ticket: u32,
-        /// How the attempt ended.
+        /// How it ended.
         report: Report,
-        /// What that amounts to.
+        /// What the report amounts to: outputs, or the task's fault.
         outs: Result<Outputs, TaskFault>,
     },
     /// The ticket is given up.
     Abort {
         /// The ticket's number.
         ticket: u32,
-        /// Why, unless the run is stopped already.
+        /// Why; `None` only if the run is stopped already.
         cause: Option<Stop>,
     },
 }

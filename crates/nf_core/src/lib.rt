@@ -1,4 +1,4 @@
-//! How items run through a script.
+//! The runs of a script: `chain` maps items by rules, and `serial` runs the tasks of one process and records the events.
 #![tactic(auto)]
 
 mod chains;

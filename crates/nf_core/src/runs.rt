@@ -1,4 +1,4 @@
-//! A run of one process's tasks, one after another on one thread.
+//! `serial`: runs one process's tasks one after another on one thread.
 
 ghost use Rattle.std.specs.Prelude.{◌≡◌, ℕ, suc, ◌+◌, ◌<◌, ◌≤◌, ◌^◌, List, [], ◌∷◌, ◌++◌, length, take, get_or, IfOk, IfErr, IfSome, OnOk, map, vec_len, vec_capacity, Some};
 ghost use Rattle.nf_value.specs.Plain.{null};
@@ -26,15 +26,15 @@ const PROCESS: u32 = 1;
 /// What a run of a process's tasks came to.
 #[derive(Drop)]
 pub struct TasksEnd<L: Lane> {
-    /// All events, in their order.
+    /// The events in order.
     pub history: Vec<Event>,
     /// The jobs that were run, in the order of their Finish events.
     pub kept: Kept<L>,
-    /// What the process emitted, in the order of the items; or why the run stopped, or that there was no memory to go on.
+    /// What the process emitted, in the order of the items; or why the run stopped.
     pub outcome: Result<Vals, Stop>,
 }
 
-/// What a task that ended gave.
+/// What a lane gave for a task, and what that amounts to.
 #[derive(Drop)]
 struct Back<D> {
     report: Report,
@@ -42,7 +42,7 @@ struct Back<D> {
     done: D,
 }
 
-/// Gives up the ticket for this reason, or for want of memory where there is none for a copy of the reason.
+/// Gives up the ticket for this reason, or by `Mem` if there is no memory for a copy of the reason.
 fn give_up(history: &mut Vec<Event>, ticket: u32, stop: Stop) -> Stop
     requires room { vec_len history.old + 1 ≤ vec_capacity history.old }
     ensures kept { IsKeptStop stop result }
@@ -57,7 +57,7 @@ fn give_up(history: &mut Vec<Event>, ticket: u32, stop: Stop) -> Stop
     stop
 }
 
-/// Why a run stops at a task that has no job.
+/// The stop of a task without a job.
 fn stop_of(inputs: Vals, n: u32, refusal: TaskRefusal) -> Stop
     ensures { IsStopOf inputs n refusal result }
 {
@@ -106,7 +106,7 @@ fn number_at(items: &Vals, place: usize) -> u32
     count_equals(&items[..place], &items[place])
 }
 
-/// Runs a job, and tells what its report amounts to.
+/// Runs a job, and finds what its report amounts to.
 fn run_job<L: Lane, R: TaskRules>(
     alloc: Global,
     rules: &R,
@@ -144,7 +144,7 @@ fn run_job<L: Lane, R: TaskRules>(
     Ok(Back { report, outs, done })
 }
 
-/// Emits what the outputs say, or tells why they stop the run.
+/// Emits the outputs, or gives the stop if the task failed.
 fn settle(
     emitted: &mut Vec<Value>,
     inputs: &Vals,
@@ -172,7 +172,7 @@ fn settle(
     }
 }
 
-/// Why a run stops at a task with this fault.
+/// The stop of a task with this fault.
 fn failed(inputs: &Vals, n: u32, fault: &TaskFault) -> Result<Stop, Mem>
     ensures { IfOk result (λ x. x ≡ Task 1 inputs.now n fault.now) }
 {
@@ -186,7 +186,7 @@ fn failed(inputs: &Vals, n: u32, fault: &TaskFault) -> Result<Stop, Mem>
     })
 }
 
-/// Adds the value of the first output, where it has one.
+/// Emits the value of the first output, if it has one.
 fn emit(emitted: &mut Vec<Value>, values: &Emitted) -> Result<(), Mem>
     ensures { OnOk result (map plain_of emitted.new.items ≡ map plain_of emitted.old.items ++ first_value values.now) }
 {
@@ -199,7 +199,7 @@ fn emit(emitted: &mut Vec<Value>, values: &Emitted) -> Result<(), Mem>
     Ok(())
 }
 
-/// A run of tasks that goes on.
+/// A run so far.
 #[derive(Drop)]
 struct Run<L: Lane> {
     history: Vec<Event>,
@@ -207,7 +207,7 @@ struct Run<L: Lane> {
     emitted: Vec<Value>,
 }
 
-/// Makes room for the events of one task.
+/// Makes room for the events and the job of one task.
 fn make_room<L: Lane>(run: &mut Run<L>) -> Result<(), Mem>
     ensures history { run.new.history.items ≡ run.old.history.items }
     ensures dones { run.new.dones.items ≡ run.old.dones.items }
@@ -220,7 +220,7 @@ fn make_room<L: Lane>(run: &mut Run<L>) -> Result<(), Mem>
     Ok(())
 }
 
-/// Takes the item at this place and runs its task.
+/// Takes the item at this place and runs its task. An error stops the run.
 fn task<L: Lane, R: TaskRules>(
     alloc: Global,
     run: &mut Run<L>,
@@ -287,11 +287,11 @@ fn task<L: Lane, R: TaskRules>(
     }
 }
 
-/// Runs the tasks of one process over the items of its queue, in their order, each by one attempt, on one thread over one
-/// lane. After a failing task, or where the lane failed, no further item is taken (own).
+/// Runs the tasks of one process on one lane, one after another in the order of the items. Each task has one attempt. A task
+/// that fails and a lane that fails stop the run: no further item is taken (own).
 ///
-/// The history is lawful, whatever comes: it has a Start for each run of the lane, and a job that was run for each Finish.
-/// The time grows with the square of the count of items, by the comparisons that number equal ones (own: the plain way).
+/// However the run ends, its history is lawful. It has one Start for each run of the lane, and each Finish has a job of its own
+/// that was run. Time: the square of the count of items, since each item is compared with those before it to count its equals.
 pub fn serial<L: Lane, R: TaskRules>(
     alloc: Global,
     items: &Vals,
@@ -303,13 +303,14 @@ pub fn serial<L: Lane, R: TaskRules>(
 
     // Each event is legal in the state before it.
     ensures lawful { IsLawful (R.rules rules.now) (opening items.now) result.history.items }
-    // All came back, and what was emitted is what the process means under the outcomes of the history; or the history is
-    // stopped so, by a fault that is among those that the process has under these outcomes; or memory ran out.
+    // On `Ok` all items came back, and the process emitted what it means under the history's outcomes. On a failed task or
+    // lane the history stops by it, and a task's fault is one that the process has under these outcomes. On `Mem` memory
+    // ran out.
     ensures gives { (call : List ℕ) → RunGives (R.rules rules.now) call items.now result.history.items result.outcome }
-    // A run of the lane for each Start, and for each Finish a job of its own that was run.
+    // Each Start is one run of the lane, and each Finish has a job of its own that was run.
     ensures booked { IsBooked L.Done.genuine L.Done.job L.Done.told L.Done.number (R.rules rules.now) items.now result.history.items result.kept.dones.items (L.world lane.old) (L.runs lane.old) (L.runs lane.new) }
 
-    // Where the lane stopped the run, its count rose.
+    // If the lane stopped the run, it counted a fault.
     ensures lane_fault { IfErr result.outcome (λ x. OnOutside x (Rose (L.faults lane.old) (L.faults lane.new))) }
     ensures later { L.faults lane.old ≤ L.faults lane.new }
     ensures same { L.world lane.new ≡ L.world lane.old }

@@ -1,4 +1,4 @@
-//! What answers the tasks of a process.
+//! `TaskRules`: the jobs of a process and what their reports amount to.
 
 ghost use Rattle.std.specs.Prelude.{◌≡◌, ◌≤◌, IfOk};
 ghost use Rattle.nf_core.specs.Rules.{ProcessRules};
@@ -8,27 +8,27 @@ use nf_job::{Job, Outputs, Report, TaskRefusal};
 use nf_value::Vals;
 use std::alloc::Global;
 
-/// What answers the tasks of a process (own). The answers are determined by the rules and the arguments alone.
+/// A process as a run sees it: the job of each task, and what its report amounts to (own). The answers depend on the rules and
+/// the arguments alone.
 pub trait TaskRules {
-    /// The jobs of the process's instances, and what their reports amount to.
+    /// Both answers as functions. An instance is a task by its inputs and the count `n` of equal inputs taken before it.
     ghost rules: { Self → ProcessRules };
 
-    /// The job of an instance's attempt. `n` is how many takes of equal inputs came before, from 0; the attempts are
-    /// counted from 1.
+    /// The job of an instance's attempt. Attempts are counted from 1.
     ///
     /// # Errors
     ///
-    /// `Fault` with the instance's fault exactly where it has no job, but for `Mem`, where there was no memory.
+    /// `Fault` exactly if the attempt has no job, with the reason; `Mem` instead of any answer if there is no memory.
     fn job(&self, alloc: Global, inputs: &Vals, n: u32, attempt: u32) -> Result<Job, TaskRefusal>
         requires first { 1 ≤ attempt }
         requires last { attempt ≤ 101 }
         ensures { AnswersTask ((rules self.now).job inputs.now n attempt) result };
 
-    /// What the report of an instance's attempt amounts to. No task is tried again (own: so far).
+    /// What the report of an instance's attempt amounts to. No task is tried again so far (own).
     ///
     /// # Errors
     ///
-    /// `Fault` with the instance's fault exactly where an output has no value, but for `Mem`, where there was no memory.
+    /// `Fault` exactly if an output has no value, with the reason; `Mem` instead of any answer if there is no memory.
     fn outputs(
         &self,
         alloc: Global,

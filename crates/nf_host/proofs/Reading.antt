@@ -11,12 +11,12 @@ use Rattle.nf_host.specs.declared.host.Piece.{Piece}
 use Rattle.nf_host.specs.declared.host.Piece.TheVariants as piece
 use Rattle.nf_host.specs.declared.whole.Whole.TheVariants as whole
 
--- these bytes stand at the front of what is there
+-- these bytes are the front of the file
 abbrev pub IsFront : Option (List ℕ) → List ℕ → Type 0
 IsFront None xs = xs ≡ []
 IsFront (Some b) xs = xs ++ drop (length xs) b ≡ b
 
--- of what is at one path, where the files are told
+-- the same of the file at a path, if the host reveals its files
 at_path : (o : Option Files) (q : List ℕ) (P Q R : Option (List ℕ) → Type 0) → ((m : Option (List ℕ)) → P m → Q m → R m) → IfSome o (λ f. P (f q)) → IfSome o (λ f. Q (f q)) → IfSome o (λ f. R (f q))
 at_path None q P Q R step p r = tt
 at_path (Some f) q P Q R step p r = step (f q) p r

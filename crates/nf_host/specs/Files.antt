@@ -1,15 +1,15 @@
--- What a host holds, and what a read gives of it.
+-- Files by their paths, and the pieces that a read gives.
 use Rattle.std.specs.Prelude.{◌≡◌, ℕ, ◌≤◌, List, length, take, drop, if◌then◌else◌, None, Some, bytes_eq}
 use Rattle.std.specs.declared.option.Option.{Option}
 use Rattle.nf_host.specs.declared.host.TheConstants.{PIECE_LEN}
 use Rattle.nf_host.specs.declared.host.Piece.{Piece}
 use Rattle.nf_host.specs.declared.host.Piece.TheVariants.{Absent, Bytes}
 
--- the bytes of each path that is there
+-- the bytes at each path that has a file
 abbrev pub Files : Type 0
 Files = List ℕ → Option (List ℕ)
 
--- no path is there
+-- no path has a file
 abbrev pub no_files : Files
 no_files = λ path. None
 
@@ -17,7 +17,7 @@ no_files = λ path. None
 abbrev pub put : Files → List ℕ → List ℕ → Files
 put f path bytes = λ q. if bytes_eq q path then Some bytes else f q
 
--- the bytes from `at` of the file, at most 65,536 of them
+-- the file's next 65,536 bytes from `at` on, or fewer at its end; `Absent` if there is no file
 abbrev pub IsPiece : Option (List ℕ) → ℕ → Piece → Type 0
 IsPiece None at p = p ≡ Absent
 IsPiece (Some b) at (Bytes v) = v ≡ take PIECE_LEN (drop at b)

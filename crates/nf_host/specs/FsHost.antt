@@ -1,4 +1,4 @@
--- What a host over the system's files counts.
+-- The count of an `FsHost`.
 use Rattle.std.specs.Prelude.{ℕ}
 use Rattle.nf_host.specs.declared.fs_host.FsHost.{FsHost}
 

@@ -1,4 +1,4 @@
--- What a host in memory holds.
+-- What a `MemHost` holds.
 use Rattle.std.specs.Prelude.{ℕ, List, Bool, ◌==◌, option_map}
 use Rattle.std.specs.BTreeMap.{get_by_text}
 use Rattle.std.specs.List.{list_any}

@@ -1,15 +1,15 @@
--- What a sink in memory holds.
+-- What a `MemSink` holds.
 use Rattle.std.specs.Prelude.{ℕ, List}
 use Rattle.std.specs.declared.option.Option.{Option}
 use Rattle.std.specs.Ordering.{nat_cmp}
 use Rattle.std.specs.BTreeMap.{get}
 use Rattle.nf_host.specs.declared.mem_sink.MemSink.{MemSink}
 
--- all that it has taken
+-- the bytes that it took
 abbrev pub written_of : MemSink → List ℕ
 written_of s = s.written.items
 
--- how many bytes a write takes that fails, by its number
+-- of each failing write, by its number: how many bytes it takes
 abbrev pub failing_of : MemSink → ℕ → Option ℕ
 failing_of s call = get nat_cmp s.failing call
 

@@ -1,4 +1,4 @@
--- What a sink over the standard output counts.
+-- The count of a `StdSink`.
 use Rattle.std.specs.Prelude.{ℕ}
 use Rattle.nf_host.specs.declared.std_sink.StdSink.{StdSink}
 

@@ -4,7 +4,7 @@ use Rattle.std.specs.declared.option.Option.{Option}
 use Rattle.nf_host.specs.declared.whole.Whole.{Whole}
 use Rattle.nf_host.specs.declared.whole.Whole.TheVariants.{Absent, TooLong, Bytes}
 
--- the whole of what is there, if it has at most `limit` bytes
+-- the whole file if it has at most `limit` bytes, `TooLong` if it has more, `Absent` if there is none
 abbrev pub IsWhole : Option (List ℕ) → ℕ → Whole → Type 0
 IsWhole None limit w = w ≡ Absent
 IsWhole (Some b) limit Absent = ⊥

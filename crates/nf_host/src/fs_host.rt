@@ -1,4 +1,4 @@
-//! The files of the system.
+//! `FsHost`: the system's files.
 
 ghost use Rattle.std.specs.Prelude.{◌≡◌, ◌⊎◌, ◌↔◌, ◌≤◌, None, IfSome, IfOk, IsTrue, length, take};
 ghost use Rattle.std.specs.IoError.{error_kind};
@@ -12,8 +12,8 @@ use std::io;
 use std::io::{ErrorKind, Read, Seek, SeekFrom};
 use std::rt::Files;
 
-/// The files of the system that the program runs on. It tells no content. A path that is missing,
-/// empty or through a plain file isn't there; a folder in a file's place is a failure (own).
+/// The files of the system that the program runs on. It doesn't reveal them. A path that is missing, empty or leads through
+/// a plain file is absent; a folder in a file's place is a failure (own).
 #[derive(Drop)]
 pub struct FsHost<R> {
     rt: R,
@@ -75,8 +75,8 @@ fn is_absence(error: &io::Error) -> bool
     kind == ErrorKind::NotFound || kind == ErrorKind::NotADirectory
 }
 
-// Reads from byte `at` on into the front of `room`, and says how many bytes: fewer than it has only
-// at the file's end.
+// Reads into the front of `room` from byte `at` on, and gives the count of bytes. It is less than `room.len()` only at the
+// file's end.
 fn read_front<F: Read + Seek>(file: &mut F, at: u64, room: &mut [u8]) -> io::Result<usize>
     ensures { IfOk result (λ n. n ≤ length room.new) }
 {

@@ -1,4 +1,4 @@
-//! What a host of files promises.
+//! The trait `Host`: where scripts are read from.
 
 ghost use Rattle.std.specs.Prelude.{◌≡◌, ◌≤◌, ℕ, IfSome, IfOk};
 ghost use Rattle.std.specs.declared.option.Option.{Option};
@@ -15,19 +15,19 @@ pub const PIECE_LEN: usize = 65_536;
 /// What a read gave.
 #[derive(Drop)]
 pub enum Piece {
-    /// The path isn't there.
+    /// There is no file at the path.
     Absent,
     /// Bytes of the file, at most 65,536.
     Bytes(Bytes),
 }
 
-/// A host gave no answer (own).
+/// Why a read gave nothing (own).
 #[derive(Debug, Drop, Clone, Copy, PartialEq, Eq, Error)]
 pub enum HostRefusal {
     /// The host failed, and counted it.
     #[error("Failed")]
     Failed,
-    /// Memory that was asked for wasn't there.
+    /// Out of memory.
     #[error("Mem")]
     Mem,
 }
@@ -62,23 +62,22 @@ impl<T: Drop> From<AllocFailed<T>> for HostRefusal {
     }
 }
 
-/// Files by their paths, as something outside of the program holds them (own).
+/// Files by their paths, outside the program (own).
 ///
-/// A host may tell what it holds. What is said of content stands where it tells it.
+/// A host may reveal its files. If it does, a read gives exactly their bytes; otherwise nothing is known of the bytes.
 pub trait Host {
-    /// The bytes of each path, where the host tells them.
+    /// The bytes at each path, if the host reveals them.
     ghost files: { Self → Option Files };
 
-    /// How often the host has failed. At 2^64 - 1 the count stands still.
+    /// How often the host has failed. The count stops at 2^64 - 1.
     ghost faults: { Self → ℕ };
 
-    /// The bytes of a file from byte `at` on: 65,536, and fewer only at the file's end.
-    /// Absent exactly where the path isn't there.
+    /// The next 65,536 bytes of a file from byte `at` on, or fewer at its end. `Absent` exactly if there is no file at the
+    /// path. The files don't change.
     ///
     /// # Errors
     ///
-    /// `Failed` where the host failed in this call, and counted it. `Mem` where there is no
-    /// memory for the bytes.
+    /// `Failed` if the host failed in this call; it counted that. `Mem` if there is no memory for the bytes.
     fn read_at(&mut self, alloc: Global, path: &str, at: u64) -> Result<Piece, HostRefusal>
         ensures later { faults self.old ≤ faults self.new }
         ensures cause { OnFailed result (Rose (faults self.old) (faults self.new)) }

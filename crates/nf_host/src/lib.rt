@@ -1,4 +1,4 @@
-//! Hosts of files and sinks of bytes: what they mean, in memory, and over the system.
+//! Where scripts are read from (`Host`) and where output goes (`Sink`): the traits, and each in memory and over the system.
 #![tactic(auto)]
 
 mod fs_host;

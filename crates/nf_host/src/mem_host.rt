@@ -1,4 +1,4 @@
-//! Files in memory.
+//! `MemHost`: files in memory, for tests.
 
 ghost use Rattle.std.specs.Prelude.{◌≡◌, ◌≤◌, ◌+◌, ◌-◌, ◌^◌, ◌++◌, ℕ, List, [], ◌∷◌, min, if◌then◌else◌, Some, Err, IfOk, OnOk, OnErr, IsTrue, take, drop, length};
 ghost use Rattle.std.specs.Bool.{OnTrue};
@@ -10,7 +10,7 @@ use nf_value::{Bytes, Mem};
 use std::alloc::{AllocError, Global};
 use std::collections::BTreeMap;
 
-/// Files in memory. It tells them, and fails at the calls that it was told to fail at (own).
+/// Files in memory. It reveals them, and fails exactly at the reads that `fail_at` named (own).
 #[derive(Drop)]
 pub struct MemHost {
     files: BTreeMap<String, Vec<u8>>,
@@ -23,7 +23,7 @@ pub struct MemHost {
 impl MemHost {
     ghost use Rattle.nf_host.specs.MemHost.{files_of, failing_of, calls_of, faults_of};
 
-    /// A host with no files, that never fails. Takes no memory.
+    /// A host with no files that never fails. Takes no memory.
     pub fn new(alloc: Global) -> MemHost
         ensures files { files_of result ≡ no_files }
         ensures failing { failing_of result ≡ [] }
@@ -39,11 +39,11 @@ impl MemHost {
         }
     }
 
-    /// Puts a file with these bytes at the path, in the place of one that is there.
+    /// Puts a file with these bytes at the path. It replaces a file that is there.
     ///
     /// # Errors
     ///
-    /// `Mem` where there is no memory for it. The files are as before.
+    /// `Mem` if there is no memory for it. The files are unchanged.
     pub fn put(&mut self, path: &str, bytes: &[u8]) -> Result<(), Mem>
         ensures ok { OnOk result ((q : List ℕ) → files_of self.new q ≡ put (files_of self.old) path.now bytes.now q) }
         ensures err { OnErr result ((q : List ℕ) → files_of self.new q ≡ files_of self.old q) }
@@ -57,12 +57,11 @@ impl MemHost {
         Ok(())
     }
 
-    /// Lets a call of `read_at` fail: the one with this number, counted from 0 and from the making
-    /// of the host.
+    /// Makes the call of `read_at` with this number fail. Calls are counted from 0, since `new`.
     ///
     /// # Errors
     ///
-    /// `Mem` where there is no memory for it. The host is as before.
+    /// `Mem` if there is no memory for it. The host is unchanged.
     pub fn fail_at(&mut self, call: u64) -> Result<(), Mem>
         ensures ok { OnOk result (failing_of self.new ≡ failing_of self.old ++ call ∷ []) }
         ensures err { OnErr result (failing_of self.new ≡ failing_of self.old) }
@@ -89,7 +88,7 @@ impl Host for MemHost {
         ensures short { IfOk result IsShort }
         ensures content { IfOk result (IsPiece (files_of self.old path.now) at) }
 
-        // It fails exactly at the calls that it was told to fail at.
+        // It fails exactly at the calls that `fail_at` named.
         ensures fails { OnTrue (is_next_failing self.old) (result ≡ Err HostRefusal.Failed) }
         ensures fails_only { OnFailed result (IsTrue (is_next_failing self.old)) }
         ensures counted { faults_of self.new ≡ (if is_next_failing self.old then min (faults_of self.old + 1) (2 ^ 64 - 1) else faults_of self.old) }

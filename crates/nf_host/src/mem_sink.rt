@@ -1,4 +1,4 @@
-//! A sink in memory.
+//! `MemSink`: output in memory, for tests.
 
 ghost use Rattle.std.specs.Prelude.{◌≡◌, ◌⊎◌, ◌≤◌, ◌+◌, ◌-◌, ◌^◌, ◌++◌, ◌==◌, ℕ, [], min, if◌then◌else◌, Some, None, IfSome, OnSome, OnOk, OnErr, IsErr, is_ok, take};
 ghost use Rattle.nf_host.specs.Faults.{Rose};
@@ -9,8 +9,7 @@ use nf_value::Mem;
 use std::alloc::{AllocError, Global};
 use std::collections::BTreeMap;
 
-/// A sink in memory. It tells what it has taken, and fails at the calls that it was told to fail
-/// at (own).
+/// A sink in memory. It reveals its bytes. It fails at the writes that `fail_at` named, and if there is no memory (own).
 #[derive(Drop)]
 pub struct MemSink {
     written: Vec<u8>,
@@ -22,7 +21,7 @@ pub struct MemSink {
 impl MemSink {
     ghost use Rattle.nf_host.specs.MemSink.{written_of, failing_of, calls_of, faults_of};
 
-    /// A sink that has taken nothing, and fails only for want of memory. Takes no memory.
+    /// A sink that holds nothing and fails only if there is no memory. Takes no memory itself.
     pub fn new(alloc: Global) -> MemSink
         ensures written { written_of result ≡ [] }
         ensures failing { (q : ℕ) → failing_of result q ≡ None }
@@ -37,12 +36,12 @@ impl MemSink {
         }
     }
 
-    /// Lets a call of `write` fail: the one with this number, counted from 0 and from the making of
-    /// the sink. It takes the first `front` bytes of its piece, or all where there are fewer.
+    /// Makes the call of `write` with this number fail. Calls are counted from 0, since `new`. The failing call takes the
+    /// first `front` bytes of its piece, or all if there are fewer.
     ///
     /// # Errors
     ///
-    /// `Mem` where there is no memory for it. The sink is as before.
+    /// `Mem` if there is no memory for it. The sink is unchanged.
     pub fn fail_at(&mut self, call: u64, front: u64) -> Result<(), Mem>
         ensures ok { OnOk result ((q : ℕ) → failing_of self.new q ≡ (if q == call then Some front else failing_of self.old q)) }
         ensures err { OnErr result ((q : ℕ) → failing_of self.new q ≡ failing_of self.old q) }
@@ -54,7 +53,7 @@ impl MemSink {
         Ok(())
     }
 
-    /// All that it has taken. Takes no memory.
+    /// All bytes that it took. Takes no memory.
     pub fn written(&self) -> &[u8]
         ensures { result.now ≡ written_of self.now }
     {
@@ -86,8 +85,7 @@ impl Sink for MemSink {
         ensures front { GrowsByFront (written_of self.old) piece.now (written_of self.new) }
         ensures all { OnOk result (written_of self.new ≡ written_of self.old ++ piece.now) }
 
-        // It fails at the calls that it was told to fail at, with that front or for want of memory
-        // with nothing.
+        // It fails at the calls that `fail_at` named, after it took that front, or nothing if there was no memory.
         ensures fails { OnSome (failing_of self.old (calls_of self.old)) (IsErr result) }
         ensures given { IfSome (failing_of self.old (calls_of self.old)) (λ n. (written_of self.new ≡ written_of self.old ++ take n piece.now) ⊎ (written_of self.new ≡ written_of self.old)) }
         ensures counted { faults_of self.new ≡ (if is_ok result then faults_of self.old else min (faults_of self.old + 1) (2 ^ 64 - 1)) }

@@ -1,4 +1,4 @@
-//! What a sink of bytes promises.
+//! The trait `Sink`: where output goes.
 
 ghost use Rattle.std.specs.Prelude.{◌≡◌, ◌≤◌, ◌++◌, ◌↔◌, ℕ, List, IsSome, IfSome, OnOk, OnErr};
 ghost use Rattle.std.specs.declared.option.Option.{Option};
@@ -7,27 +7,26 @@ ghost use Rattle.nf_host.specs.Sink.{GrowsByFront};
 
 use thiserror::Error;
 
-/// A sink didn't take all the bytes, and counted it (own).
+/// A sink didn't take all the bytes. It counted the failure (own).
 #[derive(Debug, Drop, Clone, Copy, PartialEq, Eq, Error)]
 #[error("SinkFailed")]
 pub struct SinkFailed;
 
-/// Something that takes bytes in order (own).
+/// Takes bytes in order, outside the program (own).
 ///
-/// A sink may tell what it has taken. What is said of content stands where it tells it.
+/// A sink may reveal the bytes that it took. If it does, a write adds exactly its piece; otherwise nothing is known of them.
 pub trait Sink {
-    /// All the bytes so far, where the sink tells them.
+    /// All bytes so far, if the sink reveals them.
     ghost written: { Self → Option (List ℕ) };
 
-    /// How often the sink has failed. At 2^64 - 1 the count stands still.
+    /// How often the sink has failed. The count stops at 2^64 - 1.
     ghost faults: { Self → ℕ };
 
-    /// Takes the bytes of `piece`.
+    /// Adds the bytes of `piece` at the end.
     ///
     /// # Errors
     ///
-    /// `SinkFailed` where the sink failed in this call, and counted it. It may have taken a front
-    /// of the piece.
+    /// `SinkFailed` if the sink failed in this call; it counted that. It may have taken the front of the piece.
     fn write(&mut self, piece: &[u8]) -> Result<(), SinkFailed>
         ensures later { faults self.old ≤ faults self.new }
         ensures cause { OnErr result (Rose (faults self.old) (faults self.new)) }

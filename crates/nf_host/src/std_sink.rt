@@ -1,4 +1,4 @@
-//! The standard output.
+//! `StdSink`: the standard output.
 
 ghost use Rattle.std.specs.Prelude.{◌≡◌, None};
 
@@ -6,7 +6,7 @@ use crate::sink::{Sink, SinkFailed};
 use std::io;
 use std::io::Write;
 
-/// The standard output of the program. It tells no content, and takes no memory (own).
+/// The program's standard output. It doesn't reveal its bytes, and takes no memory (own).
 #[derive(Drop)]
 pub struct StdSink<R> {
     rt: R,

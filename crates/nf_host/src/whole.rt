@@ -1,4 +1,4 @@
-//! A whole file, read piece by piece.
+//! Reads a whole file piece by piece.
 
 ghost use Rattle.std.specs.Prelude.{◌≡◌, ◌≤◌, IfSome, IfOk};
 ghost use Rattle.nf_host.specs.Faults.{Rose, OnFailed};
@@ -11,7 +11,7 @@ use std::alloc::Global;
 /// What a read of a whole file gave.
 #[derive(Drop)]
 pub enum Whole {
-    /// The path isn't there.
+    /// There is no file at the path.
     Absent,
     /// The file is longer than the limit.
     TooLong,
@@ -19,16 +19,15 @@ pub enum Whole {
     Bytes(Bytes),
 }
 
-/// Reads a whole file of at most `limit` bytes, one piece after another from its front. A piece of
-/// fewer than 65,536 bytes ends the file. After a byte past the limit nothing more is read (own).
+/// Reads a whole file of at most `limit` bytes, piece by piece. A piece of fewer than 65,536 bytes ends the file. Reading
+/// stops at the first piece that passes the limit (own).
 ///
-/// Over a host that tells its files: Absent exactly where the path isn't there, `TooLong` exactly
-/// where the file is longer than `limit`, else exactly the file's bytes.
+/// If the host reveals its files: `Absent` exactly if there is no file at the path, `TooLong` exactly if the file is longer
+/// than `limit`, else exactly the file's bytes.
 ///
 /// # Errors
 ///
-/// `Failed` where the host failed in this call, and counted it. `Mem` where there is no memory for
-/// the bytes.
+/// `Failed` if the host failed in this call; it counted that. `Mem` if there is no memory for the bytes.
 pub fn read_whole<H: Host>(
     alloc: Global,
     host: &mut H,

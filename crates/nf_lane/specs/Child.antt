@@ -1,4 +1,4 @@
--- What a child process is known by when it has ended.
+-- The report of a child process that ended.
 use Rattle.std.specs.Prelude.{◌≡◌, ℕ, ◌≤◌, ◌++◌, ℤ, pos, List, [], Bool, true, false, length, nat_le, unwrap_or, None, Some, if◌then◌else◌}
 use Rattle.std.specs.declared.option.Option.{Option}
 use Rattle.std.specs.Str.{IsUtf8}
@@ -17,30 +17,30 @@ exit_number s = unwrap_or (exit_code s) NO_CODE_STATUS
 abbrev pub IsStatus : ℤ → Type 0
 IsStatus z = (n : ℕ) × (n ≤ 255) × (z ≡ pos n)
 
--- what is kept of the bytes that it wrote: all of them, or nothing where they pass the limit
+-- what is kept of the bytes that it wrote: all, or nothing if they pass the limit
 abbrev pub kept_of : List ℕ → Option (List ℕ)
 kept_of bytes = if nat_le (length bytes) OUTPUT_LIMIT then Some bytes else None
 
--- the same where more bytes follow what was kept
+-- the same after more bytes
 abbrev pub kept_with : Option (List ℕ) → List ℕ → Option (List ℕ)
 kept_with None more = None
 kept_with (Some bytes) more = kept_of (bytes ++ more)
 
--- what becomes of the kept bytes: the text that they are, or Bad where none were kept or they aren't UTF-8
+-- the kept bytes as a text; Bad if nothing was kept or they aren't UTF-8
 abbrev pub IsCaptured : Option (List ℕ) → Captured → Type 0
 IsCaptured kept captured.None = ⊥
 IsCaptured kept (captured.Text t) = kept ≡ Some t
 IsCaptured None captured.Bad = Unit {0}
 IsCaptured (Some bytes) captured.Bad = IsUtf8 bytes → ⊥
 
--- standard output as a child has it, where it is wanted or isn't
+-- what a report may have as standard output, if it is wanted (true) or not (false)
 abbrev pub IsOutput : Bool → Captured → Type 0
 IsOutput false c = c ≡ captured.None
 IsOutput true captured.None = ⊥
 IsOutput true captured.Bad = Unit {0}
 IsOutput true (captured.Text t) = length t ≤ OUTPUT_LIMIT
 
--- a child's report: a status from 0 to 255, its standard output where that is wanted, and no files
+-- a child's report: a status from 0 to 255, standard output if it is wanted, and no files
 pub record IsChildReport (wants_stdout : Bool) (r : Report) : Type 0 where
   pub exit : IsStatus r.exit
   pub output : IsOutput wants_stdout r.captured

@@ -1,4 +1,4 @@
--- What a lane over child processes counts.
+-- The counts of a `ChildLane`.
 use Rattle.std.specs.Prelude.{ℕ}
 use Rattle.nf_lane.specs.declared.child_lane.ChildLane.{ChildLane}
 

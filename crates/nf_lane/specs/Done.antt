@@ -1,4 +1,4 @@
--- What a job that was run says.
+-- What a `Done` says of its job and its run.
 use Rattle.std.specs.Prelude.{◌≡◌, ℕ, ◌≤◌, List}
 use Rattle.nf_job.specs.JobText.{job_text}
 use Rattle.nf_job.specs.declared.parts.JobParts.{JobParts}
@@ -21,7 +21,7 @@ number_of d = d.number
 abbrev pub IsJobText : List ℕ → Type 0
 IsJobText t = (p : JobParts) × (t ≡ job_text p)
 
--- it is of a job, and of one of a lane's runs
+-- it has a job's text and a run's number
 pub record IsGenuine (d : Done) : Type 0 where
   pub job : IsJobText (text_of d)
   pub run : 1 ≤ number_of d

@@ -1,4 +1,4 @@
--- What a lane over a table holds.
+-- What a `TableLane` holds.
 use Rattle.std.specs.Prelude.{ℕ, List, Bool, ◌==◌}
 use Rattle.std.specs.List.{list_any}
 use Rattle.nf_lane.specs.World.{World}

@@ -1,4 +1,4 @@
-//! One child process: how it is started, read and waited for.
+//! Runs a job's script as one child process: starts it, reads its output, waits for its end.
 
 ghost use Rattle.std.specs.Prelude.{◌≡◌, ◌≤◌, IfOk, IfSome, option_map};
 ghost use Rattle.nf_lane.specs.Child.{IsChildReport, IsOutput, IsCaptured, IsStatus, exit_number, kept_of, kept_with};
@@ -10,13 +10,13 @@ use std::io;
 use std::io::{ErrorKind, Read};
 use std::process::{Child, Command, ExitStatus, OpenProcess, Processes, Stdio};
 
-/// The most bytes of standard output that are kept (own).
+/// The most bytes of a child's standard output that are kept (own).
 pub const OUTPUT_LIMIT: usize = 1_048_576;
 
-/// The status of a child that has no exit code, as one that a signal ended (own).
+/// The status of a child without an exit code: a signal ended it (own).
 pub const NO_CODE_STATUS: i32 = 255;
 
-// How the script ended in a shell of its own, and what it wrote.
+// Runs a script in a shell of its own. Gives its exit status, and its standard output if that is wanted.
 pub(crate) fn run_script<R: Processes>(
     rt: &R,
     alloc: Global,
@@ -40,7 +40,7 @@ pub(crate) fn run_script<R: Processes>(
     }
 }
 
-// The child has no input and no file of this process, and shares its standard error.
+// The child reads no input and inherits no open file but the standard error.
 fn start<R: Processes>(
     rt: &R,
     alloc: Global,
@@ -78,7 +78,7 @@ fn status_of(status: ExitStatus) -> i32
     status.code().unwrap_or(NO_CODE_STATUS)
 }
 
-// The child's standard output up to its end, where it is wanted.
+// The child's standard output up to its end, if it is wanted.
 fn read_output<P: OpenProcess>(
     alloc: Global,
     child: &mut Child<P>,
@@ -96,7 +96,7 @@ fn read_output<P: OpenProcess>(
     Ok(captured_of(output))
 }
 
-// All bytes of a reader up to its end, or nothing where they pass the limit: what passes it is read and dropped.
+// Reads up to the reader's end. Gives all bytes, or nothing if they pass the limit; the rest is then read and dropped.
 fn read_within<S: Read>(alloc: Global, from: &mut S) -> io::Result<Option<Vec<u8>>>
     ensures within { IfOk result (λ o. (bytes : _) × (option_map (λ v. v.items) o ≡ kept_of bytes)) }
     ensures all { IfSome (S.remaining from.old) (λ bytes. IfOk result (λ o. option_map (λ v. v.items) o ≡ kept_of bytes)) }

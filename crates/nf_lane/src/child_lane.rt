@@ -1,4 +1,4 @@
-//! A lane that runs child processes.
+//! `ChildLane`: runs jobs as child processes.
 
 ghost use Rattle.std.specs.Prelude.{◌≡◌, ◌+◌, ◌<◌, ◌≤◌, ◌^◌, None, IfOk, OnOk};
 ghost use Rattle.nf_host.specs.Faults.{Rose};
@@ -15,8 +15,8 @@ use std::alloc::Global;
 use std::io::ErrorKind;
 use std::process::Processes;
 
-/// Runs each job's script by `sh -ue -c SCRIPT`, with empty input, in the program's working folder. It tells no world. A child's
-/// standard error goes to the program's (own).
+/// Runs each job's script by `sh -ue -c SCRIPT` in the program's working folder. The child has no input, and its standard
+/// error is the program's. The lane doesn't reveal its world (own).
 #[derive(Drop)]
 pub struct ChildLane<R> {
     rt: R,
@@ -71,7 +71,7 @@ impl<R: Processes> Lane for ChildLane<R> {
         ensures numbered { IfOk result (λ d. number_of d ≡ runs_of self.new) }
         ensures of_the_job { IfOk result (λ d. text_of d ≡ job_text job.now) }
 
-        // Only a failure is counted, and a report is one that a child can have.
+        // A run that gives a report counts no fault, and the report is one that a child can have.
         ensures counted { OnOk result (faults_of self.new ≡ faults_of self.old) }
         ensures reported { IfOk result (λ d. IsChildReport job.now.wants_stdout (report_of_done d)) }
     {

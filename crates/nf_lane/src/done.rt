@@ -1,4 +1,4 @@
-//! Jobs that were run.
+//! `Done`: a job that a lane ran, with its report.
 
 ghost use Rattle.std.specs.Prelude.{◌≡◌};
 ghost use Rattle.sha2.specs.Sha256.{sha256};
@@ -22,7 +22,7 @@ impl Done {
     ghost use Rattle.nf_job.specs.JobText.{job_text};
     ghost use Rattle.nf_lane.specs.Done.{text_of, report_of_done, number_of};
 
-    // The end of the job's run with this number.
+    // A job whose run with this number gave this report.
     pub(crate) fn of(job: &Job, report: Report, number: u64) -> Result<Done, Mem>
         ensures text { IfOk result (λ d. text_of d ≡ job_text job.now) }
         ensures report { IfOk result (λ d. report_of_done d ≡ report) }

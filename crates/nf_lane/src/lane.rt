@@ -1,4 +1,4 @@
-//! What a lane promises.
+//! The trait `Lane`, which runs jobs, and `Finished`, what a run gives back.
 
 ghost use Rattle.std.specs.Prelude.{◌≡◌, ◌+◌, ◌<◌, ◌≤◌, ◌^◌, ℕ, List, IfOk, IfSome};
 ghost use Rattle.std.specs.declared.option.Option.{Option};
@@ -14,15 +14,15 @@ use nf_job::{Job, Report};
 use nf_value::Digest;
 use std::alloc::Global;
 
-/// A job that was run, with its report (own). It can't be cloned, so each stands for one run.
+/// A job that was run, with its report (own). It can't be cloned, so each value stands for one run.
 pub trait Finished {
-    /// A lane's `run` gave it. Nothing else makes one for which this holds.
+    /// What is known of every value that a lane's `run` gives.
     ghost genuine: { Self → Type 0 };
 
     /// The text of the job.
     ghost job: { Self → List ℕ };
 
-    /// How the job ended.
+    /// The job's report.
     ghost told: { Self → Report };
 
     /// Which run of its lane gave it, counted from 1.
@@ -32,7 +32,7 @@ pub trait Finished {
     fn key(&self) -> &Digest
         ensures { result.now.0 ≡ sha256 (job self.now) };
 
-    /// How the job ended. Takes no memory.
+    /// The job's report: how it ended. Takes no memory.
     fn report(&self) -> &Report
         ensures { result.now ≡ told self.now };
 
@@ -43,7 +43,8 @@ pub trait Finished {
 
 /// Runs jobs, one after another (own).
 ///
-/// A lane may tell its world: the report that each job has. What is said of reports stands where it tells it.
+/// A lane may reveal its world, the report of every job. If it does, `run` gives exactly the report in it; otherwise nothing is
+/// known of the report.
 pub trait Lane {
     /// A job that the lane ran.
     type Done: Finished + Drop;
@@ -51,17 +52,17 @@ pub trait Lane {
     /// How many calls of `run` it has had.
     ghost runs: { Self → ℕ };
 
-    /// How often the lane has failed. At 2^64 - 1 the count stands still.
+    /// How often the lane has failed. The count stops at 2^64 - 1.
     ghost faults: { Self → ℕ };
 
-    /// The report of each job by its text, where the lane tells it.
+    /// The report of each job by its text, if the lane reveals it.
     ghost world: { Self → Option World };
 
-    /// Runs a job once, and answers how it ended. The count of runs rises by one, whatever it answers.
+    /// Runs a job once, and gives the job with its report. The count of runs rises by one, also on an error.
     ///
     /// # Errors
     ///
-    /// `Failed` where the lane failed in this call, and counted it. `Mem` where there is no memory for the answer.
+    /// `Failed` if the lane failed in this call; it counted that. `Mem` if there is no memory for the answer.
     fn run(&mut self, alloc: Global, job: &Job) -> Result<Self::Done, LaneRefusal>
         requires { runs self.old < 2 ^ 63 }
         ensures rises { runs self.new ≡ runs self.old + 1 }
@@ -69,7 +70,7 @@ pub trait Lane {
         ensures cause { OnFailed result (Rose (faults self.old) (faults self.new)) }
         ensures same { world self.new ≡ world self.old }
 
-        // What it answers is of this run and of this job.
+        // The answer is of this run and of this job, and its report is the world's.
         ensures genuine { IfOk result Self.Done.genuine }
         ensures numbered { IfOk result (λ d. Self.Done.number d ≡ runs self.new) }
         ensures of_the_job { IfOk result (λ d. Self.Done.job d ≡ job_text job.now) }
@@ -84,7 +85,7 @@ pub trait Lane {
         ensures { result ≡ faults self.now };
 }
 
-/// What a run of a script keeps of its lanes: the jobs that they ran, in the order in which the run's history has their ends.
+/// What a run of a script keeps from its lanes: the jobs that they ran, in the order of the history's Finish events.
 #[derive(Drop)]
 pub struct Kept<L: Lane> {
     /// The jobs that were run.

@@ -1,4 +1,4 @@
-//! Lanes: what runs jobs, and what it gives back.
+//! `Lane`, the trait of what runs jobs: over child processes, and over a table of reports for tests.
 #![tactic(auto)]
 
 mod child;

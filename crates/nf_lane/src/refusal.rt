@@ -1,4 +1,4 @@
-//! Why a lane gave no report.
+//! Why a run of a job gave no report.
 
 ghost use Rattle.std.specs.Prelude.{◌≡◌};
 ghost use Rattle.nf_lane.specs.declared.refusal.LaneRefusal.TheVariants as refusal;
@@ -7,13 +7,13 @@ use nf_value::Mem;
 use std::alloc::{AllocError, AllocFailed};
 use thiserror::Error;
 
-/// A lane gave no report (own).
+/// Why a run of a job gave no report (own).
 #[derive(Debug, Drop, Clone, Copy, PartialEq, Eq, Error)]
 pub enum LaneRefusal {
     /// The lane failed, and counted it.
     #[error("Failed")]
     Failed,
-    /// Memory that was asked for wasn't there.
+    /// Out of memory.
     #[error("Mem")]
     Mem,
 }

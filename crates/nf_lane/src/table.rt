@@ -1,4 +1,4 @@
-//! Tables of reports.
+//! `Table`: the reports of jobs by the jobs' texts.
 
 ghost use Rattle.std.specs.Prelude.{◌≡◌, IfOk, bytes_eq};
 ghost use Rattle.nf_lane.specs.World.{report_of};
@@ -8,8 +8,8 @@ use nf_value::{Mem, Txt};
 use std::alloc::Global;
 use std::marker::Model;
 
-/// The reports of some jobs by the jobs' texts. Contracts see the list of them. Of several entries with one text the first counts,
-/// and each other job has exit 127, no standard output and no files.
+/// The reports of some jobs by the jobs' texts. Contracts see the list of entries. The first entry of a text counts. A job
+/// without an entry has exit status 127, no standard output and no files (own).
 #[derive(Drop)]
 pub struct Table {
     items: Vec<(Txt, Report)>,
@@ -31,11 +31,11 @@ impl Table {
         Table { items }
     }
 
-    /// Another table of the same reports.
+    /// A copy of the table.
     ///
     /// # Errors
     ///
-    /// `Mem` where there is no memory for it.
+    /// `Mem` if there is no memory for it.
     pub fn copy(&self) -> Result<Table, Mem>
         ensures { IfOk result (λ t. t ≡ self.now) }
     {
@@ -50,7 +50,7 @@ impl Table {
     ///
     /// # Errors
     ///
-    /// `Mem` where there is no memory for it.
+    /// `Mem` if there is no memory for it.
     #[tactic(auto, using(crate::proofs::Entries::at_entry, crate::proofs::Entries::past_entry, crate::proofs::Entries::no_entry))]
     pub fn report(&self, alloc: Global, text: &Txt) -> Result<Report, Mem>
         ensures { IfOk result (λ r. r ≡ report_of self.now text.now) }

@@ -1,4 +1,4 @@
-//! A lane that answers from a table.
+//! `TableLane`: answers from a table, for tests.
 
 ghost use Rattle.std.specs.Prelude.{◌≡◌, ◌+◌, ◌-◌, ◌<◌, ◌≤◌, ◌^◌, min, if◌then◌else◌, Some, Err, IfOk, IsTrue, ⊤};
 ghost use Rattle.std.specs.Bool.{OnTrue};
@@ -14,7 +14,7 @@ use crate::table::Table;
 use nf_job::Job;
 use std::alloc::Global;
 
-/// Answers from a table, which is the world that it tells, and fails at the runs that it was told to fail at (own).
+/// Answers from a table. It reveals the table as its world, and fails exactly at the runs that it was made to fail at (own).
 #[derive(Drop)]
 pub struct TableLane {
     table: Table,
@@ -26,7 +26,7 @@ pub struct TableLane {
 impl TableLane {
     ghost use Rattle.nf_lane.specs.TableLane.{world_of, failing_of, runs_of, faults_of};
 
-    /// A lane over this table that fails at the runs with these numbers, counted from 0. Takes no memory.
+    /// A lane over this table. It fails at the runs whose numbers, from 0, are in `failing`. Takes no memory.
     pub fn new(table: Table, failing: Vec<u64>) -> TableLane
         ensures world { world_of result ≡ table }
         ensures failing { failing_of result ≡ failing.items }
@@ -65,7 +65,7 @@ impl Lane for TableLane {
         ensures of_the_job { IfOk result (λ d. text_of d ≡ job_text job.now) }
         ensures told { IfOk result (λ d. report_of_done d ≡ report_of (world_of self.old) (job_text job.now)) }
 
-        // It fails exactly at the runs that it was told to fail at.
+        // It fails exactly at the runs in `failing`.
         ensures fails { OnTrue (is_next_failing self.old) (result ≡ Err LaneRefusal.Failed) }
         ensures fails_only { OnFailed result (IsTrue (is_next_failing self.old)) }
         ensures counted { faults_of self.new ≡ (if is_next_failing self.old then min (faults_of self.old + 1) (2 ^ 64 - 1) else faults_of self.old) }
