@@ -1,4 +1,4 @@
--- From one environment to some patterns that are built.
+-- What holds in a scope's environment holds over some patterns that `regex` accepts.
 use Rattle.std.proofs.Common.{ℕ, List, [], Option, Result, Err, subst}
 use Rattle.nf_value.specs.Plain.{Plain}
 use Rattle.nf_ast.specs.Tree.{Tree}

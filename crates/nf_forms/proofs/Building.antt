@@ -1,4 +1,4 @@
--- How an answer that depends on another one is built.
+-- Answers that follow from the answers of parts.
 use Rattle.std.proofs.Common.{◌≡◌, Option, Some, None, Result, Ok, Err, refl, sym, ap, ◌∙◌, subst}
 use Rattle.nf_value.specs.declared.place.Place.{Place}
 use Rattle.nf_forms.specs.declared.fault.FormFault.{FormFault}

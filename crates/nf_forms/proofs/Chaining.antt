@@ -1,4 +1,4 @@
--- What is built of a chain, by its first operand and what follows it.
+-- What a chain gives, from its first operand and what follows it.
 use Rattle.std.proofs.Common.{◌≡◌, List, [], ◌∷◌, Option, Some, None, Ok, Err, map, refl, sym, ap, ◌∙◌}
 use Rattle.nf_value.specs.declared.place.Place.{Place}
 use Rattle.nf_ast.specs.declared.expr.Prefix.{Prefix}
@@ -64,7 +64,7 @@ leaf_parts a ys = first.parts_first LeafTree leaf_of followed followed_twice lea
 pub leaf_chain : (e chain : Tree) {x y : LeafTree} → e ≡ chain → x ≡ y → leaf_of chain ≡ y → x ≡ leaf_of e
 leaf_chain e chain is led h = led ∙ sym h ∙ sym (ap leaf_of is)
 
--- marks before an operand
+-- prefix operators
 pub leaf_bare : (ms : List Prefix) (a : Tree) → prefix_at ms ≡ None → leaf_of (prefixes ms a) ≡ leaf_of a
 leaf_bare [] a h = refl
 leaf_bare (m ∷ ms) a h = absurd (let e : Some m.place ≡ None = h in cc)

@@ -1,4 +1,4 @@
--- Readings that go from the left: of a chain they are that of its first operand, with the first mark after it.
+-- Functions that read a chain from the left: they give the first operand's answer, with the first operator after it.
 use Rattle.std.proofs.Common.{◌≡◌, List, [], ◌∷◌, Option, Some, None, map, refl, sym, ap, ◌∙◌}
 use Rattle.nf_value.specs.declared.place.Place.{Place}
 use Rattle.nf_ast.specs.declared.marks.InfixOperator.{InfixOperator}
@@ -12,7 +12,7 @@ use Rattle.nf_forms.specs.Leaf.{operand_at, branch_at, part_at, postfix_place}
 use Rattle.nf_forms.proofs.Parts.{Layer, of_part}
 
 module _ (X : Type 0) (R : Tree → X) (F : X → Place → X) (twice : (x : X) (p q : Place) → F (F x p) q ≡ F x p) where
-  -- with the first mark, where there is one
+  -- with the first operator, if there is one
   abbrev pub more : X → Option Place → X
   more x None = x
   more x (Some p) = F x p

@@ -1,4 +1,4 @@
--- The parts of a chain in memory, by one layer of them.
+-- The parts of a chain as the code holds them, one layer at a time.
 use Rattle.std.proofs.Common.{subst, sym}
 use Rattle.nf_ast.specs.Tree.{Tree}
 use Rattle.nf_ast.specs.declared.expr.Postfix.{Postfix}

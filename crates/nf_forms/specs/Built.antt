@@ -1,4 +1,4 @@
--- What of a script is built: what a part stands for, or the first place, in the order of the text, of what isn't built.
+-- A supported part's meaning, or the place of the first unsupported construct.
 use Rattle.std.specs.Prelude.{◌≡◌, ℕ, Bool, ◌&&◌, ◌||◌, nat_lt, ◌==◌, if◌then◌else◌, Option, Some, None, Result, Ok, Err}
 use Rattle.nf_value.specs.declared.place.Place.{Place}
 use Rattle.nf_forms.specs.declared.fault.FormFault.{FormFault}
@@ -12,36 +12,36 @@ abbrev pub ◌>>=◌ : {A B : Type 0} → Built A → (A → Built B) → Built 
 (Ok x) >>= f = f x
 (Err p) >>= f = Err p
 
--- a part, and then something at this place that isn't built
+-- a part, then something unsupported at this place
 abbrev pub then_at : {A B : Type 0} → Built A → Place → Built B
 then_at (Ok x) p = Err p
 then_at (Err q) p = Err q
 
--- a part, and then something at this place, where there is something
+-- a part, then something unsupported if there is a place
 abbrev pub unless : {A : Type 0} → Option Place → A → Built A
 unless None x = Ok x
 unless (Some p) x = Err p
 
--- something at this place that isn't built; or else a part
+-- something unsupported if there is a place; otherwise the part
 abbrev pub after_place : {A : Type 0} → Option Place → Built A → Built A
 after_place None x = x
 after_place (Some p) x = Err p
 
--- the one place stands before the other
+-- the first place stands before the second
 abbrev pub is_before : Place → Place → Bool
 is_before p q = nat_lt p.line q.line || ((p.line == q.line) && nat_lt p.col q.col)
 
--- something at this place that isn't built, or what isn't built of a part before it
+-- something unsupported at this place, or the part's own fault if that stands before it
 abbrev pub or_before : {A : Type 0} → Place → Built A → Built A
 or_before p (Ok x) = Err p
 or_before p (Err q) = if is_before q p then Err q else Err p
 
--- the same, where there is something
+-- the same, if there is a place
 abbrev pub around_place : {A : Type 0} → Option Place → Built A → Built A
 around_place None x = x
 around_place (Some p) x = or_before p x
 
--- each part of a list; at most so many
+-- the most items of `of`
 abbrev pub most_items : ℕ
 most_items = 10000
 
@@ -49,13 +49,13 @@ most_items = 10000
 abbrev pub first_place : Place
 first_place = record { line = 1; col = 1 }
 
--- an answer is what is built, or names the place; or memory ran out
+-- the answer is the meaning or the place, unless memory ran out
 abbrev pub Builds : {A X : Type 0} → (X → A) → Built A → Result X FormFault → Type 0
 Builds see due (Ok x) = due ≡ Ok (see x)
 Builds see due (Err (fault.Unbuilt p)) = due ≡ Err p
 Builds see due (Err fault.Mem) = Unit {0}
 
--- the same where no memory is asked for
+-- the same of an answer that takes no memory
 abbrev pub Names : {A X : Type 0} → (X → A) → Built A → Result X Place → Type 0
 Names see due (Ok x) = due ≡ Ok (see x)
 Names see due (Err p) = due ≡ Err p

@@ -1,4 +1,4 @@
--- A chain in memory.
+-- Chains as the code holds them.
 use Rattle.std.specs.Prelude.{List, [], ◌∷◌, Ok, Err}
 use Rattle.nf_ast.specs.Tree as tree
 use Rattle.nf_ast.specs.Tree.{Tree, place_of}
@@ -33,7 +33,7 @@ view_link (l.Made p x) = made p (view_made x)
 view_link (l.View p x) = view p (view_made x)
 view_link (l.Viewed p x) = viewed p (view_made x)
 
--- what a part after a link makes of it
+-- a link with the next part
 abbrev pub step : Env → Role → Tree → Link → Built Link
 step env r (tree.property e n) l = with_name l (place_of n) (name_in n)
 step env r (tree.call p e xs) l = with_args env r l p xs

@@ -1,4 +1,4 @@
--- The forms of script that are built.
+-- The two forms of script that `run` supports.
 use Rattle.std.specs.Prelude.{Bool, true, false, ◌||◌, if◌then◌else◌, List, Option, Some, None, Ok, Err}
 use Rattle.nf_value.specs.declared.place.Place.{Place}
 use Rattle.nf_value.specs.Plain.{Plain}
@@ -16,9 +16,9 @@ use Rattle.nf_forms.specs.Reach.{made_from}
 use Rattle.nf_forms.specs.Processes.{nothing, process_from}
 
 pub data Form : Type 0 where
-  -- a chain over a list: its items, and the closure that each of them is mapped by
+  -- `channel.of(ITEM, ..).map { CLOSURE }.view()`: the items and the closure
   chain : List Plain → Closing → Form
-  -- a process over a list, and the list
+  -- `NAME(channel.of(ITEM, ..)).view()`: the process and the items
   tasks : ProcessSpec → List Plain → Form
 
 -- ---- a workflow
@@ -49,7 +49,7 @@ workflow_from env r e = Err (begins_at e)
 
 -- ---- the whole
 
--- where a definition at the top begins
+-- where a definition begins
 abbrev pub top_place : Tree → Place
 top_place (tree.process p n ds is os t s) = p
 top_place (tree.workflow p n body) = p
@@ -76,7 +76,7 @@ add env r (tree.process p n ds is os t s) x = add_process (tree.process p n ds i
 add env r (tree.workflow p n body) x = add_workflow env r (tree.workflow p n body) x.process x.made
 add env r t x = Err (top_place t)
 
--- those that follow
+-- all further definitions
 abbrev pub add_all : Env → Role → Tree → Tops → Built Tops
 add_all env r (tree.cons t ts) x = add env r t x >>= add_all env r ts
 add_all env r _ x = Ok x
@@ -86,7 +86,7 @@ whole env None (Some (link.chain vs c)) = Ok (chain vs (closing c env))
 whole env (Some p) (Some (link.call vs)) = Ok (tasks p vs)
 whole env _ _ = Err first_place
 
--- a workflow stands by itself, or calls the first process
+-- the workflow calls the first process, or stands alone if there is none
 abbrev pub role_of : Tree → Role
 role_of (tree.cons (tree.process p (tree.name q n) ds is os t s) ts) = calling n
 role_of (tree.cons t ts) = role_of ts
@@ -98,7 +98,7 @@ no_tops = record { process = None; made = None }
 abbrev pub tops_from : Env → Tree → Built Form
 tops_from env t = add_all env (role_of t) t no_tops >>= λ x. whole env x.process x.made
 
--- a workflow without a name, with which a script begins to run
+-- a workflow without a name, the entry of a script
 abbrev pub is_entry : Tree → Bool
 is_entry (tree.workflow p tree.empty body) = true
 is_entry _ = false
@@ -107,6 +107,6 @@ abbrev pub has_entry : Tree → Bool
 has_entry (tree.cons t ts) = is_entry t || has_entry ts
 has_entry _ = false
 
--- the form of a script, whose expressions find what is around it: one workflow without a name, and one process or none, in either order; or the first place that is of no form
+-- the form of a script: one workflow without a name, and one process or none, in either order; or the place of the first unsupported construct
 abbrev pub form_of : Env → Tree → Built Form
 form_of env t = if has_entry t then tops_from env t else Err first_place

@@ -1,4 +1,4 @@
--- The arguments of methods, and the script of a process.
+-- The items of `of`, and the script of a process.
 use Rattle.std.specs.Prelude.{ℕ, suc, Bool, true, false, nat_lt, List, [], ◌∷◌, Option, Some, None, Ok, Err, bytes_eq, if◌then◌else◌}
 use Rattle.nf_value.specs.declared.place.Place.{Place}
 use Rattle.nf_ast.specs.Tree as tree
@@ -13,12 +13,12 @@ use Rattle.nf_forms.specs.Leaf.{LeafTree, First, text, template, name, leaf_of, 
 abbrev pub within : {A : Type 0} → ℕ → Tree → Built A → Built A
 within n x b = if nat_lt n most_items then b else Err (begins_at x)
 
--- each argument, after so many others
+-- each argument, after n others
 abbrev pub each : {A : Type 0} → (Tree → Built A) → ℕ → Tree → Built (List A)
 each item n (tree.cons x xs) = within n x (item x) >>= λ v. each item (suc n) xs >>= λ vs. Ok (v ∷ vs)
 each item n _ = Ok []
 
--- no argument, and the one argument
+-- no argument
 abbrev pub is_empty : Tree → Bool
 is_empty tree.empty = true
 is_empty _ = false
@@ -27,7 +27,7 @@ abbrev pub single : Tree → Option Tree
 single (tree.cons x tree.empty) = Some x
 single _ = None
 
--- at least one; the name of the method has this place
+-- at least one argument; p is the place of the method's name
 abbrev pub some_items : {A : Type 0} → (Tree → Built A) → Place → Tree → Built (List A)
 some_items item p xs = if is_empty xs then Err p else each item 0 xs
 
@@ -37,7 +37,7 @@ abbrev pub input_in : List ℕ → LeafTree → First → Built ScriptPiece
 input_in input l (name n) = if bytes_eq n input then unless l.after piece.Input else Err l.place
 input_in input l _ = Err l.place
 
--- a text, or a hole that is the input's name alone
+-- a text, or a hole with the input's name alone
 abbrev pub piece_from : List ℕ → Tree → Built ScriptPiece
 piece_from input (tree.piece p s) = Ok (piece.Text s)
 piece_from input (tree.hole p e) = input_in input (leaf_of e) (leaf_of e).first

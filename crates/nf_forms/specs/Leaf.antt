@@ -1,4 +1,4 @@
--- What stands first in an expression, and where something follows it.
+-- The leftmost leaf of an expression, and where something follows it.
 use Rattle.std.specs.Prelude.{◌≡◌, ℕ, Bool, true, false, List, [], ◌∷◌, Option, Some, None, Result, Ok, Err, map}
 use Rattle.std.specs.Borrow.{Bor}
 use Rattle.nf_value.specs.declared.place.Place.{Place}
@@ -27,7 +27,7 @@ pub data First : Type 0 where
 pub record LeafTree : Type 0 where
   pub place : Place
   pub first : First
-  -- the place of the first mark or part after it
+  -- the place of the first operator or part after it
   pub after : Option Place
 
 abbrev pub alone : Place → First → LeafTree
@@ -86,7 +86,7 @@ leaf_of e = alone (own_place e) other
 abbrev pub begins_at : Tree → Place
 begins_at e = (leaf_of e).place
 
--- the place of a name and its colon, with which an argument or a part of a closure's body begins
+-- the place of a label, a name and its colon at the start of an argument or of a part of a closure's body
 abbrev pub label_in : LeafTree → First → Option Place
 label_in l labelled = Some l.place
 label_in l _ = None
@@ -96,12 +96,12 @@ label_at e = label_in (leaf_of e) (leaf_of e).first
 
 -- ---- in memory
 
--- the place of the first mark before an operand
+-- the place of the first prefix operator
 abbrev pub prefix_at : List Prefix → Option Place
 prefix_at [] = None
 prefix_at (x ∷ xs) = Some x.place
 
--- the place of the first mark or part, of operands, of a conditional expression, and after an expression
+-- the place of the first operator: between operands, of a conditional expression; and of the first part after an expression
 abbrev pub operand_at : List Tree → Option Place
 operand_at (tree.binary p m x b ∷ xs) = Some p
 operand_at (_ ∷ xs) = operand_at xs
@@ -123,7 +123,7 @@ abbrev pub part_at : List Tree → Option Place
 part_at [] = None
 part_at (x ∷ xs) = Some (postfix_place x)
 
--- with something after it, where there is something
+-- the leaf, followed by something if there is a place
 abbrev pub follows : LeafTree → Option Place → LeafTree
 follows x None = x
 follows x (Some p) = followed x p
@@ -138,7 +138,7 @@ view_kind k.Other = other
 abbrev pub view_leaf : Leaf → LeafTree
 view_leaf x = record { place = x.place; first = view_kind x.kind; after = x.after }
 
--- what can stand where a statement stands and is no expression
+-- a statement that is no expression
 abbrev pub is_statement : Tree → Bool
 is_statement (tree.define p n e) = true
 is_statement (tree.define_all p ns e) = true

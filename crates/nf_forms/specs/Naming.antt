@@ -1,4 +1,4 @@
--- The name of an input in memory.
+-- The name of an input as the code holds it.
 use Rattle.nf_forms.specs.declared.processes.InputName.{InputName}
 use Rattle.nf_forms.specs.Processes.{Input}
 

@@ -1,4 +1,4 @@
--- A process of one input `val NAME` and the output `stdout`.
+-- Reading a process with one input `val NAME` and the output `stdout`.
 use Rattle.std.specs.Prelude.{ℕ, List, Ok, Err, if◌then◌else◌}
 use Rattle.nf_value.specs.declared.place.Place.{Place}
 use Rattle.nf_ast.specs.Tree as tree
@@ -21,7 +21,7 @@ part_place (tree.stdout p) = p
 part_place (tree.output v os) = part_place v
 part_place e = begins_at e
 
--- nothing; or its first part isn't built
+-- nothing is supported here: the place of the first part, if there is one
 abbrev pub nothing : Tree → Built (Unit {0})
 nothing (tree.cons x xs) = Err (part_place x)
 nothing (tree.section p xs) = Err p
@@ -39,7 +39,7 @@ abbrev pub one_input : Place → Tree → Built Input
 one_input p (tree.cons x xs) = input_part x >>= λ i. nothing xs >>= λ u. Ok i
 one_input p _ = Err p
 
--- an input section; where there is none, the process has this place
+-- the input section; p is the place of the process, for one without
 abbrev pub input_from : Place → Tree → Built Input
 input_from p (tree.section q xs) = one_input q xs
 input_from p _ = Err p
@@ -56,14 +56,14 @@ abbrev pub output_from : Place → Tree → Built (Unit {0})
 output_from p (tree.section q xs) = one_output q xs
 output_from p _ = Err p
 
--- of two parts that aren't built the earlier one is named
+-- two parts; if neither is supported, the earlier place
 abbrev pub both : {A B : Type 0} → Built A → Built B → Built A
 both (Ok x) (Ok y) = Ok x
 both (Ok x) (Err q) = Err q
 both (Err p) (Ok y) = Err p
 both (Err p) (Err q) = if is_before q p then Err q else Err p
 
--- one string
+-- a section with one string
 abbrev pub body_from : List ℕ → Place → Tree → Built (List ScriptPiece)
 body_from input p (tree.cons x tree.empty) = script_from input x
 body_from input p (tree.cons x (tree.cons y ys)) = then_at (script_from input x) (begins_at y)
@@ -73,11 +73,11 @@ abbrev pub task_in : List ℕ → LeafTree → First → Built (List ScriptPiece
 task_in input l (section xs) = body_from input l.place xs
 task_in input l x = script_in input l x
 
--- what a task runs
+-- the script of a process
 abbrev pub task_from : List ℕ → Tree → Built (List ScriptPiece)
 task_from input e = task_in input (leaf_of e) (leaf_of e).first
 
--- the input, the output and the directives in the order of the text, the script, and the stub
+-- all parts; of the input, the output and the directives the first unsupported one counts, then the script, then the stub
 abbrev pub parts_from : Place → List ℕ → Tree → Tree → Tree → Tree → Tree → Built ProcessSpec
 parts_from p word ds is os t s = do
   i ← both (both (input_from p is) (output_from p os)) (nothing ds)

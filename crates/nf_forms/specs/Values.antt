@@ -1,4 +1,4 @@
--- What is evaluated before the run, and the closure of `map`.
+-- The items of `of`, which are evaluated before the run, and the closure of `map`.
 use Rattle.std.specs.Prelude.{ℕ, false, List, [], ◌∷◌, Option, Some, None, Ok, Err, All}
 use Rattle.nf_value.specs.declared.place.Place.{Place}
 use Rattle.nf_value.specs.Plain.{Plain}
@@ -15,21 +15,21 @@ use Rattle.nf_names_bound.specs.Bound.{unbound_in}
 use Rattle.nf_forms.specs.Built.{Built, ◌>>=◌, unless, after_place, around_place}
 use Rattle.nf_forms.specs.Leaf.{LeafTree, First, closure, leaf_of, closure_place, label_at}
 
--- patterns are built only of texts in which the grammar of `regex` reads one
+-- texts of patterns that the grammar of `regex` reads
 abbrev pub AreBuilt : List (List ℕ) → Type 0
 AreBuilt patterns = All (λ s. IsPattern (wrapped s)) patterns
 
--- what the expressions of a script find: the functions of the program and the patterns that are built, and no name
+-- what a script's expressions can use: the program's functions and these patterns, and no names
 abbrev pub bare : List (List ℕ) → (ℕ → List Plain → Option Plain) → List (List ℕ) → Env
 bare titles answer patterns = record { names = []; captured = []; functions = []; patterns = patterns; titles = titles; answer = answer; in_process = false }
 
--- over some patterns that are built
+-- P holds in the environment with some set of patterns that `regex` accepts
 abbrev pub OverBuilt : List (List ℕ) → (ℕ → List Plain → Option Plain) → (Env → Type 0) → Type 0
 OverBuilt titles answer P = (patterns : List (List ℕ)) × AreBuilt patterns × P (bare titles answer patterns)
 
 -- ---- values
 
--- what has a fault isn't built, at the fault's place
+-- an expression with a fault is unsupported at the fault's place
 abbrev pub evaluated : Placed Plain → Built Plain
 evaluated (Ok v) = Ok v
 evaluated (Err f) = Err f.place
@@ -41,19 +41,19 @@ abbrev pub range_mark : Place → InfixOperator → Option Place
 range_mark p mark.Range = Some p
 range_mark p _ = None
 
--- a range, which would be several items, at its mark, and a closure
+-- what is no item: a range, which would be several items, at its operator; and a closure
 abbrev pub misplaced : Tree → Option Place
 misplaced (tree.binary p k a b) = range_mark p k
 misplaced (tree.closure p ps b) = Some p
 misplaced _ = None
 
--- an item: any other expression, without a name
+-- an item: any other expression, but no named argument
 abbrev pub item_from : Env → Tree → Built Plain
 item_from env e = after_place (label_at e) (around_place (misplaced e) (value_from env e))
 
 -- ---- closures
 
--- the first label, where the body has labels
+-- the place of the first label, if the body has labels
 abbrev pub first_label : Tree → Option Place
 first_label (tree.cons x xs) = label_at x
 first_label _ = None
@@ -67,19 +67,19 @@ abbrev pub closure_in : Env → LeafTree → First → Built Tree
 closure_in env l (closure c) = closure_from env c >>= unless l.after
 closure_in env l _ = Err l.place
 
--- such a closure alone
+-- such a closure with nothing after it
 abbrev pub lone_closure : Env → Tree → Built Tree
 lone_closure env e = closure_in env (leaf_of e) (leaf_of e).first
 
 -- ---- in memory
 
--- the mark of the last operand, where it is a range
+-- the place of the last operator, if that is a range
 abbrev pub last_range : Option Place → List Tree → Option Place
 last_range m [] = m
 last_range m (tree.binary p k x b ∷ xs) = last_range (range_mark p k) xs
 last_range m (_ ∷ xs) = last_range m xs
 
--- what stands alone, where no mark stands with it
+-- the misplaced part, unless there is an operator or a part after it
 abbrev pub unless_followed : Option Place → Option Place → Option Place
 unless_followed None x = x
 unless_followed (Some p) x = None

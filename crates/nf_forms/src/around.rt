@@ -1,4 +1,4 @@
-//! What the expressions of a script find: the functions of the program, and the patterns that are built.
+//! `ScriptScope`: what a script's expressions can use, the program's functions and the patterns that `regex` accepts.
 
 ghost use Rattle.std.specs.Prelude.{◌≡◌, IfOk};
 ghost use Rattle.nf_ast.specs.View.{view, view_closure};
@@ -15,7 +15,7 @@ use nf_pattern::{PatternFault, WholeRe};
 use nf_value::{Mem, Place, Txt};
 use std::alloc::Global;
 
-/// The environment of a script's expressions. The functions of the program come with each call.
+/// The environment of a script's expressions. The program's functions are passed to each call.
 #[derive(Drop)]
 pub struct ScriptScope {
     env: Env,
@@ -24,7 +24,7 @@ pub struct ScriptScope {
 impl ScriptScope {
     ghost use Rattle.nf_forms.specs.Memory.{view_around, IsBare};
 
-    /// No name has a value, and no pattern is built yet. Takes no memory.
+    /// A scope without names and patterns. Takes no memory.
     fn new(alloc: Global) -> ScriptScope
         ensures { IsBare result.env }
     {
@@ -40,14 +40,14 @@ impl ScriptScope {
         &self.env
     }
 
-    /// The environment, where nothing is asked of it any more. Takes no memory.
+    /// The environment, taken out. Takes no memory.
     pub fn into_env(self) -> Env
         ensures { result ≡ self.env }
     {
         self.env
     }
 
-    /// The first place, in the order of the text, of what an expression uses and nothing binds.
+    /// The first place in the text at which an expression uses what nothing binds.
     pub fn unbound<N: Natives>(
         &self,
         alloc: Global,
@@ -71,7 +71,7 @@ impl ScriptScope {
         unbound_closure(alloc, closure, &self.env, natives)
     }
 
-    /// With the pattern of a text, unless it is there or `regex` refuses it.
+    /// Adds the pattern of a text, unless it is there already or `regex` refuses it.
     fn with_pattern(self, alloc: Global, text: Txt) -> Result<ScriptScope, Mem>
         requires { IsBare self.env }
         ensures { IfOk result (λ a. IsBare a.env) }
@@ -87,7 +87,7 @@ impl ScriptScope {
         }
     }
 
-    /// With a pattern of this text.
+    /// Adds this pattern of this text.
     fn with_built(self, re: WholeRe, text: Txt) -> Result<ScriptScope, Mem>
         requires bare { IsBare self.env }
         requires same { re ≡ text }
@@ -99,7 +99,7 @@ impl ScriptScope {
         Ok(ScriptScope { env })
     }
 
-    /// With the pattern that is used.
+    /// Adds the pattern of a use, if it is one.
     fn with_use(self, alloc: Global, used: Use) -> Result<ScriptScope, Mem>
         requires { IsBare self.env }
         ensures { IfOk result (λ a. IsBare a.env) }
@@ -110,7 +110,7 @@ impl ScriptScope {
         }
     }
 
-    /// With the patterns of statements.
+    /// Adds the patterns of statements.
     fn with_body(self, alloc: Global, body: &[Stmt]) -> Result<ScriptScope, Mem>
         requires { IsBare self.env }
         ensures { IfOk result (λ a. IsBare a.env) }
@@ -122,7 +122,7 @@ impl ScriptScope {
         Ok(around)
     }
 
-    /// With the patterns of a workflow.
+    /// Adds the patterns of a workflow.
     fn with_top(self, alloc: Global, top: &Top) -> Result<ScriptScope, Mem>
         requires { IsBare self.env }
         ensures { IfOk result (λ a. IsBare a.env) }
@@ -133,11 +133,11 @@ impl ScriptScope {
         }
     }
 
-    /// What the expressions of a script's workflows find: no name has a value, and each pattern in them is built, unless `regex` refuses it.
+    /// The scope of a script's workflows: no names, and every pattern in them that `regex` accepts.
     ///
     /// # Errors
     ///
-    /// `Mem` where there is no memory for it.
+    /// `Mem` if there is no memory for it.
     pub fn of_script(alloc: Global, script: &Script) -> Result<ScriptScope, Mem>
         ensures { IfOk result (λ a. IsBare a.env) }
     {

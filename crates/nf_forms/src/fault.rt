@@ -1,4 +1,4 @@
-//! Why a script is of no form.
+//! Why a script has no plan.
 
 ghost use Rattle.std.specs.Prelude.{◌≡◌};
 ghost use Rattle.nf_forms.specs.declared.fault.FormFault.TheVariants.{Mem};
@@ -6,15 +6,15 @@ ghost use Rattle.nf_forms.specs.declared.fault.FormFault.TheVariants.{Mem};
 use nf_value::Place;
 use std::alloc::{AllocError, AllocFailed};
 
-/// A script isn't of a form that is built, or its form found no memory (own).
+/// Why a script has no plan (own).
 #[derive(Debug, Clone, Copy, PartialEq, Eq)]
 pub enum FormFault {
-    /// The first place, in the order of the text, of what isn't built.
+    /// The script is of neither form.
     Unbuilt {
-        /// The place.
+        /// The place of its first unsupported construct.
         place: Place,
     },
-    /// Memory that was asked for wasn't there.
+    /// Out of memory.
     Mem,
 }
 

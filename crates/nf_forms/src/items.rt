@@ -24,7 +24,7 @@ use std::alloc::Global;
 /// How many items `of` takes at most (own).
 const MOST_ITEMS: usize = 10000;
 
-/// Some items, at most 10,000.
+/// At most 10,000 items.
 #[derive(Drop)]
 pub struct Items {
     list: Vals,
@@ -32,7 +32,7 @@ pub struct Items {
 }
 
 impl Items {
-    /// These items, where there are at most 10,000. Takes no memory.
+    /// The items; `None` if there are more than 10,000. Takes no memory.
     pub fn of(list: Vals) -> Option<Items>
         ensures some { IfSome result (λ i. i.list ≡ list) }
         ensures few { IsSome result ↔ (length list ≤ most_items) }
@@ -44,7 +44,7 @@ impl Items {
         }
     }
 
-    /// The items in their order. Takes no memory.
+    /// The items in order. Takes no memory.
     pub fn list(&self) -> &Vals
         ensures list { result.now ≡ self.now.list }
         ensures few { length result.now ≤ most_items }
@@ -53,7 +53,7 @@ impl Items {
     }
 }
 
-/// A value that stands alone, or the place of what follows it.
+/// The value, unless something unsupported follows it at this place.
 pub fn unless<T: Drop>(after: Option<Place>, value: T) -> Result<T, FormFault>
     ensures { Builds (λ x. x) (unless_of after value) result }
 {
@@ -84,7 +84,7 @@ pub fn single(args: &[Arg]) -> Option<&Arg>
     }
 }
 
-/// The items of `of`, whose name stands at this place.
+/// The items of `of`, at least one. `of` is the place of its name.
 pub fn read_items<N: Natives>(
     alloc: Global,
     around: &ScriptScope,
@@ -124,7 +124,7 @@ fn all_items<N: Natives>(
     Ok(Items { list })
 }
 
-/// A hole of a script: the input's name alone.
+/// A hole of a script: only the input's name is supported.
 fn hole(input: &str, leaf: &Leaf<'_>) -> Result<ScriptPiece, FormFault>
     ensures { Builds (λ x. x) (input_in input.now (view_leaf leaf.now) (view_kind leaf.now.kind)) result }
 {
@@ -155,7 +155,7 @@ fn pieces(alloc: Global, input: &str, parts: &[Fragment]) -> Result<Pieces, Form
     Ok(Pieces::of(all))
 }
 
-/// The script of a process: a string alone.
+/// The script of a process: only a string is supported.
 pub fn read_script(alloc: Global, input: &str, expr: &Expr) -> Result<Pieces, FormFault>
     ensures alone { Builds (λ x. x) (script_from input.now (view expr.now)) result }
     ensures task { Builds (λ x. x) (task_from input.now (view expr.now)) result }

@@ -1,4 +1,4 @@
-//! What stands first in an expression.
+//! The leftmost leaf of an expression, and where something follows it.
 
 ghost use Rattle.std.specs.Prelude.{◌≡◌, None, true, map, option_map};
 ghost use Rattle.nf_ast.specs.View.{view, view_arg, view_arm, view_stmt, view_operand, view_branch, view_postfix, choice, last_arm};
@@ -8,7 +8,7 @@ ghost use Rattle.nf_forms.specs.Leaf.{leaf_of, view_leaf, begins_at, label_at, f
 use nf_ast::{Arg, Arm, Branch, ClosureExpr, Expr, Fragment, Operand, Postfix, Prefix, Stmt};
 use nf_value::{Place, Txt};
 
-/// The kind of what stands first.
+/// The kinds of leaf.
 #[derive(Drop)]
 pub enum Kind<'a> {
     /// A plain string.
@@ -23,18 +23,18 @@ pub enum Kind<'a> {
     Other,
 }
 
-/// What stands first in an expression, and where something follows it.
+/// The leftmost leaf of an expression, and where something follows it.
 #[derive(Drop)]
 pub struct Leaf<'a> {
     /// Where it stands.
     pub place: Place,
     /// Its kind.
     pub kind: Kind<'a>,
-    /// The place of the first mark or part after it.
+    /// The place of the first operator or part after it.
     pub after: Option<Place>,
 }
 
-/// What stands first in an expression.
+/// The leftmost leaf of an expression.
 pub fn first_of(expr: &Expr) -> Leaf<'_>
     ensures { view_leaf result ≡ leaf_of (view expr.now) }
 {
@@ -59,7 +59,7 @@ pub fn first_of(expr: &Expr) -> Leaf<'_>
     }
 }
 
-/// Where an argument begins: at its name, where it has one.
+/// Where an argument begins: at its name, if it has one.
 pub fn argument_place(arg: &Arg) -> Place
     ensures { result ≡ begins_at (view_arg arg.now) }
 {
@@ -69,7 +69,7 @@ pub fn argument_place(arg: &Arg) -> Place
     }
 }
 
-/// Tells that an expression doesn't begin with a name and its colon.
+/// No expression begins with a name and its colon. (Called for its contract.)
 pub fn tell_no_label(expr: &Expr)
     ensures { label_at (view expr.now) ≡ None }
 {
@@ -97,7 +97,7 @@ fn followed<'a>(leaf: Leaf<'a>, mark: Option<Place>) -> Leaf<'a>
     }
 }
 
-/// The place of the first mark before an operand.
+/// The place of the first prefix operator.
 pub fn prefix_mark(marks: &[Prefix]) -> Option<Place>
     ensures { result ≡ prefix_at marks.now }
 {
@@ -107,7 +107,7 @@ pub fn prefix_mark(marks: &[Prefix]) -> Option<Place>
     }
 }
 
-/// The place of the first mark between operands.
+/// The place of the first operator between operands.
 pub fn operand_mark(rest: &[Operand]) -> Option<Place>
     ensures { result ≡ operand_at (map view_operand rest.now) }
 {
@@ -117,7 +117,7 @@ pub fn operand_mark(rest: &[Operand]) -> Option<Place>
     }
 }
 
-/// The place of the first mark of a conditional expression.
+/// The place of the first operator of a conditional expression.
 pub fn branch_mark(rest: &[Branch]) -> Option<Place>
     ensures { result ≡ branch_at (map view_branch rest.now) }
 {
@@ -165,7 +165,7 @@ pub fn expression(stmt: &Stmt) -> Result<&Expr, Place>
     }
 }
 
-/// Where a choice begins; one without an arm, which no text spells, at the script's first letter.
+/// Where an `if` begins. No text spells one without an arm; that one is placed at 1:1.
 fn choice_place(arms: &[Arm], last: &Option<Vec<Stmt>>) -> Place
     ensures statement { is_statement (choice (map view_arm arms.now) (last_arm (option_map (λ v. map view_stmt v.items) last.now))) ≡ true }
     ensures place { begins_at (choice (map view_arm arms.now) (last_arm (option_map (λ v. map view_stmt v.items) last.now))) ≡ result }
@@ -187,7 +187,7 @@ pub fn statement_place(stmt: &Stmt) -> Place
     }
 }
 
-/// Whether the one place stands before the other.
+/// Whether the first place stands before the second.
 pub fn is_before(first: Place, second: Place) -> bool
     ensures { result ≡ is_before_of first second }
 {

@@ -1,4 +1,6 @@
-//! The forms of scripts that run, found on the tree of the whole language.
+//! Finds the plan of a script that `run` supports: one of two forms, a chain of `map` or one process.
+//!
+//! It holds these two forms until whole scripts are lowered, and isn't extended.
 #![tactic(auto)]
 
 mod around;

@@ -1,4 +1,4 @@
-//! A chain of methods, read from the left.
+//! Reads a chain of method calls from the left.
 
 ghost use Rattle.std.specs.Prelude.{◌≡◌, map};
 ghost use Rattle.nf_ast.specs.View.{view, view_arg, view_postfix, view_closure, trees};
@@ -20,7 +20,7 @@ use nf_builtins::Natives;
 use nf_value::Place;
 use std::alloc::Global;
 
-/// What a chain is there for.
+/// What a chain is for.
 #[derive(Clone, Copy)]
 pub enum Role<'a> {
     /// The chain of a workflow without a process.
@@ -31,12 +31,12 @@ pub enum Role<'a> {
     Calling(&'a str),
 }
 
-/// What can be viewed.
+/// What `view()` can follow.
 #[derive(Drop)]
 pub enum Made {
-    /// The images of items by a closure.
+    /// The images of the items by the closure.
     Chain(Items, ClosureExpr),
-    /// What a process makes of items.
+    /// The outputs of the process over the items.
     Call(Items),
 }
 
@@ -47,7 +47,7 @@ pub enum Link {
     Channel(Place),
     /// `channel.of`.
     Of(Place),
-    /// `channel.of(..)` in a chain by itself.
+    /// `channel.of(..)` at the start of a workflow's chain.
     Source(Place, Items),
     /// `channel.of(..)` as an argument.
     Items(Place, Items),
@@ -55,11 +55,11 @@ pub enum Link {
     Map(Place, Items),
     /// The name of the process.
     Process(Place),
-    /// What can be viewed.
+    /// What `view()` can follow.
     Made(Place, Made),
-    /// What can be viewed and `.view`.
+    /// The same and `.view`.
     View(Place, Made),
-    /// What is viewed.
+    /// The same and `.view()`.
     Viewed(Place, Made),
 }
 
@@ -90,7 +90,7 @@ pub fn read_made<N: Natives>(
     }
 }
 
-/// The items of `channel.of(..)`.
+/// The items of `channel.of(..)` as an argument.
 #[cycle(link)]
 fn source<N: Natives>(
     alloc: Global,
@@ -112,7 +112,7 @@ fn source<N: Natives>(
     }
 }
 
-/// How far a chain can be read: to its end.
+/// The link that a whole chain ends with.
 #[cycle(link)]
 fn read_link<N: Natives>(
     alloc: Global,
@@ -238,7 +238,7 @@ fn name_place(link: &Link) -> Place
     }
 }
 
-/// The place of a call: that of its name, or of its bracket, where no name stands before it.
+/// The place of a call: its name's, or its bracket's if no name stands before that.
 fn call_place(bracket: Place, link: &Link) -> Place
     ensures { result ≡ call_place_of bracket (view_link link.now) }
 {
@@ -248,7 +248,7 @@ fn call_place(bracket: Place, link: &Link) -> Place
     }
 }
 
-/// A closure after a link is given to what its last name calls.
+/// A closure after a link. Only `map` takes one.
 fn with_closure<N: Natives>(
     alloc: Global,
     around: &ScriptScope,
@@ -298,7 +298,7 @@ fn with_args<N: Natives>(
     }
 }
 
-/// The arguments of a process's call; its name stands at this place.
+/// The arguments of a process's call. `process` is the place of its name.
 #[cycle(link)]
 fn call<N: Natives>(
     alloc: Global,
@@ -320,7 +320,7 @@ fn call<N: Natives>(
     }
 }
 
-/// The items of an argument, which has no name.
+/// The items of an argument without a name.
 #[cycle(link)]
 fn argument_items<N: Natives>(
     alloc: Global,
@@ -337,7 +337,7 @@ fn argument_items<N: Natives>(
     }
 }
 
-/// Arguments after a link, none of which are items.
+/// Arguments of `map` or `view`.
 fn with_no_items<N: Natives>(
     alloc: Global,
     around: &ScriptScope,
@@ -364,7 +364,7 @@ fn with_no_items<N: Natives>(
     }
 }
 
-/// The one argument of `map`, whose name stands at this place.
+/// The one argument of `map`. `name` is the place of the word `map`.
 fn mapped<N: Natives>(
     alloc: Global,
     around: &ScriptScope,

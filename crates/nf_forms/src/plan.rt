@@ -1,4 +1,4 @@
-//! What a script asks for.
+//! `plan_of`: the plan of a script.
 
 ghost use Rattle.std.specs.Prelude.{◌≡◌, ℕ, None, List, Option, map};
 ghost use Rattle.nf_value.specs.Plain.{Plain};
@@ -25,16 +25,16 @@ use nf_process::ProcessSpec;
 use nf_value::Place;
 use std::alloc::Global;
 
-/// What a script asks for (own). Contracts see its form, by `view_plan`.
+/// What a script runs (own). Contracts see its form, by `view_plan`.
 #[derive(Drop)]
 pub enum Plan {
-    /// The images of some items, by a closure.
+    /// `map` these items by this closure.
     Chain(Items, Closure),
-    /// The tasks of a process, one for each of these items.
+    /// Run one task of this process for each item.
     Tasks(ProcessSpec, Items),
 }
 
-/// The definitions of a script that were read.
+/// The definitions of a script that were read so far.
 #[derive(Drop)]
 pub struct Tops {
     /// Its process.
@@ -43,30 +43,39 @@ pub struct Tops {
     pub made: Option<Made>,
 }
 
-/// What a script asks for. There are two forms: `workflow { channel.of(ITEM, ..).map { CLOSURE }.view() }`, and one process with `workflow {
-/// NAME(channel.of(ITEM, ..)).view() }`, in either order (Nextflow reference documentation, "Syntax", "Workflow" and "Process"; "Channel
-/// factories", `of`; "Operators", `map` and `view`). An ITEM is any expression but a range, a closure and one with a name; it is evaluated
-/// here, and finds the functions of the program and no other name. A CLOSURE has statements. The
-/// process has no directive and no stub, one input `val NAME`, the output `stdout` without options, and a string as its script, whose
-/// holes are the input's name. Limit (own): 10,000 items. Takes memory for the plan, and time by the work that the items describe.
+/// The plan of a script. Two forms have one (Nextflow reference documentation, "Syntax", "Workflow" and "Process"; "Channel
+/// factories", `of`; "Operators", `map` and `view`):
+///
+/// - `workflow { channel.of(ITEM, ..).map { CLOSURE }.view() }`
+/// - one process and `workflow { NAME(channel.of(ITEM, ..)).view() }`, in either order
+///
+/// An ITEM is an expression, but no range, no closure and no named argument. It is evaluated here, and finds the program's
+/// functions and no other name. A CLOSURE has statements. The process has one input `val NAME`, the output `stdout` without
+/// options, and a string as its script, whose holes are the input's name; it has no directive and no stub. Limit (own): 10,000
+/// items. Takes memory for the plan, and the time that evaluating the items takes.
 ///
 /// # Errors
 ///
-/// `Unbuilt` exactly where the script is of no such form, with the first place, in the order of the text, of what isn't built: of a
-/// script in which each workflow has a name, or that has none, 1:1; of a call that of its name; of a chain that ends
-/// too early where it begins, or its last method's name that has no arguments. In an item and in a closure that is what nothing binds: a name, a function, an assignment to a name
-/// that isn't defined there, a name that is defined a second time, and a pattern that `regex` refuses. An item in which all is bound may have a fault: then at the fault's place.
-/// `Mem` where there is no memory for the plan.
+/// `Unbuilt` exactly if the script is of neither form, with the place of its first unsupported construct:
+///
+/// - 1:1, if the script has no workflow without a name.
+/// - The name of an unsupported call, or of a method without its arguments or with a wrong count of them.
+/// - The start of a chain that ends before its `view()`.
+/// - In an item or a closure, what nothing binds: an unknown name or function, an assignment to a name that isn't defined
+///   there, a name that is defined a second time, or a pattern that `regex` refuses.
+/// - The fault's place, of an item whose evaluation fails.
+///
+/// `Mem` if there is no memory for the plan.
 pub fn plan_of<N: Natives>(alloc: Global, script: &Script, natives: &N) -> Result<Plan, FormFault>
     requires { N.keeps natives.now }
-    // There are patterns that are built, over which the plan is the script's form.
+    // Over some patterns that `regex` accepts, the plan is the script's form.
     ensures { OverBuilt (N.titles natives.now) (N.answer natives.now) (λ env. Builds (view_plan env.titles env.answer) (form_of env (view_script script.now)) result) }
 {
     let around = ScriptScope::of_script(alloc, script)?;
     plan_around(alloc, script, natives, around)
 }
 
-/// What a script asks for, whose expressions find what is around them.
+/// The plan of a script whose expressions are read in this scope.
 fn plan_around<N: Natives>(
     alloc: Global,
     script: &Script,
@@ -85,7 +94,7 @@ fn plan_around<N: Natives>(
     }
 }
 
-/// Whether a workflow has no name: with it the script begins to run.
+/// Whether there is a workflow without a name, the entry of the script.
 fn has_entry(tops: &[Top]) -> bool
     ensures { result ≡ has_entry_of (trees (map view_top tops.now)) }
 {
@@ -106,7 +115,7 @@ fn is_entry(top: &Top) -> bool
     }
 }
 
-/// What the definitions of a script ask for.
+/// The plan of a script with an entry.
 fn plan_tops<N: Natives>(
     alloc: Global,
     script: &Script,
@@ -121,7 +130,7 @@ fn plan_tops<N: Natives>(
     whole(around, tops)
 }
 
-/// A workflow stands by itself, or calls the first process.
+/// What the workflow's chain is for: it calls the first process, or stands alone if there is none.
 fn role_of(tops: &[Top]) -> Role<'_>
     ensures { view_role result ≡ role_found (trees (map view_top tops.now)) }
 {
@@ -153,7 +162,7 @@ fn read_tops<N: Natives>(
     Ok(all)
 }
 
-/// One more definition.
+/// Reads one more definition.
 fn add<N: Natives>(
     alloc: Global,
     around: &ScriptScope,
@@ -245,7 +254,7 @@ fn read_workflow<N: Natives>(
     }
 }
 
-/// What the body of a workflow makes, whose word stands at this place.
+/// What the body of a workflow makes. `place` is that of the word `workflow`.
 fn read_body<N: Natives>(
     alloc: Global,
     around: &ScriptScope,
@@ -265,7 +274,7 @@ fn read_body<N: Natives>(
     }
 }
 
-/// What the section `main:` makes, which stands alone.
+/// What a body with sections makes: only `main:` is supported.
 fn read_parts<N: Natives>(
     alloc: Global,
     around: &ScriptScope,

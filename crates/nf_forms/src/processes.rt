@@ -1,4 +1,4 @@
-//! A process of one input `val NAME` and the output `stdout`.
+//! Reads a process with one input `val NAME` and the output `stdout`.
 
 ghost use Rattle.std.specs.Prelude.{◌≡◌, map};
 ghost use Rattle.nf_ast.specs.View.{view_label, trees};
@@ -27,7 +27,7 @@ pub struct InputName<'a> {
     pub name: &'a Txt,
 }
 
-/// The process, as the engine runs it.
+/// The specification of the process.
 pub fn read_process(alloc: Global, process: &Process) -> Result<ProcessSpec, FormFault>
     ensures { Builds (λ s. s) (process_from (view_process process.now)) result }
 {
@@ -62,7 +62,7 @@ fn no_section(section: &Option<Section>) -> Result<(), FormFault>
     }
 }
 
-/// The input, where the output is built too and there is no directive. Of several faults the earliest counts.
+/// The input, if the output is supported too and there is no directive; otherwise the first unsupported part.
 fn head(process: &Process) -> Result<InputName<'_>, FormFault>
     ensures { Builds view_name (both (both (input_from process.now.place (maybe view_inputs process.now.inputs)) (output_from process.now.place (maybe view_outputs process.now.outputs))) (nothing (trees (map view_directive process.now.directives.items)))) result }
 {
@@ -76,7 +76,7 @@ fn head(process: &Process) -> Result<InputName<'_>, FormFault>
     }
 }
 
-/// The input, where another part is built too. Of two faults the earlier one counts.
+/// The input, if another part is supported too; otherwise the first unsupported part.
 fn with<'a>(
     input: Result<InputName<'a>, Place>,
     other: Result<(), Place>,
@@ -184,7 +184,7 @@ fn value_place(value: &OutputValue) -> Place
     }
 }
 
-/// What a task runs.
+/// The script of a process.
 fn read_task(alloc: Global, input: &str, task: &Task) -> Result<Pieces, FormFault>
     ensures { Builds (λ x. x) (task_from input.now (view_task task.now)) result }
 {
@@ -194,7 +194,7 @@ fn read_task(alloc: Global, input: &str, task: &Task) -> Result<Pieces, FormFaul
     }
 }
 
-/// One string.
+/// The script in a section: only one string is supported.
 fn read_body(alloc: Global, input: &str, section: Place, body: &[Stmt]) -> Result<Pieces, FormFault>
     ensures { Builds (λ x. x) (body_from input.now section (trees (map view_stmt body.now))) result }
 {

@@ -1,4 +1,4 @@
-//! How far a chain goes by the names of its methods.
+//! How far a chain gets by its method names alone, so that one without `view()` is found before its arguments are read.
 
 ghost use Rattle.std.specs.Prelude.{◌≡◌, map};
 ghost use Rattle.nf_ast.specs.View.{view, view_postfix};
@@ -10,7 +10,7 @@ use crate::links::Role;
 use nf_ast::{Expr, Postfix};
 use nf_value::Place;
 
-/// How far a chain goes, whatever its arguments are.
+/// How far a chain gets, whatever its arguments are.
 #[derive(Clone, Copy)]
 pub enum Reach {
     /// `channel`.
@@ -23,13 +23,13 @@ pub enum Reach {
     Map,
     /// The name of the process.
     Process,
-    /// What can be viewed.
+    /// What `view()` can follow.
     Made,
     /// Anything else.
     Other,
 }
 
-/// How far an expression goes.
+/// How far an expression gets.
 pub fn how_far(role: &Role<'_>, expr: &Expr) -> Reach
     ensures { result ≡ reach_of (view_role role.now) (view expr.now) }
 {
@@ -43,14 +43,14 @@ pub fn how_far(role: &Role<'_>, expr: &Expr) -> Reach
     }
 }
 
-/// Whether it ends before its `view()`.
+/// Whether the chain ends where `map` or `view()` could still follow.
 pub fn is_short(reach: Reach) -> bool
     ensures { result ≡ is_short_of reach }
 {
     matches!(reach, Reach::Source | Reach::Made)
 }
 
-/// What stands alone, where no mark stands with it.
+/// The reach, unless there is an operator.
 fn unless_marked(mark: Option<Place>, alone: Reach) -> Reach
     ensures { result ≡ unless_marked_of mark alone }
 {
@@ -60,7 +60,7 @@ fn unless_marked(mark: Option<Place>, alone: Reach) -> Reach
     }
 }
 
-/// By the name that it begins with.
+/// The reach of the first name.
 fn begun(role: &Role<'_>, name: &str) -> Reach
     ensures { result ≡ begun_of (view_role role.now) name.now }
 {
@@ -71,7 +71,7 @@ fn begun(role: &Role<'_>, name: &str) -> Reach
     }
 }
 
-/// With the parts after it.
+/// The reach with the parts after it.
 fn with_parts(rest: &[Postfix], first: Reach) -> Reach
     ensures { result ≡ reaches_all (map view_postfix rest.now) first }
 {
@@ -93,7 +93,7 @@ fn with_part(reach: Reach, part: &Postfix) -> Reach
     }
 }
 
-/// With a method's name.
+/// The reach with a method's name.
 fn named(reach: Reach, name: &str) -> Reach
     ensures { result ≡ named_of reach name.now }
 {
@@ -104,7 +104,7 @@ fn named(reach: Reach, name: &str) -> Reach
     }
 }
 
-/// With arguments in brackets.
+/// The reach with arguments in brackets.
 fn called(reach: Reach) -> Reach
     ensures { result ≡ called_of reach }
 {
@@ -115,7 +115,7 @@ fn called(reach: Reach) -> Reach
     }
 }
 
-/// With a closure.
+/// The reach with a closure.
 fn closed(reach: Reach) -> Reach
     ensures { result ≡ closed_of reach }
 {

@@ -1,4 +1,4 @@
-//! What is evaluated before the run, and the closure of `map`.
+//! The items of `of`, which are evaluated before the run, and the closure of `map`.
 
 ghost use Rattle.std.specs.Prelude.{◌≡◌, None, IfOk, map};
 ghost use Rattle.nf_value.specs.View.{plain_of};
@@ -74,7 +74,7 @@ fn bare_item<N: Natives>(
     }
 }
 
-/// The place of a range's mark, or of a closure.
+/// The place of a range's operator or of a closure, which are no items.
 fn misplaced(expr: &Expr) -> Option<Place>
     ensures { result ≡ misplaced_in (view expr.now) }
 {
@@ -88,7 +88,7 @@ fn misplaced(expr: &Expr) -> Option<Place>
     }
 }
 
-/// What is misplaced where no mark stands with it.
+/// The misplaced part, unless there is an operator or a part after it.
 fn unless_followed(mark: Option<Place>, alone: Option<Place>) -> Option<Place>
     ensures { result ≡ unless_followed_of mark alone }
 {
@@ -98,7 +98,7 @@ fn unless_followed(mark: Option<Place>, alone: Option<Place>) -> Option<Place>
     }
 }
 
-/// The mark of the last operand, where it is a range.
+/// The place of the last operator, if that is a range.
 fn last_range(first: Option<Place>, rest: &[Operand]) -> Option<Place>
     ensures { result ≡ last_range_of first (map view_operand rest.now) }
 {
@@ -118,7 +118,7 @@ fn range_mark(place: Place, mark: InfixOperator) -> Option<Place>
     }
 }
 
-/// What isn't built at this place, or before it.
+/// The value's fault if it stands before this place; otherwise this place.
 fn fault_before(place: Place, value: Result<Value, FormFault>) -> FormFault
     ensures { (due : _) → Builds plain_of due value → Builds plain_of (or_before place due) (Err result) }
 {
@@ -165,7 +165,7 @@ fn closure_alone<N: Natives>(
     }
 }
 
-/// A closure of statements that uses nothing that isn't bound.
+/// A closure of statements in which everything is bound.
 pub fn read_closure<N: Natives>(
     alloc: Global,
     around: &ScriptScope,
@@ -183,7 +183,7 @@ pub fn read_closure<N: Natives>(
     Ok(closure.copy(alloc)?)
 }
 
-/// The place of the first label, where there are labels.
+/// The place of the first label, if the body has labels.
 fn first_label(body: &ClosureBody) -> Option<Place>
     ensures { result ≡ first_label_of (view_body body.now) }
 {
@@ -202,7 +202,7 @@ fn first_label(body: &ClosureBody) -> Option<Place>
     }
 }
 
-/// Tells that a statement doesn't begin with a name and its colon.
+/// No statement begins with a name and its colon. (Called for its contract.)
 fn tell_no_label_before(stmt: &Stmt)
     ensures { label_at (view_stmt stmt.now) ≡ None }
 {

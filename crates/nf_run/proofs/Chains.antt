@@ -1,4 +1,4 @@
--- From the images of a chain's items to what its run gives.
+-- What `chain` gives, as what a run gives.
 use Rattle.std.proofs.Common.{◌≡◌, List, [], ◌∷◌, Result, Ok, Err, refl, sym, ap, subst, arith}
 use Rattle.std.specs.List.{Contains}
 use Rattle.nf_value.specs.Plain.{Plain}

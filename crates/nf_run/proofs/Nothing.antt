@@ -1,4 +1,4 @@
--- What the lanes owe where nothing was run.
+-- Unchanged lanes fit the empty history.
 use Rattle.std.proofs.Common.{◌≤◌, ℕ, List, [], ◌∷◌, length, Option, Some, None, IfSome, refl, arith}
 use Rattle.nf_job.specs.declared.report.Report.{Report}
 use Rattle.nf_lane.specs.World.{World}

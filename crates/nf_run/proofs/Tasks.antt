@@ -1,4 +1,4 @@
--- From the run of a process's tasks to that of a script.
+-- What `serial` gives, as what a run gives.
 use Rattle.std.proofs.Common.{◌≡◌, ◌≤◌, ℕ, List, [], ◌∷◌, length, Result, Ok, Err, slice_index_or, slice_set, refl, sym, subst, arith}
 use Rattle.nf_value.specs.Plain.{Plain}
 use Rattle.nf_process.specs.declared.process.ProcessSpec.{ProcessSpec}

@@ -1,4 +1,4 @@
--- Worked chains: what each item gives, or the first that has a fault.
+-- Worked examples of `images`: the images, or the first item with a fault.
 use Rattle.std.proofs.Common.{◌≡◌, ℕ, pos, false, [], ◌∷◌, Ok, Err, refl, codes}
 use Rattle.std.specs.Fmt.{digits}
 use Rattle.nf_value.specs.Plain.{int, text, list, table, plains_of, plain_pairs_of}

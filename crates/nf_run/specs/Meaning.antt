@@ -1,4 +1,4 @@
--- What a script means under outcomes, with no item in motion.
+-- What a script means under given outcomes, whatever the order of its events.
 use Rattle.std.specs.Prelude.{List, [], ◌∷◌, Ok, Err}
 use Rattle.nf_value.specs.Plain.{Plain}
 use Rattle.nf_value.specs.declared.fault.EvalFault.{EvalFault}
@@ -14,30 +14,30 @@ use Rattle.nf_forms.specs.Form.{Form, chain, tasks}
 
 -- ---- a chain
 
--- what a closure gives for an item
+-- the image of an item by a closure, or its fault
 abbrev pub answer : Closing → Plain → Answered Plain
 answer c v = apply_of c (v ∷ [])
 
--- the images of the items, or the first that has a fault
+-- the images of the items, or the first item with a fault
 abbrev pub chain_images : List Plain → Closing → Imaged
 chain_images xs c = images (answer c) xs
 
 -- ---- tasks
 
--- the jobs of a process's instances, and what their reports amount to
+-- the jobs of a process and what their reports amount to, by its specification
 abbrev pub process_rules : ProcessSpec → ProcessRules
 process_rules s = rules_by (parts_of s) (outputs_of s)
 
 -- ---- both
 
 pub record ScriptMeaning : Type 0 where
-  -- the bag that the view gets
+  -- what the `view` gets
   pub viewed : List Plain
-  -- the instances of its processes
+  -- the tasks of its process
   pub instances : List Instance
-  -- the faults of these
+  -- their faults
   pub task_faults : List (Instance × TaskFault)
-  -- an item that has a fault: of several the first in the text
+  -- the first item with a fault, if there is one
   pub item_faults : List (Plain × EvalFault)
 
 abbrev pub images_meaning : Imaged → ScriptMeaning

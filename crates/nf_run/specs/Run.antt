@@ -1,4 +1,4 @@
--- What a run of a script comes to, by its history.
+-- How a run of a script ends, by its history, and how that fits its lanes.
 use Rattle.std.specs.Prelude.{ℕ, ◌≡◌, ◌⊎◌, ◌≤◌, List, [], ◌∷◌, Option, None, Some, Result, Ok, Err}
 use Rattle.std.specs.List.{Contains}
 use Rattle.nf_value.specs.Plain.{Plain}
@@ -24,14 +24,14 @@ use Rattle.nf_run.specs.declared.runs.RunFault.TheVariants as fault
 use Rattle.nf_forms.specs.Form.{Form, chain, tasks}
 use Rattle.nf_run.specs.Meaning.{ScriptMeaning, script_meaning, process_rules}
 
--- ---- the form's machine
+-- ---- the step machine of a form
 
--- the items that wait at the opening; a chain has no process
+-- the items that wait at first; a chain has no process
 abbrev pub queue_of : Form → List Plain
 queue_of (chain vs c) = []
 queue_of (tasks s xs) = xs
 
--- the call of its process
+-- the call of the form's process, its name
 abbrev pub call_of : Form → List ℕ
 call_of (chain vs c) = []
 call_of (tasks s xs) = s.name
@@ -44,7 +44,7 @@ abbrev pub rules_of : Form → ProcessRules
 rules_of (chain vs c) = no_process
 rules_of (tasks s xs) = process_rules s
 
--- each event is legal in the state before it; so the history of a chain is empty
+-- each event is legal in the state before it; a chain's history is empty
 abbrev pub IsHistoryOf : Form → List Event → Type 0
 IsHistoryOf form h = IsLawful (rules_of form) (opening (queue_of form)) h
 
@@ -52,11 +52,11 @@ IsHistoryOf form h = IsLawful (rules_of form) (opening (queue_of form)) h
 abbrev pub state_after : Form → List Event → State
 state_after form h = replay (opening (queue_of form)) h
 
--- for each instance that came back the reports of its attempts
+-- the reports of each instance in that state
 abbrev pub outcomes_of : Form → List Event → Outcomes
 outcomes_of form h = outcomes (call_of form) (state_after form h)
 
--- what the script means under the outcomes of this history
+-- what the script means under this history's outcomes
 abbrev pub meant : Form → List Event → ScriptMeaning
 meant form h = script_meaning (outcomes_of form h) form
 
@@ -68,12 +68,12 @@ pub record WentWell (form : Form) (h : List Event) : Type 0 where
   pub tasks_fine : (meant form h).task_faults ≡ []
   pub items_fine : (meant form h).item_faults ≡ []
 
--- the meaning has the item with this fault
+-- nothing stopped the run, and the item has this fault in the meaning
 pub record HasItemFault (form : Form) (h : List Event) (item : Plain) (f : EvalFault) : Type 0 where
   pub goes_on : (state_after form h).stop ≡ None
   pub among : Contains (meant form h).item_faults (item, f)
 
--- this task of a process of the script stopped the run, and the meaning has its instance with this fault
+-- this task stopped the run, and has this fault in the meaning
 pub record HasTaskFault (form : Form) (h : List Event) (process : List ℕ) (inputs : List Plain) (n : ℕ) (f : TaskFault) : Type 0 where
   pub node : ℕ
   pub stop : (state_after form h).stop ≡ Some (stop.Task node inputs n f)
@@ -83,20 +83,21 @@ pub record HasTaskFault (form : Form) (h : List Event) (process : List ℕ) (inp
 abbrev pub LostLane : Form → List Event → Type 0
 LostLane form h = (state_after form h).stop ≡ Some (stop.Outside Lane)
 
+-- why a run failed
 abbrev pub RunFails : Form → List Event → RunFault → Type 0
 RunFails form h (fault.Item item f) = HasItemFault form h (plain_of item) f
 RunFails form h (fault.Task process inputs n f) = HasTaskFault form h process inputs n f
 RunFails form h fault.Lane = LostLane form h
 RunFails form h fault.Mem = Unit {0}
 
--- the run ended well and these are what the view got, or why there are none
+-- the run went well and the view got these items, or why it failed
 abbrev pub RunGives : Form → List Event → Result (List Plain) RunFault → Type 0
 RunGives form h (Ok items) = WentWell form h × (items ≡ (meant form h).viewed)
 RunGives form h (Err e) = RunFails form h e
 
 -- ---- its lanes
 
--- the first lane ran the tasks, and gave a Done of its own for each Finish; the others are as they were
+-- the first lane ran the tasks, and gave a Done of its own for each Finish; the other lanes are unchanged
 abbrev pub AreBooked : {L D : Type 0} → (D → Type 0) → (D → List ℕ) → (D → Report) → (D → ℕ) → (L → ℕ) → (L → Option World) → Form → List Event → List D → List L → List L → Type 0
 AreBooked Genuine job_of report_by number runs world form h kept (l ∷ ls) (m ∷ ms) =
     IsBooked Genuine job_of report_by number (rules_of form) (queue_of form) h kept (world l) (runs l) (runs m) × (ms ≡ ls)
@@ -116,7 +117,7 @@ OneRose count (l ∷ ls) (m ∷ ms) = Rose (count l) (count m) ⊎ OneRose count
 OneRose count [] ms = ⊥
 OneRose count (l ∷ ls) [] = ⊥
 
--- where a lane stopped the run, some lane's count rose
+-- if a lane stopped the run, some lane's count rose
 abbrev pub OnLane : RunFault → Type 0 → Type 0
 OnLane fault.Lane rose = rose
 OnLane (fault.Item item f) rose = Unit {0}

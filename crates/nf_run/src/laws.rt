@@ -1,4 +1,4 @@
-//! Laws of the definitions.
+//! Laws of `AreBooked` and `NoneFell` for calls that run nothing.
 
 ghost use Rattle.std.specs.Prelude.{◌≤◌, [], length};
 ghost use Rattle.nf_forms.specs.Form.{Form};
@@ -6,7 +6,7 @@ ghost use Rattle.nf_run.specs.Run.{AreBooked, NoneFell};
 
 use nf_lane::Lane;
 
-/// Where nothing was run, lanes owe nothing: whatever the form, they are booked with the empty history, and no count fell.
+/// Unchanged lanes fit the empty history of any form, and none of their counts fell.
 pub fn nothing_is_booked<L: Lane>(lanes: &[L])
     requires { 1 ≤ length lanes.now }
     ensures booked { (form : Form) → AreBooked L.Done.genuine L.Done.job L.Done.told L.Done.number L.runs L.world form [] [] lanes.now lanes.now }

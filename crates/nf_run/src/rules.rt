@@ -1,4 +1,4 @@
-//! What answers the items of a chain, and the tasks of a process.
+//! The rules of the two forms: a closure for items, a process's specification for tasks.
 
 ghost use Rattle.std.specs.Prelude.{◌≡◌, ◌∷◌, [], IfOk};
 ghost use Rattle.nf_value.specs.View.{plain_of};
@@ -13,7 +13,7 @@ use nf_process::{ProcessSpec, emit_of, laws};
 use nf_value::{EvalRefusal, Mem, Vals, Value};
 use std::alloc::Global;
 
-/// The answers of a closure, with the program's functions.
+/// Maps an item by a closure, which may call the program's functions.
 #[derive(Clone, Copy)]
 pub struct ClosureRules<'a, N> {
     /// The closure.
@@ -33,7 +33,7 @@ impl<N: Natives> ItemRules for ClosureRules<'_, N> {
     }
 }
 
-/// The arguments of a closure that is given one item.
+/// The arguments of a closure that is called with one item.
 fn one_argument(alloc: Global, item: &Value) -> Result<Vals, Mem>
     ensures { IfOk result (λ v. v ≡ plain_of item.now ∷ []) }
 {
@@ -41,7 +41,7 @@ fn one_argument(alloc: Global, item: &Value) -> Result<Vals, Mem>
     Ok(Vals::of(vec![in alloc; item]?))
 }
 
-/// The jobs of a process's instances, and what their reports amount to.
+/// The jobs of a process and what their reports amount to, by its specification.
 #[derive(Clone, Copy)]
 pub struct SpecRules<'a> {
     /// The process.

@@ -1,4 +1,4 @@
-//! The run of a script.
+//! `run_plan`: runs a plan.
 
 ghost use Rattle.std.specs.Prelude.{◌≡◌, ℕ, ◌+◌, ◌<◌, ◌≤◌, ◌^◌, [], true, length, map, sum_by, All, IfErr, Ok};
 ghost use Rattle.nf_eval.specs.Closing.{closing_of};
@@ -22,12 +22,12 @@ use std::alloc::Global;
 /// Why a run has no result (own).
 #[derive(Drop)]
 pub enum RunFault {
-    /// An item has a fault: the first item in the text that has one, with its first fault.
+    /// The closure fails on an item: the first such item in the text, with its fault.
     Item {
         item: Value,
         fault: EvalFault,
     },
-    /// A task failed: that of these inputs at this call of a process. `n` counts from 0 those of equal inputs.
+    /// A task of `process` failed with these inputs. `n` is how many tasks with equal inputs were taken before it, from 0.
     Task {
         process: Txt,
         inputs: Vals,
@@ -36,23 +36,23 @@ pub enum RunFault {
     },
     /// A lane failed.
     Lane,
-    /// Want of memory.
+    /// Out of memory.
     Mem,
 }
 
 /// How the run of a script came out (own).
 #[derive(Drop)]
 pub struct Ran<L: Lane> {
-    /// All events, in their order. That of a chain is empty.
+    /// The events in order. A chain has none.
     pub history: Vec<Event>,
     /// The jobs that were run, in the order of their Finish events.
     pub kept: Kept<L>,
-    /// What the script's view got, or why it got nothing.
+    /// What the script's `view` got, or why the run failed.
     pub outcome: Result<Vals, RunFault>,
 }
 
-/// Runs a plan. Its tasks run on the first of the lanes, one after another in the order of the items; after a failing task, or
-/// where the lane failed, no further item is taken (own).
+/// Runs a plan. Its tasks run on the first lane, one after another in the order of the items. A task that fails and a lane that
+/// fails stop the run: no further item is taken (own).
 pub fn run_plan<N: Natives, L: Lane>(
     alloc: Global,
     plan: &Plan,
@@ -64,14 +64,14 @@ pub fn run_plan<N: Natives, L: Lane>(
     requires room { All (λ l. L.runs l < 2 ^ 62) lanes.old.items }
     // Each event is legal in the state before it.
     ensures lawful { IsHistoryOf (view_plan (N.titles natives.now) (N.answer natives.now) plan.now) result.history.items }
-    // The view got what the script means under the outcomes of the history; or an item or a task has this fault in that
-    // meaning, or a lane failed; or memory ran out.
+    // On `Ok` the view got what the script means under the history's outcomes. The fault of an item or a task is one of that
+    // meaning. On `Lane` the history stops by the lane.
     ensures gives { RunGives (view_plan (N.titles natives.now) (N.answer natives.now) plan.now) result.history.items result.outcome }
-    // A run of a lane for each Start, and for each Finish a job of its own that was run.
+    // Each Start is one run of the first lane, and each Finish has a job of its own that was run.
     ensures booked { AreBooked L.Done.genuine L.Done.job L.Done.told L.Done.number L.runs L.world (view_plan (N.titles natives.now) (N.answer natives.now) plan.now) result.history.items result.kept.dones.items lanes.old.items lanes.new.items }
     ensures runs { sum_by L.runs lanes.new.items ≡ sum_by L.runs lanes.old.items + starts_of result.history.items }
     ensures worlds { map L.world lanes.new.items ≡ map L.world lanes.old.items }
-    // Where a lane stopped the run, its count rose.
+    // If a lane stopped the run, it counted a fault.
     ensures lane_fault { IfErr result.outcome (λ e. OnLane e (OneRose L.faults lanes.old.items lanes.new.items)) }
     ensures later { NoneFell L.faults lanes.old.items lanes.new.items }
 {
@@ -81,7 +81,7 @@ pub fn run_plan<N: Natives, L: Lane>(
     }
 }
 
-/// The images of a chain's items by its closure. It has no tasks.
+/// Maps the items by the closure. A chain has no tasks.
 fn run_chain<N: Natives, L: Lane>(
     alloc: Global,
     items: &Vals,
@@ -103,7 +103,7 @@ fn run_chain<N: Natives, L: Lane>(
     }
 }
 
-/// What the view of a chain gets.
+/// What the `view` of a chain gets.
 fn chain_outcome<N: Natives>(
     alloc: Global,
     items: &Vals,

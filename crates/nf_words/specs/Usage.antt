@@ -1,4 +1,4 @@
--- How a fault of the words is written.
+-- The text of a usage fault.
 use Rattle.std.specs.Prelude.{ℕ, List, ◌++◌, codes, decimal}
 use Rattle.nf_words.specs.declared.fault.UsageFault.{UsageFault}
 use Rattle.nf_words.specs.declared.fault.UsageFault.TheVariants.{NoCommand, UnknownWord, NoValue, Mem}

@@ -1,4 +1,4 @@
-//! The command that the words give.
+//! `read_words`: the command of a command line.
 
 ghost use Rattle.std.specs.Prelude.{◌≡◌, None, map, string_bytes, IfOk};
 ghost use Rattle.nf_words.specs.Words.{command_of, file_from, is_option as is_option_of, Reads};
@@ -10,34 +10,33 @@ use std::alloc::Global;
 /// What a command line asks for (own).
 #[derive(Drop)]
 pub enum Command {
-    /// `run FILE`: run the script of that file.
+    /// `run FILE`: run the script in that file.
     Run(RunWords),
-    /// `fmt FILE`: write the canonical text of the script of that file.
+    /// `fmt FILE`: write the canonical text of the script in that file.
     Fmt(FmtWords),
 }
 
-/// What the words of `run` say (own).
+/// The words of `run` (own).
 #[derive(Drop)]
 pub struct RunWords {
-    /// The path of the script, as it was given. It doesn't begin with `-`, and may be empty.
+    /// The path of the script as it was given. It doesn't begin with `-`; it may be empty.
     pub file: Txt,
 }
 
-/// What the words of `fmt` say (own).
+/// The words of `fmt` (own).
 #[derive(Drop)]
 pub struct FmtWords {
-    /// The path of the script, as it was given. It doesn't begin with `-`, and may be empty.
+    /// The path of the script as it was given. It doesn't begin with `-`; it may be empty.
     pub file: Txt,
 }
 
-/// Reads a command line: `run` or `fmt`, with one FILE. Words are judged from left to right, and missing ones last (own; the
-/// Nextflow reference documentation has the command `run` under "Command line").
+/// Reads a command line: `run` or `fmt`, then one FILE. The first wrong word counts; a missing FILE counts only if no word is
+/// wrong (own; the Nextflow reference documentation has the command `run` under "Command line").
 ///
 /// # Errors
 ///
-/// `NoCommand` exactly where there are no words; `UnknownWord` at the first word that is no command, begins with `-`
-/// or is a second FILE; `NoValue` where all words are right and FILE is missing; `Mem` where there is no memory for
-/// a copy of FILE.
+/// `NoCommand` exactly if there are no words; `UnknownWord` at the first word that is no command, begins with `-` or is a
+/// second FILE; `NoValue` if FILE is missing; `Mem` if there is no memory for a copy of FILE.
 pub fn read_words(alloc: Global, words: &[String]) -> Result<Command, UsageFault>
     ensures { Reads (command_of (map string_bytes words.now)) result }
 {
@@ -57,7 +56,7 @@ pub fn read_words(alloc: Global, words: &[String]) -> Result<Command, UsageFault
     }
 }
 
-/// The one FILE of the words after a command.
+/// The FILE in the words after a command.
 fn one_file(alloc: Global, words: &[String]) -> Result<Txt, UsageFault>
     ensures { Reads (file_from 1 None (map string_bytes words.now)) result }
 {

@@ -7,17 +7,17 @@ ghost use Rattle.nf_words.specs.declared.fault.UsageFault.TheVariants.{Mem as No
 use nf_value::Mem;
 use std::fmt;
 
-/// What is wrong with a command line (own). Words are numbered from 0, without the program's name. Printed by its name, and
-/// ` at word N` after it where a word is meant.
+/// What is wrong with a command line (own). Words are counted from 0, without the program's name. Printed as its name, with
+/// ` at word N` after it if it is about a word.
 #[derive(Debug, Clone, Copy, PartialEq, Eq)]
 pub enum UsageFault {
     /// There are no words.
     NoCommand,
-    /// The word is no command, no option and no value that is due there.
+    /// The word isn't allowed there.
     UnknownWord { at: usize },
-    /// A word is missing after the last one; `at` is the number of words.
+    /// FILE is missing; `at` is the count of words.
     NoValue { at: usize },
-    /// Want of memory.
+    /// Out of memory.
     Mem,
 }
 

@@ -1,4 +1,4 @@
-//! The words of a command line.
+//! Reads the command line: `run FILE` or `fmt FILE`.
 #![tactic(auto)]
 
 mod command;

@@ -1,4 +1,4 @@
-//! The program: its words, the real files, child processes and standard output, and the status of the call.
+//! The program: calls `nf_main` with the command line, the system's files, child processes and standard output.
 #![tactic(auto)]
 
 ghost use Rattle.std.specs.Prelude.{◌≡◌, ◌<◌, ◌^◌, All, IfOk, length};
@@ -26,10 +26,10 @@ const HELP: &str = "pasmovuk: runs pipelines written in a subset of Nextflow DSL
 /// What `--version` prints.
 const VERSION: &str = "pasmovuk 0.1.0\n";
 
-/// The status where there is no memory for the words or the lanes.
+/// The exit status if there is no memory for the words or the lanes.
 const NO_MEMORY: u8 = 5;
 
-/// The status where standard output fails.
+/// The exit status if `--help` or `--version` can't be printed.
 const OUTPUT_FAILED: u8 = 4;
 
 fn main(rt: HostRuntime) -> ExitCode {
@@ -58,7 +58,7 @@ fn main(rt: HostRuntime) -> ExitCode {
     ExitCode::from(status(alloc, &words, &mut host, &natives, lanes, &mut out))
 }
 
-/// Makes the call, and gives its status.
+/// Calls `nf_main`, and gives its exit status.
 fn status<H: Host, N: Natives, L: Lane + Drop, O: Sink>(
     alloc: Global,
     words: &[String],
@@ -74,7 +74,7 @@ fn status<H: Host, N: Natives, L: Lane + Drop, O: Sink>(
     nf_main(alloc, words, host, natives, lanes, out).status
 }
 
-/// The lanes of a call, each over the system's processes.
+/// The lanes, each over the system's processes.
 fn lanes<R: Processes + Copy>(alloc: Global, rt: R) -> Result<Vec<ChildLane<R>>, AllocError>
     ensures count { IfOk result (λ v. length v.items ≡ 16) }
     ensures room { IfOk result (λ v. All (λ l. runs_of l < 2 ^ 62) v.items) }
@@ -86,7 +86,7 @@ fn lanes<R: Processes + Copy>(alloc: Global, rt: R) -> Result<Vec<ChildLane<R>>,
     Ok(lanes)
 }
 
-/// The words after the program's name. Where one of them isn't UTF-8, one empty word stands for them.
+/// The words after the program's name. If one of them isn't UTF-8, a single empty word stands for all, which is no command.
 fn words(alloc: Global, args: io::Result<env::Args<Global>>) -> Result<Vec<String>, AllocError> {
     match args {
         Ok(args) => args.skip(1).collect(alloc),
@@ -99,7 +99,7 @@ fn words(alloc: Global, args: io::Result<env::Args<Global>>) -> Result<Vec<Strin
     }
 }
 
-/// What the program itself answers to `--help` or `--version`, alone.
+/// The text of `--help` or `--version`, if that is the only word.
 fn own_text(words: &[String]) -> Option<&'static str> {
     match words {
         [word] if word.as_str() == "--help" => Some(HELP),
