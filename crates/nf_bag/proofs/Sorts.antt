@@ -1,4 +1,4 @@
--- What sorting, leaving out and counting do to a vector of values.
+-- `sort`, `dedup` and `count` of a vector of values, as the specs have them.
 use Rattle.std.proofs.Common.{◌≡◌, ℕ, suc, ◌+◌, ◌<◌, List, [], ◌∷◌, Bool, true, false, cond, refl, ap, ◌∙◌, subst, ⊎_elim, arith, map, length, get_or, below_more}
 use Rattle.std.specs.Prelude.{IsPermutation, IsSorted}
 use Rattle.std.specs.declared.cmp.Ordering.{Ordering}

@@ -12,6 +12,6 @@ count v xs = count_by (λ x. eq_by_cmp value_cmp x v) xs
 pub record IsSubBag (a b : List Plain) : Type 0 where
   pub at : (v : Plain) → count v a ≤ count v b
 
--- each value occurs in a as often as in b
+-- every value occurs in a as often as in b
 pub record IsSameBag (a b : List Plain) : Type 0 where
   pub at : (v : Plain) → count v a ≡ count v b

@@ -1,4 +1,4 @@
--- How a fault of an operator is written.
+-- The text of an operator's fault.
 use Rattle.std.specs.Prelude.{ℕ, List, codes}
 use Rattle.nf_bag.specs.declared.fault.OpFault.{OpFault}
 use Rattle.nf_bag.specs.declared.fault.OpFault.TheVariants.{DuplicateKey, NotATuple, NotANumber, Overflow, TooDeep, Mem}

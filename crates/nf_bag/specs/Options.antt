@@ -1,8 +1,8 @@
--- The rows of the table of operators, and the options that each allows.
+-- The operators, and the options that each allows.
 use Rattle.std.specs.Prelude.{◌≡◌, IfSome, IsSome}
 use Rattle.nf_bag.specs.declared.options.OpOpts.{OpOpts}
 
--- the operators by their names
+-- the operators, one row for each name
 pub data Row : Type 0 where
   branch : Row
   collect : Row
@@ -31,7 +31,7 @@ pub data Row : Type 0 where
   unique : Row
   view : Row
 
--- `combine` pairs by the first items or not at all, and `ifEmpty` has a value; every other row allows all options
+-- `combine` allows `by: 0` or no `by`, and `ifEmpty` needs its value; every other row allows all options
 abbrev pub Allows : Row → OpOpts → Type 0
 Allows combine o = IfSome o.by (λ n. n ≡ 0)
 Allows if_empty o = IsSome o.start

@@ -26,7 +26,7 @@ abbrev pub IsStrictlyRising : List Plain → Type 0
 IsStrictlyRising [] = Unit {0}
 IsStrictlyRising (x ∷ xs) = IsBelowAll x xs × IsStrictlyRising xs
 
--- v at its place in a rising list
+-- a rising list with v inserted at its place
 abbrev pub inserted : Plain → List Plain → List Plain
 inserted v [] = v ∷ []
 inserted v (x ∷ xs) = if is_gt (value_cmp v x) then x ∷ inserted v xs else v ∷ x ∷ xs

@@ -1,4 +1,4 @@
-//! Counts of values, and lists that are one bag.
+//! Counts of values, and equality of bags.
 
 ghost use Rattle.std.specs.Prelude.{◌≡◌, ◌↔◌, IsTrue};
 ghost use Rattle.nf_value.specs.View.{plain_of};
@@ -13,7 +13,7 @@ pub fn count_of(list: &Vals, value: &Value) -> u64
     list.items().iter().filter(|item| *item == value).count() as u64
 }
 
-/// Whether two lists hold the same values equally often (own). Takes no memory, and time in proportion to the square of their length.
+/// Whether two lists hold the same values equally often (own). Takes no memory, and the square of their length in time.
 pub fn same_bag(a: &Vals, b: &Vals) -> bool
     ensures { IsTrue result ↔ IsSameBag a.now b.now }
 {

@@ -1,4 +1,4 @@
-//! Why an operator has no answer.
+//! `OpFault`: why an operator fails.
 
 ghost use Rattle.std.specs.Prelude.{◌≡◌, Some, IfOk};
 ghost use Rattle.nf_bag.specs.Fault.{fault_name};
@@ -8,44 +8,44 @@ use nf_value::{Mem, Value};
 use std::alloc::{AllocError, AllocFailed};
 use std::fmt;
 
-/// A fault of an operator on its items (own). Printed by its name.
+/// Why an operator fails (own). Printed as its name.
 #[derive(Drop)]
 pub enum OpFault {
-    /// A side of `join` has two items of this key.
+    /// One input of `join` has two items with this key.
     DuplicateKey {
         /// The key.
         key: Value,
     },
-    /// The operator needs lists that are long enough.
+    /// An item is no list, or a list that is too short.
     NotATuple {
-        /// An item that isn't one.
+        /// The item.
         item: Value,
     },
-    /// The operator needs numbers.
+    /// An item is no number.
     NotANumber {
-        /// An item that isn't one.
+        /// The item.
         item: Value,
     },
-    /// A total leaves 64 signed bits.
+    /// A total doesn't fit 64 signed bits.
     Overflow {
         /// The total.
         total: i128,
     },
-    /// A value that is to be emitted is deeper than 64.
+    /// A value to be emitted is deeper than 64.
     TooDeep {
         /// The value.
         item: Value,
     },
-    /// There was no memory.
+    /// Out of memory.
     Mem,
 }
 
 impl OpFault {
-    /// Another fault, equal to this one.
+    /// A copy of the fault.
     ///
     /// # Errors
     ///
-    /// `Mem` where there is no memory for it.
+    /// `Mem` if there is no memory for it.
     pub fn copy(&self) -> Result<OpFault, Mem>
         ensures { IfOk result (λ f. f ≡ self.now) }
     {

@@ -1,4 +1,4 @@
-//! Lists of values up to order, and what operators on them need.
+//! Bags: lists of values up to order, their sorted lists, and the faults and options of operators.
 #![tactic(auto)]
 
 mod bag;

@@ -1,15 +1,15 @@
-//! What an operator is told beside its items.
+//! The options of operators.
 
 use nf_value::Value;
 
-/// What the closure of `reduce` makes of all items (Nextflow reference, "Operators: reduce"; that there are five is this project's own choice).
+/// The kinds of closure that `reduce` takes, by their result (Nextflow reference, "Operators: reduce"; these five are own).
 #[derive(Debug, Clone, Copy, PartialEq, Eq)]
 pub enum Total {
-    /// Their sum.
+    /// The sum of all items.
     Sum,
-    /// The least.
+    /// The least item.
     Least,
-    /// The greatest.
+    /// The greatest item.
     Greatest,
     /// Whether all are true.
     All,
@@ -17,16 +17,16 @@ pub enum Total {
     Any,
 }
 
-/// The options of an operator. A field that an operator doesn't read has no effect.
+/// The options of an operator. An operator ignores the fields that aren't its own.
 #[derive(Drop)]
 pub struct OpOpts {
     /// `by:` of `join`, `combine` and `groupTuple`: the place of the key in a tuple, from 0.
     pub by: Option<u32>,
-    /// `remainder:` of `join`: whether items without a partner are given too.
+    /// `remainder:` of `join`: whether items without a partner are emitted too.
     pub remainder: bool,
-    /// `sort:` of `groupTuple` and `collect`.
+    /// `sort:` of `groupTuple`: whether its lists are sorted. (`collect` always sorts.)
     pub sort: bool,
-    /// `flat:` of `collect`: whether items that are lists are opened.
+    /// `flat:` of `collect`: whether an item that is a list is replaced by its items.
     pub flat: bool,
     /// The initial value of `reduce`, or the value of `ifEmpty`.
     pub start: Option<Value>,

@@ -1,4 +1,4 @@
-//! The rising list of a bag.
+//! Sorted lists of a bag's values.
 
 ghost use Rattle.std.specs.Prelude.{◌≡◌, IfOk, map};
 ghost use Rattle.nf_value.specs.View.{plain_of};
@@ -6,11 +6,11 @@ ghost use Rattle.nf_bag.specs.Sorted.{sorted_of, distinct_of};
 
 use nf_value::{Mem, Vals, Value};
 
-/// The values of a list in rising order (own). Takes some n log n comparisons of values for n values.
+/// The values of a list in rising order (own). Time: some n log n comparisons of values.
 ///
 /// # Errors
 ///
-/// `Mem` where there is no memory for it; the list is then gone.
+/// `Mem` if there is no memory for it; the list is then lost.
 pub fn sorted(list: Vals) -> Result<Vals, Mem>
     ensures { IfOk result (λ l. l ≡ sorted_of list) }
 {
@@ -18,11 +18,11 @@ pub fn sorted(list: Vals) -> Result<Vals, Mem>
     Ok(Vals::of(items))
 }
 
-/// Each value of a list once, in rising order (own). Takes some n log n comparisons of values for n values.
+/// Each value of a list once, in rising order (own). Time: some n log n comparisons of values.
 ///
 /// # Errors
 ///
-/// `Mem` where there is no memory for it; the list is then gone.
+/// `Mem` if there is no memory for it; the list is then lost.
 pub fn distinct(list: Vals) -> Result<Vals, Mem>
     ensures { IfOk result (λ l. l ≡ distinct_of list) }
 {

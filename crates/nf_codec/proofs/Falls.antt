@@ -1,4 +1,4 @@
--- A member has fewer nodes than the list or map that holds it.
+-- A member has fewer nodes than its list or map.
 use Rattle.std.proofs.Common.{◌≡◌, ℕ, zero, suc, ◌<◌, List, [], ◌∷◌, length, get_or, map, ap, arith}
 use Rattle.nf_value.specs.Plain.{Plain, null, truth, int, text, file, list, table, Plains, no_items, item, PlainPairs, no_pairs, pair, plains_of, plain_pairs_of, nodes, nodes_all, nodes_pairs}
 use Rattle.nf_value.specs.View.{plain_of, pair_of}

@@ -1,4 +1,4 @@
--- What is spelled at the front of some bytes: a whole value, or the head of a list or map.
+-- Heads at the front of bytes: a whole value, or the letter and count of a list or map.
 use Rattle.std.specs.Prelude.{ℕ, suc, zero, ◌^◌, ◌==◌, ◌&&◌, nat_lt, nat_le, not, pos, negsuc, List, [], ◌∷◌, length, take, drop, Bool, true, false, Option, Some, None, if◌then◌else◌, Ok, Err}
 use Rattle.std.specs.declared.result.Result.{Result}
 use Rattle.std.specs.Char.{is_ascii_digit}
@@ -12,23 +12,23 @@ use Rattle.nf_value.specs.Plain.{Plain, null, truth, int, text, file}
 pub data Head : Type 0 where
   -- a value that isn't a list or map
   whole : Plain → Head
-  -- a list of so many items
+  -- a list of this many items
   list_of : ℕ → Head
-  -- a map of so many pairs
+  -- a map of this many pairs
   table_of : ℕ → Head
 
--- some digits are a decimal: there is one, and the first isn't 0 where there are more
+-- the digits are a decimal: at least one, and no leading 0
 abbrev pub is_decimal : List ℕ → Bool
 is_decimal [] = false
 is_decimal (d ∷ []) = true
 is_decimal (d ∷ e ∷ ds) = not (d == 48)
 
--- where the next byte is the given one, the value with the bytes after it
+-- x with the bytes after `end`, if `end` is the next byte
 abbrev pub ended_by : {A : Type 0} → ℕ → A → List ℕ → Option (A × List ℕ)
 ended_by end x [] = None
 ended_by end x (b ∷ bs) = if b == end then Some (x, bs) else None
 
--- the decimal at the front, which the given byte ends, and what follows that byte
+-- the decimal at the front, which the byte `end` ends, and the bytes after that
 abbrev pub decimal_before : ℕ → List ℕ → Option (ℕ × List ℕ)
 decimal_before end bs = let ds = take_while is_ascii_digit bs in if is_decimal ds then ended_by end (digits_value 10 ds) (drop (length ds) bs) else None
 
@@ -47,7 +47,7 @@ abbrev pub int_at : List ℕ → Option (Head × List ℕ)
 int_at [] = None
 int_at (b ∷ bs) = if b == 45 then option_and_then fits_negative (decimal_before 59 bs) else option_and_then fits_positive (decimal_before 59 (b ∷ bs))
 
--- as many bytes as the number says, where they are there and are UTF-8
+-- the next p.0 bytes, if there are so many and they are UTF-8
 abbrev pub cut_text : ℕ × List ℕ → Option (List ℕ × List ℕ)
 cut_text p = if nat_le p.0 (length p.1) && is_utf8 (take p.0 p.1) then Some (take p.0 p.1, drop p.0 p.1) else None
 
@@ -58,7 +58,7 @@ counted_text bs = option_and_then cut_text (decimal_before 58 bs)
 abbrev pub text_at : List ℕ → Option (Head × List ℕ)
 text_at bs = option_and_then (λ p. Some (whole (text p.0), p.1)) (counted_text bs)
 
--- the bytes that some lower hexadecimal digits spell
+-- the bytes that the digits spell, if all are lower-case hexadecimal digits
 abbrev pub lower_only : {E : Type 0} → List ℕ → Result (List ℕ) E → Option (List ℕ)
 lower_only ds (Ok d) = if bytes_eq (encode_lower d) ds then Some d else None
 lower_only ds (Err e) = None
@@ -69,7 +69,7 @@ digest_of ds = lower_only ds (decode_of ds)
 abbrev pub fits_length : ℕ × List ℕ → Option (ℕ × List ℕ)
 fits_length p = if nat_lt p.0 (2 ^ 64) then Some p else None
 
--- the length of a file, and what follows it
+-- the length of a file, and the bytes after it
 abbrev pub file_length : List ℕ → Option (ℕ × List ℕ)
 file_length bs = option_and_then fits_length (decimal_before 59 bs)
 
@@ -83,14 +83,14 @@ file_at bs = option_and_then (λ p. option_and_then (λ q. Some (whole (file p.0
 abbrev pub counted : (ℕ → Head) → List ℕ → Option (Head × List ℕ)
 counted h bs = option_and_then (λ p. Some (h p.0, p.1)) (decimal_before 58 bs)
 
--- what is spelled after a letter
+-- the head after its letter
 abbrev pub head_after : ℕ → List ℕ → Option (Head × List ℕ)
 head_after letter bs =
     if letter == 110 then Some (whole null, bs) else (if letter == 116 then Some (whole (truth true), bs) else (if letter == 102 then Some (whole (truth false), bs)
     else (if letter == 105 then int_at bs else (if letter == 115 then text_at bs else (if letter == 112 then file_at bs
     else (if letter == 108 then counted list_of bs else (if letter == 109 then counted table_of bs else None)))))))
 
--- the head at the front, and what follows it; none where no head is spelled there
+-- the head at the front, and the bytes after it; `None` if there is none
 abbrev pub head_at : List ℕ → Option (Head × List ℕ)
 head_at [] = None
 head_at (b ∷ bs) = head_after b bs

@@ -1,4 +1,4 @@
--- How values are met from the front, a list or map before its members. A fault tells how many bytes were left where its value begins.
+-- Reading values from the front, a list or map before its members. A fault has the count of bytes from its value on.
 use Rattle.std.specs.Prelude.{◌≡◌, ℕ, zero, suc, ◌+◌, ◌≤◌, drop, List, [], ◌∷◌, length, Bool, true, Option, Some, None, if◌then◌else◌, Ok, Err}
 use Rattle.std.specs.declared.result.Result.{Result}
 use Rattle.std.specs.Ordering.{nat_cmp, is_lt}
@@ -12,21 +12,21 @@ use Rattle.nf_codec.specs.declared.fault.CodeFault.TheVariants.{NotAValue, TooDe
 use Rattle.nf_codec.specs.Heads.{Head, whole, list_of, table_of, head_at}
 
 pub data ReadFault : Type 0 where
-  -- no head is spelled, or a key isn't a text above the key before
+  -- there is no head, or a key is no text above the key before
   no_value : ℕ → ReadFault
-  -- a list or map opens too deep
+  -- a list or map is too deep
   too_deep : ℕ → ReadFault
 
 -- what was read, and the bytes after it
 abbrev pub Reading : Type 0 → Type 0
 Reading A = Result (A × List ℕ) ReadFault
 
--- go on with what was read
+-- reading goes on with what was read
 abbrev pub and_then : {A B : Type 0} → Reading A → (A → List ℕ → Reading B) → Reading B
 and_then (Ok p) g = g p.0 p.1
 and_then (Err e) g = Err e
 
--- n members, each read by f from what the one before left
+-- n members, one after another, each read by f; s is what f knows of the member before
 abbrev pub series : {A S : Type 0} → (S → List ℕ → Reading A) → (A → S) → ℕ → S → List ℕ → Reading (List A)
 series f next zero s bs = Ok ([], bs)
 series f next (suc n) s bs = and_then (f s bs) (λ a rest. and_then (series f next n (next a) rest) (λ ms rest'. Ok (a ∷ ms, rest')))
@@ -60,7 +60,7 @@ pair_from f before bs = and_then (key_from before (length bs) (head_at bs)) (λ 
 abbrev pub many_pairs : (List ℕ → Reading Plain) → ℕ → Option (List ℕ) → List ℕ → Reading (List (List ℕ × Plain))
 many_pairs f n before bs = series (pair_from f) (λ p. Some p.0) n before bs
 
--- what a head opens. The members are read by f; where there is none, no list or map may open here
+-- the value of a head. f reads its members; without f no list or map is allowed here
 abbrev pub opened : Option (List ℕ → Reading Plain) → ℕ → Head → List ℕ → Reading Plain
 opened f left (whole v) rest = Ok (v, rest)
 opened None left (list_of n) rest = Err (too_deep left)
@@ -75,17 +75,17 @@ met f left (Some p) = opened f left p.0 p.1
 abbrev pub step : Option (List ℕ → Reading Plain) → List ℕ → Reading Plain
 step f bs = met f (length bs) (head_at bs)
 
--- one value, in which lists and maps may open to this depth
+-- one value, of at most this depth
 unfoldable pub read : ℕ → List ℕ → Reading Plain
 read zero bs = step None bs
 read (suc d) bs = step (Some (read d)) bs
 
--- how the members are read of what opens where lists and maps may open to this depth
+-- how the members of a list or map at this depth are read
 abbrev pub inner : ℕ → Option (List ℕ → Reading Plain)
 inner zero = None
 inner (suc d) = Some (read d)
 
--- what was read of some bytes, as a call answers it
+-- a call answers a reading of these bytes: the value and the count of bytes before the rest, or the place of the fault
 abbrev pub ReadsBy : {A B : Type 0} → (B → A) → List ℕ → Reading A → Result (B × ℕ) CodeFault → Type 0
 ReadsBy view bytes (Ok p) (Ok q) = (p.0 ≡ view q.0) × (p.1 ≡ drop q.1 bytes) × (q.1 ≤ length bytes)
 ReadsBy view bytes (Ok p) (Err (NotAValue at)) = ⊥
@@ -103,7 +103,7 @@ ReadsBy view bytes (Err (too_deep k)) (Err Mem) = Unit {0}
 abbrev pub Reads : List ℕ → Reading Plain → Result (Value × ℕ) CodeFault → Type 0
 Reads = ReadsBy plain_of
 
--- the answer is v, with as many bytes as its code has, where there was memory for it
+-- the answer is v and the length of its code, unless memory ran out
 abbrev pub IsGivenBack : Plain → Result (Value × ℕ) CodeFault → Type 0
 IsGivenBack v (Ok q) = (v ≡ plain_of q.0) × (q.1 ≡ length (code v))
 IsGivenBack v (Err Mem) = Unit {0}

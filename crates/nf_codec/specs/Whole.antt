@@ -1,11 +1,11 @@
--- What a value of the code is, among all that is written like one.
+-- Whole values: those that a program can hold.
 use Rattle.std.specs.Prelude.{◌≡◌, ℕ, ◌<◌, ◌^◌, ℤ, pos, negsuc, List, length, true, Option, None, Some, IsUtf8}
 use Rattle.nf_value.specs.Plain.{Plain, null, truth, int, text, file, list, table, Plains, no_items, item, PlainPairs, no_pairs, pair}
 use Rattle.nf_value.specs.Code.{count, count_pairs}
 use Rattle.hex.specs.Hex.{IsBytes}
 use Rattle.nf_codec.specs.Reading.{is_above}
 
--- a text in UTF-8 whose length 64 bits count
+-- a text in UTF-8 whose length fits 64 bits
 abbrev pub IsWholeText : List ℕ → Type 0
 IsWholeText t = IsUtf8 t × (length t < 2 ^ 64)
 
@@ -14,7 +14,7 @@ abbrev pub IsWholeInt : ℤ → Type 0
 IsWholeInt (pos n) = n < 2 ^ 63
 IsWholeInt (negsuc n) = n < 2 ^ 63
 
--- texts are whole, numbers have 64 bits, digests 32 bytes, and keys rise
+-- texts are whole, numbers fit 64 signed bits, digests have 32 bytes, counts and lengths fit 64 bits, and keys rise
 abbrev mutual
   pub IsWhole : Plain → Type 0
   IsWhole null = Unit {0}

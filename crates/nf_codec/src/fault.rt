@@ -1,4 +1,4 @@
-//! Why bytes can't be read as a value.
+//! Why `decode` gives no value.
 
 ghost use Rattle.std.specs.Prelude.{◌≡◌};
 ghost use Rattle.nf_codec.specs.declared.fault.CodeFault.TheVariants as fault;
@@ -7,22 +7,22 @@ use nf_value::Mem;
 use std::alloc::{AllocError, AllocFailed};
 use thiserror::Error;
 
-/// Bytes can't be read as a value (own).
+/// Why bytes can't be read as a value (own).
 #[derive(Debug, Clone, Copy, PartialEq, Eq, Error)]
 pub enum CodeFault {
-    /// At this byte a value is due, and no value's head is spelled there; or a map's key is due, and no text above the key before.
+    /// A value must begin at this byte, and none does; or a map's key must, and there is no text above the key before.
     #[error("NotAValue at {at}")]
     NotAValue {
         /// How many bytes stand before it.
         at: usize,
     },
-    /// At this byte a list or map opens at depth 65.
+    /// A list or map at depth 65 begins at this byte.
     #[error("TooDeep at {at}")]
     TooDeep {
         /// How many bytes stand before it.
         at: usize,
     },
-    /// There was no memory for the value.
+    /// Out of memory.
     #[error("Mem")]
     Mem,
 }

@@ -1,4 +1,4 @@
-//! Heads: what the first bytes of a value say.
+//! Reads heads: a whole value, or the letter and count of a list or map.
 
 ghost use Rattle.std.specs.Prelude.{◌≡◌, ◌<◌, length, drop, IfOk, Some, None};
 ghost use Rattle.nf_value.specs.Plain.{text, file};
@@ -10,8 +10,8 @@ use crate::number::{decimal_before, int_at, value_of};
 use nf_value::{Digest, FileRef, Mem, Txt, Value};
 use std::alloc::Global;
 
-/// What the first bytes of a value say: all of a value that isn't a list or map, else how many items or pairs follow.
-/// A count that passes 64 bits stands as the greatest number of 64 bits; no bytes hold so many values.
+/// A head: the whole value, or of a list or map how many items or pairs follow. A count past 64 bits is kept as 2^64 - 1, since
+/// no bytes hold so many values.
 #[derive(Drop)]
 pub(crate) enum Head {
     Whole(Value),
@@ -154,7 +154,7 @@ fn map_head(bytes: &[u8]) -> Option<(Head, usize)>
     Some((Head::Map(count), used + 1))
 }
 
-/// The head at the front and how many bytes it takes, none where no head is spelled there.
+/// The head at the front and its length in bytes; `None` if the bytes begin with no head.
 pub(crate) fn read_head(alloc: Global, bytes: &[u8]) -> Result<Option<(Head, usize)>, Mem>
     ensures { IfOk result (IsHead (heads.head_at bytes.now) bytes.now) }
 {

@@ -1,4 +1,4 @@
-//! Values as bytes, and back.
+//! The code of values: `encode` writes a value as bytes, and `decode` reads it back.
 #![tactic(auto)]
 
 mod fault;

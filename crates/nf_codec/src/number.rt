@@ -1,4 +1,4 @@
-//! Decimals at the front of some bytes.
+//! Reads decimals.
 
 ghost use Rattle.std.specs.Prelude.{◌≡◌, ◌<◌, ◌^◌, length, nat_lt, if◌then◌else◌, Some, None, true};
 ghost use Rattle.std.specs.Char.{is_ascii_digit};
@@ -30,7 +30,7 @@ fn is_decimal(digits: &[u8]) -> bool
     }
 }
 
-/// How many digits the decimal at the front has, where the byte `end` follows it.
+/// How many digits the decimal at the front has, if the byte `end` follows it.
 pub(crate) fn decimal_before(bytes: &[u8], end: u8) -> Option<usize>
     ensures { IsDecimalBefore end bytes.now result }
 {
@@ -47,7 +47,7 @@ pub(crate) fn decimal_before(bytes: &[u8], end: u8) -> Option<usize>
     Some(count)
 }
 
-/// The number that some digits spell, where it has 64 bits.
+/// The number that the digits spell, if it fits 64 bits.
 pub(crate) fn value_of(digits: &[u8]) -> Option<u64>
     requires digits { all_ascii_digits digits.now ≡ true }
     requires some { 0 < length digits.now }
@@ -59,7 +59,7 @@ pub(crate) fn value_of(digits: &[u8]) -> Option<u64>
     }
 }
 
-/// The number after the letter `i`, and how many bytes it takes.
+/// The number after the letter `i` with its `;`, and how many bytes they take.
 pub(crate) fn int_at(bytes: &[u8]) -> Option<(i64, usize)>
     ensures { IsFront (λ i. whole (int i)) (heads.int_at bytes.now) bytes.now result }
 {

@@ -1,4 +1,4 @@
-//! Values read from bytes.
+//! `decode`: reads a value from bytes.
 
 ghost use Rattle.std.specs.Prelude.{◌≡◌, ◌≤◌, ◌<◌, ◌-◌, ◌++◌, ℕ, List, length, take, drop, map, None, IfOk};
 ghost use Rattle.nf_value.specs.Plain.{Plain};
@@ -16,20 +16,25 @@ use crate::head::{Head, read_head};
 use nf_value::{Pairs, Txt, Vals, Value};
 use std::alloc::Global;
 
-/// How many lists and maps may stand in one another.
+/// How deep lists and maps may be nested.
 const DEPTH: u32 = 64;
 
-/// The value at the front of some bytes and how many bytes its code takes (own). What follows it is not looked at.
+/// Reads the value whose code the bytes begin with. Gives the value and the length of its code; the bytes after it aren't read (own).
+/// Example: `l2:i1;s2:ab!` gives `[1, "ab"]` and 11.
 ///
-/// It is answered exactly where the bytes begin with the code of a value in which no list or map opens at depth 65, but for want of
-/// memory: `code`, `within`, `whole` and `depth` say that an answer is such a value with its code, `every` that each such value is answered.
+/// It gives a value exactly if the bytes begin with the code of a value of depth at most 64, unless memory runs out. The clauses
+/// `code`, `within`, `whole` and `depth` say that a result is such a value with its code; `every` says that each such value is read.
 ///
 /// # Errors
 ///
-/// Values are met from the front, a list or map before its members. The head of a list or map is its letter, its count and `:`, and the head
-/// of any other value is its whole code. The first value at which one of these is so is told. `NotAValue`: its head isn't spelled from its
-/// first byte on, or it is a map's key and isn't a text above the key before. `TooDeep`: it is a list or map that opens at depth 65. `Mem`:
-/// there was no memory for it.
+/// Values are read from the front, a list or map before its members. The first value that can't be read decides, and the error has the
+/// count of bytes before it:
+///
+/// - `NotAValue`: no head begins there, or it is a map's key and no text above the key before. The head of a list or map is its
+///   letter, its count and `:`; the head of any other value is its whole code.
+/// - `TooDeep`: it is a list or map at depth 65.
+///
+/// `Mem` if there is no memory for the value.
 pub fn decode(alloc: Global, bytes: &[u8]) -> Result<(Value, usize), CodeFault>
     ensures reads { Reads bytes.now (read 64 bytes.now) result }
     ensures code { IfOk result (λ p. take p.1 bytes.now ≡ code (plain_of p.0)) }

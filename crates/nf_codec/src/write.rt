@@ -1,4 +1,4 @@
-//! The code of a value.
+//! `encode`: writes a value as bytes.
 
 ghost use Rattle.std.specs.Prelude.{◌≡◌, ◌++◌, length, OnOk, IfOk, codes, string_bytes};
 ghost use Rattle.hex.specs.Hex.{encode_lower, IsBytes};
@@ -13,14 +13,21 @@ use itoa::{Buffer, Integer};
 use nf_value::{Digest, FileRef, Mem, Pairs, Txt, Vals, Value};
 use std::alloc::Global;
 
-/// The code of a value (own): bytes from which it can be read back, alike for equal values. Null is `n`, true `t`, false `f`; a number is
-/// `i`, its decimal and `;`; a text `s`, its number of bytes, `:` and the bytes; a file `p`, the number of bytes of its name, `:`, the name,
-/// the digest in 64 lower hexadecimal digits, its length in decimal and `;`; a list `l`, its count, `:` and its items' codes; a map `m`,
-/// its count, `:` and each key's and value's code in the order of the keys.
+/// The code of a value (own). Equal values have equal codes, and [`decode`](crate::decode) reads a code back. All counts and lengths
+/// are decimals:
+///
+/// - null `n`, true `t`, false `f`
+/// - a number: `i`, the number, `;`
+/// - a text: `s`, its count of bytes, `:`, the bytes
+/// - a file: `p`, the count of bytes of its name, `:`, the name, the digest in 64 lower-case hexadecimal digits, its length, `;`
+/// - a list: `l`, its count of items, `:`, the items' codes
+/// - a map: `m`, its count of pairs, `:`, each key's code and its value's, in the order of the keys
+///
+/// Example: `[1, "ab"]` is `l2:i1;s2:ab`.
 ///
 /// # Errors
 ///
-/// `Mem` where there is no memory for it.
+/// `Mem` if there is no memory for it.
 pub fn encode(alloc: Global, value: &Value) -> Result<Vec<u8>, Mem>
     ensures code { IfOk result (λ b. b.items ≡ code (plain_of value.now)) }
     ensures whole { OnOk result (IsWhole (plain_of value.now)) }
@@ -30,11 +37,11 @@ pub fn encode(alloc: Global, value: &Value) -> Result<Vec<u8>, Mem>
     Ok(out.into_bytes())
 }
 
-/// The code of a value, as [`encode`] gives it, as a text: all that it holds is UTF-8.
+/// The same as [`encode`], as a text: a code is always UTF-8.
 ///
 /// # Errors
 ///
-/// `Mem` where there is no memory for it.
+/// `Mem` if there is no memory for it.
 pub fn encode_text(alloc: Global, value: &Value) -> Result<Txt, Mem>
     ensures { IfOk result (λ t. t ≡ code (plain_of value.now)) }
 {

@@ -1,4 +1,4 @@
--- One item after another at the end of a list.
+-- Items pushed one after another.
 use Rattle.std.proofs.Common.{◌≡◌, List, [], ◌∷◌, ◌++◌, append_assoc}
 
 pub five_pushed : {A : Type 0} (u v w x y z : List A) (a b c d e p q r : A) → v ≡ u ++ a ∷ [] → w ≡ v ++ b ∷ [] → x ≡ w ++ c ∷ [] → y ≡ x ++ d ∷ [] → z ≡ y ++ e ∷ [] → a ≡ p → b ≡ q → c ≡ r

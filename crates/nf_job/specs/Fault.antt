@@ -1,4 +1,4 @@
--- How a fault of a task is written.
+-- The text of a task's fault.
 use Rattle.std.specs.Prelude.{ℕ, List, ◌++◌, codes}
 use Rattle.std.specs.Fmt.{signed_decimal}
 use Rattle.nf_value.specs.Fault.{kind_text}

@@ -1,4 +1,4 @@
--- The text of a job, and the folder that its key names.
+-- The text of a job, and the folder named by its key.
 use Rattle.std.specs.Prelude.{ℕ, List, [], ◌∷◌, ◌++◌, map, take, drop, pos, ◌==◌, if◌then◌else◌, codes, None, Some}
 use Rattle.std.specs.declared.option.Option.{Option}
 use Rattle.hex.specs.Hex.{encode_lower}
@@ -20,11 +20,11 @@ files_plain fs = list (plains_of (map file_plain fs))
 abbrev pub texts_plain : List (List ℕ) → Plain
 texts_plain ts = list (plains_of (map text ts))
 
--- what a task reads, and what it is to leave, and its number
+-- the last five of the nine items: what the task reads, what it must leave, and its number
 unfoldable pub five_items : JobParts → List Plain
 five_items p = stdin_plain p.stdin ∷ files_plain p.staged ∷ texts_plain p.patterns ∷ truth p.wants_stdout ∷ int (pos p.n) ∷ []
 
--- what both forms of a job's text say: the name of the form, the process, the script, the inputs, and those
+-- the items of both forms of a job's text: the form's name, the process, the script, the inputs, and those five
 unfoldable pub nine_items : List ℕ → JobParts → List Plain
 nine_items form p = text form ∷ text p.process ∷ text p.script ∷ text p.inputs ∷ five_items p
 
@@ -32,11 +32,11 @@ nine_items form p = text form ∷ text p.process ∷ text p.script ∷ text p.in
 unfoldable pub job_text : JobParts → List ℕ
 job_text p = code (list (plains_of (nine_items (codes "nfjob2") p ++ int (pos p.attempt) ∷ [])))
 
--- the text of a job before there were attempts
+-- the text of a job in the older form
 unfoldable pub old_text : JobParts → List ℕ
 old_text p = code (list (plains_of (nine_items (codes "nfjob1") p)))
 
--- the old text, which the first attempt alone has
+-- the older text, which only a first attempt has
 abbrev pub old_text_of : JobParts → Option (List ℕ)
 old_text_of p = if p.attempt == 1 then Some (old_text p) else None
 

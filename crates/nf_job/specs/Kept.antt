@@ -1,4 +1,4 @@
--- What a job keeps beside its parts.
+-- The invariant of a job: what it keeps beside its parts follows from them.
 use Rattle.std.specs.Prelude.{◌≡◌}
 use Rattle.sha2.specs.Sha256.{sha256}
 use Rattle.nf_job.specs.declared.job.Job.TheInside.{Inside}

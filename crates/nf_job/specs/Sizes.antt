@@ -1,4 +1,4 @@
--- Sizes that the values of a program have, and what the text of a job tells apart.
+-- Sizes that fit 64 bits, and what equal job texts have in common.
 use Rattle.std.specs.Prelude.{◌≡◌, ℕ, ◌<◌, ◌^◌, List, length}
 use Rattle.std.specs.Int.Signed.{mag}
 use Rattle.hex.specs.Hex.{IsBytes}
@@ -6,7 +6,7 @@ use Rattle.nf_value.specs.Plain.{Plain, null, truth, int, text, file, list, tabl
 use Rattle.nf_value.specs.Code.{count, count_pairs}
 use Rattle.nf_job.specs.declared.parts.JobParts.{JobParts}
 
--- the parts that tell instances and attempts apart have sizes that 64 bits hold
+-- the sizes of these parts fit 64 bits
 pub record IsSized (p : JobParts) : Type 0 where
   pub process : length p.process < 2 ^ 64
   pub script : length p.script < 2 ^ 64
@@ -14,7 +14,7 @@ pub record IsSized (p : JobParts) : Type 0 where
   pub n : p.n < 2 ^ 64
   pub attempt : p.attempt < 2 ^ 64
 
--- a name and a length that 64 bits hold, and a digest of 32 bytes
+-- the name and the length fit 64 bits, and the digest has 32 bytes
 pub record IsFitFile (n d : List ℕ) (l : ℕ) : Type 0 where
   pub name : length n < 2 ^ 64
   pub bytes : IsBytes d
@@ -22,7 +22,7 @@ pub record IsFitFile (n d : List ℕ) (l : ℕ) : Type 0 where
   pub len : l < 2 ^ 64
 
 abbrev mutual
-  -- each number, length and count of the value is one that a program's value has
+  -- each number, length and count in the value fits 64 bits
   pub IsFit : Plain → Type 0
   IsFit null = Unit {0}
   IsFit (truth b) = Unit {0}
@@ -40,7 +40,7 @@ abbrev mutual
   PairsFit no_pairs = Unit {0}
   PairsFit (pair k v ps) = (length k < 2 ^ 64) × IsFit v × PairsFit ps
 
--- two jobs of one instance and attempt
+-- both jobs are the same attempt at the same task
 pub record SameAttempt (p q : JobParts) : Type 0 where
   pub process : p.process ≡ q.process
   pub script : p.script ≡ q.script

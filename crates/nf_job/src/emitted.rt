@@ -1,4 +1,4 @@
-//! What a task that ended comes to.
+//! `Outputs`: what a task's report amounts to.
 
 ghost use Rattle.std.specs.Prelude.{◌≡◌, IfOk, map, option_map};
 ghost use Rattle.nf_value.specs.View.{plain_of};
@@ -7,7 +7,7 @@ use crate::fault::TaskFault;
 use nf_value::{Mem, Value};
 use std::marker::Model;
 
-/// For each output of a process its value, or nothing. Contracts see what the values are.
+/// The value of each output of a process, or `None`. Contracts see the plain values.
 #[derive(Drop)]
 pub struct Emitted {
     items: Vec<Option<Value>>,
@@ -43,18 +43,18 @@ impl Emitted {
         self.items.as_slice()
     }
 
-    /// The vector of the outputs. Takes no memory.
+    /// The outputs as a vector. Takes no memory.
     pub fn into_items(self) -> Vec<Option<Value>>
         ensures { map (option_map plain_of) result.items ≡ self }
     {
         self.items
     }
 
-    /// Another list of the same outputs.
+    /// A copy of the list.
     ///
     /// # Errors
     ///
-    /// `Mem` where there is no memory for it.
+    /// `Mem` if there is no memory for it.
     pub fn copy(&self) -> Result<Emitted, Mem>
         ensures { IfOk result (λ e. e ≡ self.now) }
     {
@@ -75,25 +75,25 @@ fn copy_output(item: &Option<Value>) -> Result<Option<Value>, Mem>
     }
 }
 
-/// What an attempt at a task comes to (own).
+/// What the report of a task's attempt amounts to (own).
 #[derive(Drop)]
 pub enum Outputs {
-    /// It emits these.
+    /// The task emits these values.
     Emits(Emitted),
-    /// It failed, and its process goes on without it.
+    /// The task failed, and the run goes on without it.
     Ignored,
-    /// It failed, and the run ends.
+    /// The task failed, and the run ends.
     Failed(TaskFault),
-    /// It failed, and is tried again.
+    /// The attempt failed, and the task is tried again.
     Again,
 }
 
 impl Outputs {
-    /// Other outputs, equal to these.
+    /// A copy of the outputs.
     ///
     /// # Errors
     ///
-    /// `Mem` where there is no memory for them.
+    /// `Mem` if there is no memory for it.
     pub fn copy(&self) -> Result<Outputs, Mem>
         ensures { IfOk result (λ o. o ≡ self.now) }
     {

@@ -1,4 +1,4 @@
-//! Why a task fails, or has no job.
+//! Why a task failed or has no job.
 
 ghost use Rattle.std.specs.Prelude.{◌≡◌, Some, IfOk};
 ghost use Rattle.nf_job.specs.Fault.{fault_text};
@@ -11,33 +11,33 @@ use std::fmt;
 /// A fault of a task (own). Printed as `Exit N`, `MissingOutput PATTERN`, `BadStdout`, `StageClash NAME` or `Eval NAME`.
 #[derive(Drop)]
 pub enum TaskFault {
-    /// The script ended with a status that isn't 0.
+    /// The script ended with a status other than 0.
     Exit {
         /// The status.
         status: i32,
     },
-    /// A pattern of an output that isn't optional has no file.
+    /// No file matches the pattern of an output that isn't optional.
     MissingOutput {
         /// The pattern.
         pattern: Txt,
     },
-    /// Standard output is wanted and isn't a text: it isn't UTF-8, or has more than 1,048,576 bytes.
+    /// Standard output is an output, but no text: it isn't UTF-8, or has more than 1,048,576 bytes.
     BadStdout,
-    /// Two files that are staged have one name.
+    /// Two staged files have the same name.
     StageClash {
         /// The name.
         name: Txt,
     },
-    /// An expression of the process has no value.
+    /// The evaluation of an expression of the process fails.
     Eval(EvalFault),
 }
 
 impl TaskFault {
-    /// Another fault, equal to this one.
+    /// A copy of the fault.
     ///
     /// # Errors
     ///
-    /// `Mem` where there is no memory for it.
+    /// `Mem` if there is no memory for it.
     pub fn copy(&self) -> Result<TaskFault, Mem>
         ensures { IfOk result (λ f. f ≡ self.now) }
     {
@@ -76,12 +76,12 @@ impl fmt::Display for TaskFault {
     }
 }
 
-/// A task has no answer: a fault, or want of memory.
+/// Why a call about a task gave no answer.
 #[derive(Drop)]
 pub enum TaskRefusal {
     /// The task has this fault.
     Fault(TaskFault),
-    /// There was no memory for the answer.
+    /// Out of memory.
     Mem,
 }
 

@@ -1,4 +1,4 @@
-//! Lists of files.
+//! `FileRefs`: a list of files.
 
 ghost use Rattle.std.specs.Prelude.{◌≡◌, IfOk};
 
@@ -35,11 +35,11 @@ impl FileRefs {
         self.items.as_slice()
     }
 
-    /// Another list of the same files.
+    /// A copy of the list.
     ///
     /// # Errors
     ///
-    /// `Mem` where there is no memory for it.
+    /// `Mem` if there is no memory for it.
     pub fn copy(&self) -> Result<FileRefs, Mem>
         ensures { IfOk result (λ f. f ≡ self.now) }
     {

@@ -1,4 +1,4 @@
-//! The files that a task left.
+//! `Found`: the files that a task left.
 
 ghost use Rattle.std.specs.Prelude.{◌≡◌, IfOk};
 
@@ -6,7 +6,7 @@ use crate::files::FileRefs;
 use nf_value::Mem;
 use std::marker::Model;
 
-/// The files that a task left: a list for each pattern of the process's outputs, in their order.
+/// The files that a task left: one list for each pattern of the process's outputs, in the order of the patterns.
 #[derive(Drop)]
 pub struct Found {
     items: Vec<FileRefs>,
@@ -36,11 +36,11 @@ impl Found {
         self.items.as_slice()
     }
 
-    /// Other lists of the same files.
+    /// A copy of the lists.
     ///
     /// # Errors
     ///
-    /// `Mem` where there is no memory for them.
+    /// `Mem` if there is no memory for it.
     pub fn copy(&self) -> Result<Found, Mem>
         ensures { IfOk result (λ f. f ≡ self.now) }
     {

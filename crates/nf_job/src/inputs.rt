@@ -7,11 +7,11 @@ use nf_codec::encode_text;
 use nf_value::{Mem, Txt, Vals, Value};
 use std::alloc::Global;
 
-/// The code of a list of inputs, as a text: equal for equal lists, and distinct for distinct ones.
+/// The code of a list of inputs as a text. Equal lists have equal codes, distinct lists distinct ones.
 ///
 /// # Errors
 ///
-/// `Mem` where there is no memory for it.
+/// `Mem` if there is no memory for it.
 pub fn inputs_code(alloc: Global, inputs: &Vals) -> Result<Txt, Mem>
     ensures { IfOk result (λ t. t ≡ inputs_text inputs.now) }
 {

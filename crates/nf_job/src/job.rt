@@ -1,4 +1,4 @@
-//! Jobs: their texts and keys.
+//! `Job`: the parts of one attempt at a task, their text and its key.
 
 ghost use Rattle.std.specs.Prelude.{◌≡◌, ◌≤◌, ◌<◌, ◌^◌, [], ◌∷◌, ◌++◌, IfOk, OnOk, pos, map, length, option_copied, codes};
 ghost use Rattle.sha2.specs.Sha256.{sha256};
@@ -16,7 +16,7 @@ use sha2::{Digest as Hasher, Sha256};
 use std::alloc::Global;
 use std::marker::Model;
 
-/// A job as a version of this project knew it that had no attempts (own). Contracts see its text.
+/// A job in the older form, whose text has no attempt (own). Contracts see its text.
 #[derive(Drop)]
 pub struct OldJob {
     text: Txt,
@@ -57,11 +57,11 @@ impl OldJob {
     }
 }
 
-/// One attempt at a task (own): its parts, the text that says all of them, and the SHA-256 digest of that text.
+/// One attempt at a task (own): its parts, the text that spells them, and its key, the SHA-256 digest of that text.
 ///
-/// The text is the code of the list of the text `nfjob2`, the process, the script, the inputs, the standard input or null, the
-/// list of the staged files, the list of the patterns, whether standard output is wanted, the number, and the attempt.
-/// Contracts see the parts alone, since all the rest follows from them.
+/// The text is the code (`nf_codec`) of a list of ten items: the text `nfjob2`, the process, the script, the inputs, the standard
+/// input or null, the list of staged files, the list of patterns, whether standard output is wanted, the number, the attempt.
+/// Contracts see the parts; all the rest follows from them.
 #[derive(Drop)]
 pub struct Job {
     parts: JobParts,
@@ -83,7 +83,7 @@ impl Model for Job {
 }
 
 impl Job {
-    /// What the job is made of. Takes no memory.
+    /// The parts of the job. Takes no memory.
     pub fn parts(&self) -> &JobParts
         ensures same { result.now ≡ self.now }
         ensures sized { IsSized self.now }
@@ -105,8 +105,8 @@ impl Job {
         &self.key
     }
 
-    /// The job as it was known before there were attempts: its text is the code of the first nine items, with `nfjob1` in
-    /// place of `nfjob2`. It is there exactly where this is the first attempt. Takes no memory.
+    /// The job in the older form. Its text is the code of the first nine items, with `nfjob1` in place of `nfjob2`. Only a first
+    /// attempt has one. Takes no memory.
     pub fn old(&self) -> Option<&OldJob>
         ensures { option_copied result ≡ old_text_of self.now }
     {
@@ -114,11 +114,11 @@ impl Job {
     }
 }
 
-/// The job of these parts.
+/// The job of these parts. The attempt is from 1 to 101.
 ///
 /// # Errors
 ///
-/// `Mem` where there is no memory for it.
+/// `Mem` if there is no memory for it.
 pub fn make_job(alloc: Global, parts: JobParts) -> Result<Job, Mem>
     requires first { 1 ≤ parts.attempt }
     requires last { parts.attempt ≤ 101 }

@@ -1,4 +1,4 @@
-//! Laws of jobs, each as a contract over the definitions alone.
+//! Laws of jobs, each a contract over the definitions alone.
 
 ghost use Rattle.std.specs.Prelude.{◌≡◌, List};
 ghost use Rattle.nf_value.specs.Plain.{Plain, list, plains_of};
@@ -12,13 +12,13 @@ pub fn inputs_are_told_apart()
     ensures { (vs ws : List Plain) → IsFit (list (plains_of vs)) → IsFit (list (plains_of ws)) → inputs_text vs ≡ inputs_text ws → vs ≡ ws }
 {}
 
-/// Two jobs with one text have one process, script, list of inputs, number and attempt.
+/// Two jobs with the same text have the same process, script, inputs, number and attempt.
 #[tactic(auto, using(crate::proofs::Apart::jobs_apart))]
 pub fn jobs_are_told_apart()
     ensures { (p q : JobParts) → IsSized p → IsSized q → job_text p ≡ job_text q → SameAttempt p q }
 {}
 
-/// Distinct pairs of an instance (a process, a list of inputs and a number) and an attempt have distinct job texts.
+/// The same with the inputs as lists: two jobs with the same text have the same process, list of inputs, number and attempt.
 #[tactic(auto, using(crate::proofs::Apart::instances_apart))]
 pub fn instances_are_told_apart()
     ensures { (p q : JobParts) → (vs ws : List Plain) → IsSized p → IsSized q → IsFit (list (plains_of vs)) → IsFit (list (plains_of ws))

@@ -1,4 +1,4 @@
-//! Jobs of processes, and what became of them.
+//! A job, what one attempt at a task runs, and its report.
 #![tactic(auto)]
 
 mod emitted;

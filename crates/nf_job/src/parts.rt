@@ -1,4 +1,4 @@
-//! What a job is made of.
+//! `JobParts`: what a job is made of.
 
 ghost use Rattle.std.specs.Prelude.{◌≡◌, IfOk};
 
@@ -6,24 +6,24 @@ use crate::files::FileRefs;
 use crate::texts::Txts;
 use nf_value::{Mem, Txt};
 
-/// All that one attempt at a task depends on (own).
+/// Everything that one attempt at a task depends on (own).
 #[derive(Drop)]
 pub struct JobParts {
     /// The path of the process's call, as `MAIN:ALIGN`.
     pub process: Txt,
     /// The text of the script.
     pub script: Txt,
-    /// The code of the list of the inputs, as `inputs_code` gives it.
+    /// The code of the inputs, as `inputs_code` gives it.
     pub inputs: Txt,
-    /// What the script reads from its standard input, if anything.
+    /// The script's standard input, if it has one.
     pub stdin: Option<Txt>,
-    /// The files that stand in its folder, in the order of the inputs.
+    /// The files that are put into its folder, in the order of the inputs.
     pub staged: FileRefs,
-    /// The patterns of the files that it is to leave, in the order of the outputs.
+    /// The patterns of the files that it must leave, in the order of the outputs.
     pub patterns: Txts,
     /// Whether its standard output is an output.
     pub wants_stdout: bool,
-    /// How many instances of this process with the same inputs came before, from 0.
+    /// How many tasks of this process with the same inputs came before, from 0.
     pub n: u32,
     /// The attempt, from 1.
     pub attempt: u32,
@@ -39,11 +39,11 @@ fn copy_text(text: &Option<Txt>) -> Result<Option<Txt>, Mem>
 }
 
 impl JobParts {
-    /// Other parts, equal to these.
+    /// A copy of the parts.
     ///
     /// # Errors
     ///
-    /// `Mem` where there is no memory for them.
+    /// `Mem` if there is no memory for it.
     pub fn copy(&self) -> Result<JobParts, Mem>
         ensures { IfOk result (λ p. p ≡ self.now) }
     {

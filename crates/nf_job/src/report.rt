@@ -1,27 +1,27 @@
-//! What a task that ended is known by.
+//! `Report`: how one attempt at a job ended.
 
 ghost use Rattle.std.specs.Prelude.{◌≡◌, IfOk};
 
 use crate::found::Found;
 use nf_value::{Mem, Txt};
 
-/// What became of a task's standard output (own).
+/// A task's standard output as it was kept (own).
 #[derive(Drop)]
 pub enum Captured {
     /// It wasn't wanted.
     None,
     /// It isn't UTF-8, or has more than 1,048,576 bytes.
     Bad,
-    /// The text.
+    /// Its text.
     Text(Txt),
 }
 
 impl Captured {
-    /// Another value, equal to this one.
+    /// A copy of it.
     ///
     /// # Errors
     ///
-    /// `Mem` where there is no memory for the text.
+    /// `Mem` if there is no memory for the text.
     pub fn copy(&self) -> Result<Captured, Mem>
         ensures { IfOk result (λ c. c ≡ self.now) }
     {
@@ -36,20 +36,20 @@ impl Captured {
 /// How one attempt at a job ended (own).
 #[derive(Drop)]
 pub struct Report {
-    /// The exit status; 255 where the child was ended by a signal.
+    /// The exit status; 255 if a signal ended the child.
     pub exit: i32,
-    /// Its standard output.
+    /// The standard output.
     pub captured: Captured,
-    /// The files that it left, a list for each pattern.
+    /// The files that it left, one list for each pattern.
     pub found: Found,
 }
 
 impl Report {
-    /// Another report, equal to this one.
+    /// A copy of the report.
     ///
     /// # Errors
     ///
-    /// `Mem` where there is no memory for it.
+    /// `Mem` if there is no memory for it.
     pub fn copy(&self) -> Result<Report, Mem>
         ensures { IfOk result (λ r. r ≡ self.now) }
     {

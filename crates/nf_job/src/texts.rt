@@ -1,4 +1,4 @@
-//! Lists of texts.
+//! `Txts`: a list of texts.
 
 ghost use Rattle.std.specs.Prelude.{◌≡◌, IfOk};
 
@@ -34,11 +34,11 @@ impl Txts {
         self.items.as_slice()
     }
 
-    /// Another list of the same texts.
+    /// A copy of the list.
     ///
     /// # Errors
     ///
-    /// `Mem` where there is no memory for it.
+    /// `Mem` if there is no memory for it.
     pub fn copy(&self) -> Result<Txts, Mem>
         ensures { IfOk result (λ t. t ≡ self.now) }
     {

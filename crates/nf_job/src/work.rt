@@ -1,4 +1,4 @@
-//! The folder of a job.
+//! The name of a job's folder.
 
 ghost use Rattle.std.specs.Prelude.{◌≡◌};
 ghost use Rattle.nf_job.specs.JobText.{work_path};

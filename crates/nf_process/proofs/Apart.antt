@@ -1,4 +1,4 @@
--- The text of a job tells the instance and the attempt.
+-- The text of a job determines its task and attempt.
 use Rattle.std.proofs.Common.{◌≡◌, ℕ, List, [], ◌∷◌, Ok, sym, ◌∙◌}
 use Rattle.nf_value.specs.Plain.{Plain, list, plains_of}
 use Rattle.nf_job.specs.declared.parts.JobParts.{JobParts}

@@ -1,4 +1,4 @@
--- Each report decides its instance.
+-- No report asks for another attempt.
 use Rattle.std.proofs.Common.{◌≡◌, ◌≢◌, ◌↔◌, ap, ℕ, List, [], ◌∷◌, Ok, Err}
 use Rattle.std.specs.declared.result.Result.{Result}
 use Rattle.nf_value.specs.Plain.{Plain}

@@ -1,4 +1,4 @@
--- A value that was written has sizes that 64 bits hold.
+-- A value that was encoded has sizes that fit 64 bits.
 use Rattle.std.proofs.Common.{ℤ, pos, negsuc, Some, None, List, ℕ}
 use Rattle.std.specs.declared.option.Option.{Option}
 use Rattle.nf_value.specs.Plain.{Plain, null, truth, int, text, file, list, table, Plains, no_items, item, PlainPairs, no_pairs, pair}

@@ -1,4 +1,4 @@
--- The parts of an attempt at an instance that has a first input.
+-- The parts of an attempt whose inputs aren't empty.
 use Rattle.std.proofs.Common.{◌≡◌, ℕ, List, [], ◌∷◌, map, true, Some, None, Ok, ap, sym, ◌∙◌}
 use Rattle.std.specs.List.{slice_get}
 use Rattle.nf_value.specs.Plain.{Plain}

@@ -1,4 +1,4 @@
--- The text of a script: a template's text that doesn't begin with a line end, and whose lines begin as far left as they can.
+-- The text of a script: a template's text without a line end at its start and without the indentation that its lines share.
 use Rattle.std.specs.Prelude.{ℕ, min, ◌==◌, ◌||◌, List, [], ◌∷◌, map, filter, drop, Bool, not, unwrap_or, if◌then◌else◌}
 use Rattle.std.specs.List.{slice_split, join_by, list_all, prefix_len, reduce}
 use Rattle.nf_value.specs.Plain.{Plain}
@@ -21,27 +21,27 @@ indent_of line = prefix_len is_blank line
 abbrev pub is_filled : List ℕ → Bool
 is_filled line = not (list_all is_blank line)
 
--- how many blanks all filled lines begin with; none where no line is filled
+-- how many blanks every filled line begins with; 0 if no line is filled
 abbrev pub margin_of : List (List ℕ) → ℕ
 margin_of lines = unwrap_or (reduce min (map indent_of (filter is_filled lines))) 0
 
--- a line without so many of its first blanks, or without as many as it has
+-- a line without that many leading blanks, or without all if it has fewer
 abbrev pub outdented : ℕ → List ℕ → List ℕ
 outdented margin line = drop (min margin (indent_of line)) line
 
--- lines, with a line end between each two
+-- the lines, with line ends between them
 abbrev pub joined : List (List ℕ) → List ℕ
 joined = join_by (λ line. line) (10 ∷ [])
 
--- the lines, each without the margin of all
+-- the lines without their shared indentation
 abbrev pub flush_left : List (List ℕ) → List (List ℕ)
 flush_left lines = map (outdented (margin_of lines)) lines
 
--- a text without the margin of its lines
+-- a text without its lines' shared indentation
 abbrev pub without_margin : List ℕ → List ℕ
 without_margin t = joined (flush_left (slice_split is_line_end t))
 
--- a text without the line end that it begins with
+-- a text without a line end at its start
 abbrev pub without_line_end : List ℕ → List ℕ
 without_line_end [] = []
 without_line_end (b ∷ bs) = if is_line_end b then bs else b ∷ bs

@@ -6,7 +6,7 @@ use Rattle.nf_value.specs.Text.{value_text}
 use Rattle.nf_process.specs.declared.template.ScriptPiece.{ScriptPiece}
 use Rattle.nf_process.specs.declared.template.ScriptPiece.TheVariants as piece
 
--- what a piece prints where the input prints this
+-- the text of a piece; `shown` is the input's text
 abbrev pub piece_text : List ℕ → ScriptPiece → List ℕ
 piece_text shown (piece.Text t) = t
 piece_text shown piece.Input = shown

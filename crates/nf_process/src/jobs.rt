@@ -1,4 +1,4 @@
-//! The job of an instance's attempt.
+//! The job of a task's attempt.
 
 ghost use Rattle.std.specs.Prelude.{◌≡◌, ◌≤◌, OnOk};
 ghost use Rattle.nf_value.specs.Plain.{list, plains_of};
@@ -13,12 +13,12 @@ use nf_job::{FileRefs, Job, JobParts, TaskFault, TaskRefusal, Txts, inputs_code,
 use nf_value::{EvalFault, EvalKind, Mem, Vals, Value};
 use std::alloc::Global;
 
-/// What an attempt at the instance of these inputs and this number is made of. An instance's number counts from 0 those
-/// of equal inputs; the attempt counts from 1. The input is the first item; no input reads the others (own).
+/// The parts of the job of a task's attempt. `n` is how many tasks with equal inputs come before it, from 0; `attempt` counts
+/// from 1. The process's input is the first item of `inputs`; no input reads the others (own).
 ///
 /// # Errors
 ///
-/// `Fault` with `WrongKind` at the input's place exactly where there is no item, but for `Mem`, where there was no memory.
+/// `Fault` exactly if `inputs` is empty: `WrongKind` at the input's place. `Mem` instead of any answer if there is no memory.
 pub fn parts(
     alloc: Global,
     spec: &ProcessSpec,
@@ -47,7 +47,7 @@ pub fn parts(
     })
 }
 
-/// The fault of an input for which no item is there.
+/// The fault of an input without an item.
 pub(crate) fn no_item(spec: &ProcessSpec) -> TaskFault
     ensures { result ≡ no_item spec.now }
 {
@@ -57,7 +57,7 @@ pub(crate) fn no_item(spec: &ProcessSpec) -> TaskFault
     })
 }
 
-/// The job of an attempt, from 1 to 101, at the instance of these inputs and this number: that of its [`parts`].
+/// The job of a task's attempt, made of its [`parts`]. The attempt is from 1 to 101.
 ///
 /// # Errors
 ///
@@ -77,11 +77,11 @@ pub fn job(
     Ok(make_job(alloc, parts)?)
 }
 
-/// Tells that all numbers, lengths and counts in these inputs fit 64 bits, which the laws on jobs ask of them.
+/// All numbers, lengths and counts in these inputs fit 64 bits, as the laws on jobs require. (Called for its contract.)
 ///
 /// # Errors
 ///
-/// `Mem` where there is no memory for the code of the inputs.
+/// `Mem` if there is no memory for the code of the inputs.
 pub fn tell_fit(alloc: Global, inputs: &Vals) -> Result<(), Mem>
     ensures { OnOk result (IsFit (list (plains_of inputs.now))) }
 {

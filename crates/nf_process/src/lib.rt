@@ -1,4 +1,4 @@
-//! Processes: the jobs of their instances, and what a report comes to.
+//! Processes with one input `val NAME` and the output `stdout`: the jobs of their tasks, and what a report amounts to.
 #![tactic(auto)]
 
 mod jobs;

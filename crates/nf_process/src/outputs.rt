@@ -1,4 +1,4 @@
-//! What a report comes to.
+//! What a report amounts to.
 
 ghost use Rattle.std.specs.Prelude.{IfOk, ◌≡◌};
 ghost use Rattle.nf_job.specs.Emission.{stdout_emitted};
@@ -11,13 +11,13 @@ use nf_job::{Captured, Emitted, Outputs, Report, TaskFault, TaskRefusal};
 use nf_value::{Mem, Txt, Vals, Value};
 use std::alloc::Global;
 
-/// What the report of an attempt at an instance of these inputs comes to: standard output is the one output, as a text,
-/// where the script ended with 0 (Nextflow reference, "Process", "Output type stdout"). Another exit is the fault `Exit`;
-/// a standard output that isn't a text is `BadStdout` after an exit of 0. A fault ends the run.
+/// What the report of a task's attempt amounts to. If the script ended with 0, its standard output is the one output, as a
+/// text (Nextflow reference, "Process", "Output type stdout"). Another exit status is the fault `Exit`; a standard output that
+/// is no text, after exit status 0, is `BadStdout`. A fault ends the run.
 ///
 /// # Errors
 ///
-/// `Fault` exactly where the attempt has no job, with the fault that [`parts`](crate::parts) has; `Mem` where there was no memory.
+/// `Fault` exactly if the attempt has no job, with the fault of [`parts`](crate::parts); `Mem` if there is no memory.
 pub fn emit_of(
     alloc: Global,
     spec: &ProcessSpec,

@@ -1,15 +1,15 @@
-//! Processes as they are known when a run begins.
+//! `ProcessSpec`: what a run knows of a process.
 
 use crate::template::Pieces;
 use nf_value::{Place, Txt};
 
-/// A process of one input `val NAME` and one output `stdout`, as a call of it is known when the run begins (Nextflow reference, "Process").
+/// A call of a process with one input `val NAME` and the output `stdout` (Nextflow reference, "Process").
 #[derive(Drop)]
 pub struct ProcessSpec {
     /// The path of the call, as `MAIN:ALIGN`.
     pub name: Txt,
-    /// Where the input stands in the script.
+    /// The place of the input's name in the script.
     pub input: Place,
-    /// The template of the process's script.
+    /// The process's script, with holes for the input.
     pub script: Pieces,
 }

@@ -9,13 +9,13 @@ use crate::template::{Pieces, template_text};
 use nf_value::{Mem, Txt, Value};
 use std::alloc::{AllocError, Global};
 
-/// The text of a script for an input: that of the template, without the line end that it begins with, and then without the
-/// blanks that all its lines begin with, but for lines of blanks alone, which lose as many as they have (own).
-/// A line ends at a line feed, and blanks are spaces and tabs, each of which counts one.
+/// The text of a script for an input: the template's text, without a line end at its start and without the indentation that
+/// all its lines share (own). Lines of blanks alone don't count for that indentation, and lose at most their own blanks.
+/// A line ends at a line feed. A blank is a space or a tab; each counts as one.
 ///
 /// # Errors
 ///
-/// `Mem` where there is no memory for it.
+/// `Mem` if there is no memory for it.
 pub fn script_text(alloc: Global, script: &Pieces, input: &Value) -> Result<Txt, Mem>
     ensures { IfOk result (λ t. t ≡ script_of script.now (plain_of input.now)) }
 {
@@ -40,14 +40,14 @@ fn without_margin(alloc: Global, text: &str) -> Result<Txt, Mem>
     joined(alloc, &lines, margin)
 }
 
-/// The lines of a text, which line feeds separate.
+/// The lines of a text, split at line feeds.
 fn lines_of(alloc: Global, text: &str) -> Result<Vec<&str>, AllocError>
     ensures { IfOk result (λ lines. map (λ line. line.now) lines.items ≡ slice_split is_line_end text.now) }
 {
     text.split('\n').collect(alloc)
 }
 
-/// How many blanks all lines that aren't blank begin with.
+/// How many blanks every line begins with, lines of blanks alone left out.
 fn margin(lines: &[&str]) -> usize
     ensures { result ≡ margin_of (map (λ line. line.now) lines.now) }
 {

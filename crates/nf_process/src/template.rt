@@ -1,4 +1,4 @@
-//! Templates: texts with holes for the input.
+//! `Pieces`: a script as texts and holes for the input.
 
 ghost use Rattle.std.specs.Prelude.{◌≡◌, ◌++◌, IfOk, OnOk, string_bytes};
 ghost use Rattle.nf_value.specs.View.{plain_of};
@@ -8,16 +8,16 @@ use nf_value::{Mem, Txt, Value, text_of};
 use std::alloc::Global;
 use std::marker::Model;
 
-/// A piece of a script's template (Nextflow reference, "Script", "String interpolation").
+/// A piece of a process's script (Nextflow reference, "Script", "String interpolation").
 #[derive(Drop)]
 pub enum ScriptPiece {
     /// This text.
     Text(Txt),
-    /// A hole, in which the text of the input's value is printed.
+    /// A hole, filled with the text of the input's value.
     Input,
 }
 
-/// A template, as the list of its pieces. Contracts see that list.
+/// A template: a list of pieces. Contracts see the list.
 #[derive(Drop)]
 pub struct Pieces {
     items: Vec<ScriptPiece>,
@@ -52,7 +52,7 @@ impl Pieces {
 ///
 /// # Errors
 ///
-/// `Mem` where there is no memory for it.
+/// `Mem` if there is no memory for it.
 pub(crate) fn template_text(alloc: Global, pieces: &Pieces, input: &Value) -> Result<Txt, Mem>
     ensures { IfOk result (λ t. t ≡ template_text pieces.now (plain_of input.now)) }
 {
