@@ -1,4 +1,4 @@
--- An operator that answers its close by the bag of its input is one.
+-- An operator whose close depends on the bag of its input meets `IsOperator`.
 use Rattle.std.proofs.Common.{◌≡◌, ℕ, List, [], ◌∷◌, ◌++◌, refl, ap, sym, ◌∙◌, subst, arith, append-nil}
 use Rattle.std.specs.Prelude.{Result, Err, count_by}
 use Rattle.std.specs.List.{Contains, flat_map}

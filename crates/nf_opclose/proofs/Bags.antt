@@ -1,4 +1,4 @@
--- Bags of values, one after the other.
+-- Bags of appended lists.
 use Rattle.std.proofs.Common.{◌≡◌, ◌+◌, List, ◌++◌, Bool, cond, ap, arith}
 use Rattle.std.specs.Prelude.{count_by}
 use Rattle.std.specs.Ordering.{eq_by_cmp}

@@ -1,4 +1,4 @@
--- What depends on the bag of an input alone.
+-- Functions of an input that depend on its bag alone.
 use Rattle.std.proofs.Common.{◌≡◌, ℕ, List, [], ◌∷◌, length, refl, ap, sym, ◌∙◌, arith}
 use Rattle.std.specs.Prelude.{sum_by, Result}
 use Rattle.std.specs.List.{flat_map}

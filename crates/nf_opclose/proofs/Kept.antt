@@ -1,4 +1,4 @@
--- What the states keep.
+-- The states after one more push.
 use Rattle.std.proofs.Common.{◌≡◌, ℕ, ◌+◌, ◌≤◌, ◌^◌, w64, List, [], ◌∷◌, ◌++◌, map, length, Bool, true, false, refl, ap, ◌∙◌, arith}
 use Rattle.std.specs.Prelude.{pos, Option, Some, Result, Ok}
 use Rattle.std.specs.Option.{option_map}

@@ -1,4 +1,4 @@
--- The items of a list that is opened.
+-- The items of a list in its place.
 use Rattle.std.proofs.Common.{◌≡◌, List, [], ◌∷◌, ◌++◌, map, refl, ap, sym, ◌∙◌}
 use Rattle.std.proofs.lemmas.List.{map-append}
 use Rattle.nf_value.specs.Plain.{Plain, plains_of}

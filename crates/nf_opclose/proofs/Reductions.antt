@@ -1,4 +1,4 @@
--- What `reduce` makes of a bag, and what is left of its start.
+-- What `reduce` makes of a bag, and of an initial value that it refuses.
 use Rattle.std.proofs.Common.{◌≡◌, ℕ, suc, ◌^◌, ◌<◌, ◌≤◌, List, [], ◌∷◌, length, Bool, true, false, cond, not, refl, ap, sym, ◌∙◌, subst, arith, length-append, inl, inr}
 use Rattle.std.specs.Prelude.{◌&&◌, Option, Some, None, Result, Ok, Err, is_ok}
 use Rattle.std.specs.List.{list_all, list_any}

@@ -7,7 +7,7 @@ use Rattle.nf_opstream.specs.Fault.{Fault}
 use Rattle.nf_opstream.specs.Operator.{Operator, to_out, oks, errs}
 use Rattle.nf_opstream.specs.Alone.{judged}
 
--- the operator that answers each push by itself, and the close by the whole input
+-- the operator whose answer to a push depends on that push alone, and whose close depends on the whole input
 abbrev pub closing : (Push → Result (List (ℕ × Plain)) Fault) → (List Push → Result (List (ℕ × Plain)) Fault) → Operator
 closing f g = record {
   items = λ q out. flat_map (λ x. to_out out (oks (f x))) q ++ to_out out (oks (g q));
@@ -16,7 +16,7 @@ closing f g = record {
   ends = g;
 }
 
--- nothing is emitted for a push
+-- emits nothing for a push
 abbrev pub silent : Push → Result (List (ℕ × Plain)) Fault
 silent x = Ok []
 

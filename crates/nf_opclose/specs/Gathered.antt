@@ -1,4 +1,4 @@
--- Lists of all items, in rising order.
+-- Sorted lists of all items, and the least and the greatest.
 use Rattle.std.specs.Prelude.{ℕ, List, [], ◌∷◌, Bool, cond, Result, Ok, Option, Some, None}
 use Rattle.std.specs.List.{flat_map}
 use Rattle.nf_value.specs.Plain.{Plain, null, truth, int, text, file, list, table, plains_of}
@@ -18,11 +18,11 @@ unlisted (text t) = text t ∷ []
 unlisted (file n d l) = file n d l ∷ []
 unlisted (table ps) = table ps ∷ []
 
--- a value, opened where it is a list and this is asked for
+-- the value; if `flat`, the items of a list in its place
 abbrev pub parts_of : Bool → Plain → List Plain
 parts_of flat v = cond flat (unlisted v) (v ∷ [])
 
--- what is collected of all images
+-- all that is collected
 abbrev pub collected : Bool → List Push → List Plain
 collected flat q = flat_map (λ x. parts_of flat x.answer) q
 
@@ -48,10 +48,10 @@ last_of [] = None
 last_of (v ∷ []) = Some v
 last_of (v ∷ w ∷ vs) = last_of (w ∷ vs)
 
--- none of these values is below it
+-- the least value, if there is one
 abbrev pub least_of : List Plain → Option Plain
 least_of vs = first_of (sorted_of vs)
 
--- none of these values is above it
+-- the greatest value, if there is one
 abbrev pub greatest_of : List Plain → Option Plain
 greatest_of vs = last_of (sorted_of vs)

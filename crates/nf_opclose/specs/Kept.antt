@@ -1,4 +1,4 @@
--- What the states keep of the pushes so far, none of them a fault.
+-- The states after these pushes, none of which had a fault.
 use Rattle.std.specs.Prelude.{◌≡◌, List, [], ◌∷◌, map, length, Bool, true, false, Option}
 use Rattle.std.specs.Option.{option_map}
 use Rattle.nf_value.specs.Plain.{Plain}
@@ -31,7 +31,7 @@ abbrev pub is_none_pushed : List Push → Bool
 is_none_pushed [] = true
 is_none_pushed (x ∷ p) = false
 
--- the value that stands for no item, and whether there was none
+-- the value for an empty input, and whether there was no item
 pub record IsIfEmptyAfter (v : Plain) (p : List Push) (s : IfEmptyState) : Type 0 where
   pub fine : AreFine (if_empty_row v) p
   pub value : plain_of s.value ≡ v
@@ -65,7 +65,7 @@ pub record IsSumAfter (p : List Push) (s : SumState) : Type 0 where
   pub count : s.numbers.count ≡ length p
   pub total : s.numbers.total ≡ total_of (items_in p)
 
--- what the closure makes of the items and the initial value, and that value where the closure doesn't take it
+-- what the closure makes of the items and the initial value, and that value if the closure doesn't take it
 pub record IsReduceAfter (kind : Total) (start : Option Plain) (p : List Push) (s : ReduceState) : Type 0 where
   pub fine : AreFine (reduce_row kind start) p
   pub made : kind_of s.running ≡ kind

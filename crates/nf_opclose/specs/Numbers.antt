@@ -15,7 +15,7 @@ is_number (file n d l) = false
 is_number (list vs) = false
 is_number (table ps) = false
 
--- a number, and 0 of what is none
+-- the number; 0 if the value is none
 abbrev pub number_of : Plain → ℤ
 number_of (int i) = i
 number_of null = pos 0
@@ -29,7 +29,7 @@ abbrev pub total_of : List Plain → ℤ
 total_of [] = pos 0
 total_of (v ∷ vs) = total_of vs +ℤ number_of v
 
--- whether it has 64 signed bits
+-- whether it fits 64 signed bits
 abbrev pub fits : ℤ → Bool
 fits (pos n) = nat_lt n (2 ^ 63)
 fits (negsuc n) = nat_lt n (2 ^ 63)
@@ -38,10 +38,10 @@ fits (negsuc n) = nat_lt n (2 ^ 63)
 abbrev pub numeric : Push → Result (List (ℕ × Plain)) Fault
 numeric x = cond (is_number x.item) (Ok []) (Err (not_a_number x.item))
 
--- the total, judged as a whole
+-- the total, or a fault if it doesn't fit 64 signed bits
 abbrev pub total_due : ℤ → Result (List (ℕ × Plain)) Fault
 total_due t = cond (fits t) (single (int t)) (Err (overflow t))
 
--- what is due where all these are numbers; else the item that is none is the fault
+-- what is due if all these are numbers; otherwise nothing, since the item that is none is the fault
 abbrev pub of_numbers : List Plain → Result (List (ℕ × Plain)) Fault → Result (List (ℕ × Plain)) Fault
 of_numbers vs due = cond (list_all is_number vs) due (Ok [])

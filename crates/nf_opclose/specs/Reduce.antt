@@ -12,7 +12,7 @@ use Rattle.nf_opclose.specs.Closing.{single}
 use Rattle.nf_opclose.specs.Gathered.{if_any, if_some, least_of, greatest_of}
 use Rattle.nf_opclose.specs.Numbers.{is_number, total_of, total_due, of_numbers}
 
--- the kinds of closure that take numbers alone
+-- the kinds of closure that take only numbers
 abbrev pub takes_numbers : Total → Bool
 takes_numbers t.Sum = true
 takes_numbers t.Least = true
@@ -20,11 +20,11 @@ takes_numbers t.Greatest = true
 takes_numbers t.All = false
 takes_numbers t.Any = false
 
--- whether the closure doesn't take this value
+-- whether the closure refuses this value
 abbrev pub refuses : Total → Plain → Bool
 refuses kind v = takes_numbers kind && not (is_number v)
 
--- an item that the closure doesn't take is a fault
+-- a fault, if the closure refuses the item
 abbrev pub taken : Total → Push → Result (List (ℕ × Plain)) Fault
 taken kind x = cond (refuses kind x.item) (Err (not_a_number x.item)) (Ok [])
 
@@ -36,7 +36,7 @@ made_of t.Greatest vs = if_some (greatest_of vs)
 made_of t.All vs = if_any vs (single (truth (list_all truth_of vs)))
 made_of t.Any vs = if_any vs (single (truth (list_any truth_of vs)))
 
--- an initial value that the closure doesn't take
+-- the initial value, if the closure refuses it
 abbrev pub stray_of : Total → Option Plain → Option Plain
 stray_of kind None = None
 stray_of kind (Some v) = cond (refuses kind v) (Some v) None

@@ -1,4 +1,4 @@
--- The operators of this crate.
+-- The operators of this crate, each by its meaning.
 use Rattle.std.specs.Prelude.{ℕ, pos, List, [], ◌∷◌, length, Bool, Option, Result, Ok}
 use Rattle.nf_value.specs.Plain.{Plain, int}
 use Rattle.nf_bag.specs.declared.options.Total.{Total}
@@ -11,7 +11,7 @@ use Rattle.nf_opclose.specs.Gathered.{collected, sorted_list, if_any, if_some, l
 use Rattle.nf_opclose.specs.Numbers.{numeric, total_of, total_due, of_numbers}
 use Rattle.nf_opclose.specs.Reduce.{taken, reduced}
 
--- `first` and `last` of a value channel, which has at most one item: the items
+-- `first` and `last` of a value channel, which has at most one item: that item
 abbrev pub value_row : Operator
 value_row = pass_row
 
@@ -23,7 +23,7 @@ abbrev pub if_none : Plain → List Push → Result (List (ℕ × Plain)) Fault
 if_none v [] = single v
 if_none v (x ∷ q) = Ok []
 
--- `ifEmpty`: the items, or of none this value
+-- `ifEmpty`: the items, or this value if there is none
 abbrev pub if_empty_row : Plain → Operator
 if_empty_row v = closing (λ x. single x.item) (if_none v)
 
@@ -31,7 +31,7 @@ if_empty_row v = closing (λ x. single x.item) (if_none v)
 abbrev pub to_list_row : Operator
 to_list_row = closing silent (λ q. sorted_list (items_in q))
 
--- `collect`: one sorted list of the images, each list among them opened one level where `flat` is; of none, nothing
+-- `collect`: one sorted list of the images; if `flat`, the items of an image that is a list in its place; of none, nothing
 abbrev pub collect_row : Bool → Operator
 collect_row flat = closing silent (λ q. if_any q (sorted_list (collected flat q)))
 

@@ -1,4 +1,4 @@
--- What `reduce` keeps of the values so far.
+-- The result of `reduce` over the values so far.
 use Rattle.std.specs.Prelude.{◌≡◌, ◌^◌, ◌≤◌, List, [], ◌∷◌, length, Bool, Option, Some, None}
 use Rattle.std.specs.List.{list_all, list_any}
 use Rattle.std.specs.Option.{option_map}
@@ -19,12 +19,12 @@ kind_of (r.Greatest v) = t.Greatest
 kind_of (r.All b) = t.All
 kind_of (r.Any b) = t.Any
 
--- a test of all values, where there is one
+-- a test of all values, if there is one
 abbrev pub tested : (List Plain → Bool) → List Plain → Option Bool
 tested test [] = None
 tested test (v ∷ vs) = Some (test (v ∷ vs))
 
--- these values have run so far
+-- the result over these values
 abbrev pub IsRunning : List Plain → Running → Type 0
 IsRunning vs (r.Sum n) = (n.count ≡ length vs) × (n.total ≡ total_of vs)
 IsRunning vs (r.Least v) = option_map plain_of v ≡ least_of vs

@@ -1,4 +1,4 @@
-//! `collect`, which emits one list of its images.
+//! `collect`: emits one list of its images.
 
 ghost use Rattle.std.specs.Prelude.{◌≡◌, List, [], ◌∷◌, Bool, IfOk, IsOk, MatchResult};
 ghost use Rattle.nf_value.specs.View.{plain_of};
@@ -16,9 +16,9 @@ use nf_value::{Mem, Value};
 use std::alloc::Global;
 use std::mem::replace;
 
-/// The state of `collect`: when the input ends one list of the answers is emitted, in the order of values, and nothing where there was none
-/// (Nextflow reference, "Operators: collect"; that it is always sorted is this project's own choice). With `flat` of the options each answer that
-/// is a list is opened one level.
+/// The state of `collect`: when the input ends, emits one list of the answers in the order of values, or nothing if there was no
+/// item (Nextflow reference, "Operators: collect"; that it always sorts is own). With `flat` of the options, the items of an answer
+/// that is a list stand in its place.
 #[derive(Drop)]
 pub struct CollectState {
     alloc: Global,
@@ -31,11 +31,11 @@ pub struct CollectState {
 impl CollectState {
     ghost use Rattle.nf_opclose.specs.Kept.{IsCollectAfter};
 
-    /// The state before the first item. Of the options `flat` is read.
+    /// The state before the first item. It reads `flat` of the options.
     ///
     /// # Errors
     ///
-    /// `Mem`, which this operator doesn't answer.
+    /// None. It takes no memory.
     pub fn begin(alloc: Global, opts: &OpOpts) -> Result<CollectState, Mem>
         ensures after { IfOk result (λ s. IsCollectAfter opts.now.flat [] s) }
         ensures begun { IsOk result }
@@ -50,11 +50,11 @@ impl CollectState {
         })
     }
 
-    /// Takes an item with its answer. Nothing is emitted for it.
+    /// Takes an item with the closure's answer on it. Emits nothing.
     ///
     /// # Errors
     ///
-    /// `Mem` where there is no memory. Nothing is to be pushed after that.
+    /// `Mem` if there is no memory. Push nothing after an error.
     pub fn push(
         &mut self,
         port: u32,
@@ -71,12 +71,12 @@ impl CollectState {
         Ok(Vec::new(self.alloc))
     }
 
-    /// Ends the input, and gives the list. Takes some n log n comparisons of values for n items. What the options said, and whether there was an item,
-    /// stays as it was.
+    /// Ends the input, and emits the list. Time: some n log n comparisons of values for n items. The option stays, and whether
+    /// there was an item.
     ///
     /// # Errors
     ///
-    /// `TooDeep` where the list is deeper than 64, `Mem` where there is no memory.
+    /// `TooDeep` if the list is deeper than 64, `Mem` if there is no memory.
     pub fn close(&mut self) -> Result<Vec<(u32, Value)>, OpFault>
         ensures ends { (flat : Bool) → (p : List Push) → IsCollectAfter flat p self.old → MatchResult result (λ es. HasEnded (collect_row flat) p (emits_of es.items)) (CloseRefused (collect_row flat) p) }
         ensures flat { self.new.flat ≡ self.old.flat }

@@ -1,4 +1,4 @@
-//! `count`, which emits how many items there were.
+//! `count`: emits how many items there were.
 
 ghost use Rattle.std.specs.Prelude.{◌≡◌, List, [], ◌∷◌, ◌<◌, ◌≤◌, ◌^◌, IfOk, IsOk, MatchResult, IsTrue, ◌↔◌};
 ghost use Rattle.nf_value.specs.View.{plain_of};
@@ -15,7 +15,7 @@ use nf_opstream::laws::promises;
 use nf_value::{Mem, Value};
 use std::alloc::Global;
 
-/// The state of `count`: the number of items is emitted when the input ends (Nextflow reference, "Operators: count").
+/// The state of `count`: when the input ends, emits the number of items (Nextflow reference, "Operators: count").
 #[derive(Drop)]
 pub struct CountState {
     alloc: Global,
@@ -27,11 +27,11 @@ pub struct CountState {
 impl CountState {
     ghost use Rattle.nf_opclose.specs.Kept.{IsCountAfter};
 
-    /// The state before the first item. No option is read.
+    /// The state before the first item. It reads no option.
     ///
     /// # Errors
     ///
-    /// `Mem`, which this operator doesn't answer.
+    /// None. It takes no memory.
     pub fn begin(alloc: Global, opts: &OpOpts) -> Result<CountState, Mem>
         ensures after { IfOk result (λ s. IsCountAfter [] s) }
         ensures begun { IsOk result }
@@ -44,18 +44,18 @@ impl CountState {
         })
     }
 
-    /// Whether a further item may be pushed: fewer than 2^32 were.
+    /// Whether one more item may be pushed: fewer than 2^32 were.
     pub fn has_room(&self) -> bool
         ensures { IsTrue result ↔ (self.now.count < 2 ^ 32) }
     {
         self.count < MOST_ITEMS
     }
 
-    /// Takes an item. Nothing is emitted for it. Fewer than 2^32 items may have come before.
+    /// Takes an item. Emits nothing. At most 2^32 - 1 items may have come before.
     ///
     /// # Errors
     ///
-    /// `Mem`, which this operator doesn't answer.
+    /// None. It takes no memory.
     pub fn push(
         &mut self,
         port: u32,
@@ -72,11 +72,11 @@ impl CountState {
         Ok(Vec::new(self.alloc))
     }
 
-    /// Ends the input, and gives the number of items, which stays as it was.
+    /// Ends the input, and emits the number of items. The number stays.
     ///
     /// # Errors
     ///
-    /// `Mem` where there is no memory.
+    /// `Mem` if there is no memory.
     pub fn close(&mut self) -> Result<Vec<(u32, Value)>, OpFault>
         ensures ends { (p : List Push) → IsCountAfter p self.old → MatchResult result (λ es. HasEnded count_row p (emits_of es.items)) (CloseRefused count_row p) }
         ensures kept { self.new.count ≡ self.old.count }

@@ -12,14 +12,14 @@ use nf_opstream::PassState;
 use nf_value::{Mem, Vals, Value};
 use std::alloc::Global;
 
-/// A value to the first output, passed on as an item of `view` is.
+/// Emits a value to the first output.
 pub(crate) fn emit(out: &mut PassState, value: Value) -> Result<Vec<(u32, Value)>, OpFault>
     ensures { let due = single (plain_of value) in MatchResult result (λ es. due ≡ Ok (emits_of es.items)) (IsFault due) }
 {
     out.push(0, value, Value::Null)
 }
 
-/// A value, if there is one, to the first output.
+/// Emits the value, if there is one, to the first output.
 pub(crate) fn emit_some(
     alloc: Global,
     out: &mut PassState,
@@ -33,7 +33,7 @@ pub(crate) fn emit_some(
     }
 }
 
-/// The list of these values in rising order, to the first output. Takes some n log n comparisons of values for n values.
+/// Emits the sorted list of these values to the first output. Time: some n log n comparisons of values.
 pub(crate) fn emit_sorted(
     out: &mut PassState,
     items: Vec<Value>,
@@ -44,7 +44,7 @@ pub(crate) fn emit_sorted(
     emit(out, Value::List(list))
 }
 
-/// Adds a value, or the items of one that is a list where it is to be opened.
+/// Adds a value; if `flat`, the items of a list in its place.
 pub(crate) fn put_parts(parts: &mut Vec<Value>, flat: bool, value: Value) -> Result<(), Mem>
     ensures { OnOk result (map plain_of parts.new.items ≡ map plain_of parts.old.items ++ parts_of flat (plain_of value)) }
 {

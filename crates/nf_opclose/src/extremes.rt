@@ -1,4 +1,4 @@
-//! The least and the greatest of values, as they come.
+//! The least and the greatest value so far.
 
 ghost use Rattle.std.specs.Prelude.{◌≡◌, List, Some};
 ghost use Rattle.std.specs.Option.{option_map};
@@ -10,7 +10,7 @@ ghost use Rattle.nf_opclose.specs.Gathered.{first_of, last_of};
 use nf_value::Value;
 use std::cmp::Ordering;
 
-/// The lesser of two values, where `least` is the first in rising order of those so far.
+/// The least value after one more. `least` is the first, in rising order, of those before.
 pub(crate) fn lesser(least: Option<Value>, value: Value) -> Value
     ensures { (vs : List Plain) → option_map plain_of least ≡ first_of vs → Some (plain_of result) ≡ first_of (inserted (plain_of value) vs) }
 {
@@ -23,7 +23,7 @@ pub(crate) fn lesser(least: Option<Value>, value: Value) -> Value
     }
 }
 
-/// The greater of two values, where `greatest` is the last in rising order of those so far.
+/// The greatest value after one more. `greatest` is the last, in rising order, of those before.
 pub(crate) fn greater(greatest: Option<Value>, value: Value) -> Value
     ensures { (vs : List Plain) → IsRising vs → option_map plain_of greatest ≡ last_of vs → Some (plain_of result) ≡ last_of (inserted (plain_of value) vs) }
 {

@@ -1,4 +1,4 @@
-//! `ifEmpty`, which emits its items, or a value where there was none.
+//! `ifEmpty`: emits its items, or a value if there was none.
 
 ghost use Rattle.std.specs.Prelude.{◌≡◌, List, [], ◌∷◌, Some, IfOk, MatchResult};
 ghost use Rattle.nf_value.specs.Plain.{Plain};
@@ -18,8 +18,8 @@ use nf_value::{Mem, Value};
 use std::alloc::Global;
 use std::mem::replace;
 
-/// The state of `ifEmpty`: the items are emitted as they come, and of none the value of the options when the input ends (Nextflow reference,
-/// "Operators: ifEmpty").
+/// The state of `ifEmpty`: emits the items as they come; if there was none, the value of the options when the input ends (Nextflow
+/// reference, "Operators: ifEmpty").
 #[derive(Drop)]
 pub struct IfEmptyState {
     alloc: Global,
@@ -31,11 +31,11 @@ pub struct IfEmptyState {
 impl IfEmptyState {
     ghost use Rattle.nf_opclose.specs.Kept.{IsIfEmptyAfter};
 
-    /// The state before the first item, with the value `start` of the options, which must be there.
+    /// The state before the first item. It reads `start` of the options, which must be there.
     ///
     /// # Errors
     ///
-    /// `Mem` where there is no memory for the value.
+    /// `Mem` if there is no memory for the value.
     pub fn begin(alloc: Global, opts: &OpOpts) -> Result<IfEmptyState, Mem>
         requires { Allows if_empty opts.now }
         ensures { IfOk result (λ s. (v : Value) → opts.now.start ≡ Some v → IsIfEmptyAfter (plain_of v) [] s) }
@@ -53,11 +53,11 @@ impl IfEmptyState {
         })
     }
 
-    /// Takes an item, and gives it back to the first output.
+    /// Takes an item, and emits it to the first output.
     ///
     /// # Errors
     ///
-    /// `TooDeep` where the item is deeper than 64, `Mem` where there is no memory. Nothing is to be pushed after that.
+    /// `TooDeep` if the item is deeper than 64, `Mem` if there is no memory. Push nothing after an error.
     pub fn push(
         &mut self,
         port: u32,
@@ -73,11 +73,11 @@ impl IfEmptyState {
         emit(&mut self.items, item)
     }
 
-    /// Ends the input, and gives the value where there was no item. Whether there was one stays as it was.
+    /// Ends the input, and emits the value if there was no item. Whether there was one stays.
     ///
     /// # Errors
     ///
-    /// `TooDeep` where that value is deeper than 64, `Mem` where there is no memory.
+    /// `TooDeep` if that value is deeper than 64, `Mem` if there is no memory.
     pub fn close(&mut self) -> Result<Vec<(u32, Value)>, OpFault>
         ensures ends { (v : Plain) → (p : List Push) → IsIfEmptyAfter v p self.old → MatchResult result (λ es. HasEnded (if_empty_row v) p (emits_of es.items)) (CloseRefused (if_empty_row v) p) }
         ensures none { self.new.none ≡ self.old.none }

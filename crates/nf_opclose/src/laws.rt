@@ -1,4 +1,4 @@
-//! Laws of the operators, each as a contract over the definitions alone.
+//! Laws of the operators, each a contract over the definitions alone.
 
 ghost use Rattle.std.specs.Prelude.{◌≡◌, ◌∷◌, ◌^◌, ◌<◌, List, ℕ, Bool, Option, Result, length};
 ghost use Rattle.nf_value.specs.Plain.{Plain};
@@ -15,14 +15,15 @@ ghost use Rattle.nf_opclose.specs.declared.reduce.ReduceState.{ReduceState};
 use nf_bag::laws::{sorting, sums};
 use nf_opstream::laws::{inputs, item_by_item};
 
-/// An operator that answers each item by itself, and the close by the bag of its input alone, emits its bag, whatever the order of its items.
+/// An operator that looks at each item by itself, and whose close depends on the bag of the input alone, emits the bag that it means,
+/// whatever the order of its items.
 pub fn at_the_close()
     ensures { (f : Push → Result (List (ℕ × Plain)) Fault) → (g : List Push → Result (List (ℕ × Plain)) Fault) → ((p : List Push) → (q : List Push) → IsSameInput p q → g p ≡ g q) → IsOperator (closing f g) }
 {
     item_by_item();
 }
 
-/// `count` emits its bag, whatever the order of its items.
+/// `count` emits the bag that it means, whatever the order of its items.
 pub fn count()
     ensures { IsOperator count_row }
 {
@@ -30,7 +31,7 @@ pub fn count()
     inputs();
 }
 
-/// `ifEmpty` emits its bag, whatever the order of its items.
+/// `ifEmpty` emits the bag that it means, whatever the order of its items.
 pub fn if_empty()
     ensures { (v : Plain) → IsOperator (if_empty_row v) }
 {
@@ -38,7 +39,7 @@ pub fn if_empty()
     inputs();
 }
 
-/// `toList` emits its bag, whatever the order of its items.
+/// `toList` emits the bag that it means, whatever the order of its items.
 pub fn to_list()
     ensures { IsOperator to_list_row }
 {
@@ -47,7 +48,7 @@ pub fn to_list()
     sorting();
 }
 
-/// `collect` emits its bag, whatever the order of its items.
+/// `collect` emits the bag that it means, whatever the order of its items.
 pub fn collect()
     ensures { (flat : Bool) → IsOperator (collect_row flat) }
 {
@@ -56,7 +57,7 @@ pub fn collect()
     sorting();
 }
 
-/// `min` emits its bag, whatever the order of its items.
+/// `min` emits the bag that it means, whatever the order of its items.
 pub fn min()
     ensures { IsOperator min_row }
 {
@@ -65,7 +66,7 @@ pub fn min()
     sorting();
 }
 
-/// `max` emits its bag, whatever the order of its items.
+/// `max` emits the bag that it means, whatever the order of its items.
 pub fn max()
     ensures { IsOperator max_row }
 {
@@ -74,7 +75,7 @@ pub fn max()
     sorting();
 }
 
-/// `sum` emits its bag, whatever the order of its items.
+/// `sum` emits the bag that it means, whatever the order of its items.
 pub fn sum()
     ensures { IsOperator sum_row }
 {
@@ -83,7 +84,7 @@ pub fn sum()
     sums();
 }
 
-/// `reduce` emits its bag, whatever the order of its items.
+/// `reduce` emits the bag that it means, whatever the order of its items.
 pub fn reduce()
     ensures { (kind : Total) → (start : Option Plain) → IsOperator (reduce_row kind start) }
 {
@@ -93,7 +94,7 @@ pub fn reduce()
     sums();
 }
 
-/// Where fewer than 2^32 items were pushed into `reduce`, one more may be.
+/// After fewer than 2^32 pushes, `reduce` has room for one more item.
 pub fn room()
     ensures { (kind : Total) → (start : Option Plain) → (p : List Push) → (s : ReduceState) → IsReduceAfter kind start p s → length p < 2 ^ 32 → HasRoom s.running }
 {}

@@ -1,4 +1,4 @@
-//! Operators that answer when their input ends: each with its meaning over whole inputs, and the promise that the order of its items doesn't matter.
+//! Operators that answer when their input ends. Each has a meaning over a whole input, and emits the same bag in any order of the items.
 #![tactic(auto)]
 
 mod collect;

@@ -1,4 +1,4 @@
-//! `max`, which emits its greatest item.
+//! `max`: emits its greatest item.
 
 ghost use Rattle.std.specs.Prelude.{List, [], ◌∷◌, IfOk, IsOk, MatchResult};
 ghost use Rattle.nf_value.specs.View.{plain_of};
@@ -17,8 +17,8 @@ use nf_value::{Mem, Value};
 use std::alloc::Global;
 use std::mem::replace;
 
-/// The state of `max`: when the input ends the greatest item in the order of values is emitted, and nothing where there was none (Nextflow reference,
-/// "Operators: max"; that values of any kinds have an order is this project's own choice).
+/// The state of `max`: when the input ends, emits the greatest item in the order of values, or nothing if there was none (Nextflow
+/// reference, "Operators: max"; the order of values of all kinds is own).
 #[derive(Drop)]
 pub struct MaxState {
     alloc: Global,
@@ -29,11 +29,11 @@ pub struct MaxState {
 impl MaxState {
     ghost use Rattle.nf_opclose.specs.Kept.{IsMaxAfter};
 
-    /// The state before the first item. No option is read.
+    /// The state before the first item. It reads no option.
     ///
     /// # Errors
     ///
-    /// `Mem`, which this operator doesn't answer.
+    /// None. It takes no memory.
     pub fn begin(alloc: Global, opts: &OpOpts) -> Result<MaxState, Mem>
         ensures after { IfOk result (λ s. IsMaxAfter [] s) }
         ensures begun { IsOk result }
@@ -46,11 +46,11 @@ impl MaxState {
         })
     }
 
-    /// Takes an item. Nothing is emitted for it.
+    /// Takes an item. Emits nothing.
     ///
     /// # Errors
     ///
-    /// `Mem`, which this operator doesn't answer.
+    /// None. It takes no memory.
     pub fn push(
         &mut self,
         port: u32,
@@ -69,11 +69,11 @@ impl MaxState {
         Ok(Vec::new(self.alloc))
     }
 
-    /// Ends the input, and gives the greatest item.
+    /// Ends the input, and emits the greatest item.
     ///
     /// # Errors
     ///
-    /// `TooDeep` where that item is deeper than 64, `Mem` where there is no memory.
+    /// `TooDeep` if that item is deeper than 64, `Mem` if there is no memory.
     pub fn close(&mut self) -> Result<Vec<(u32, Value)>, OpFault>
         ensures { (p : List Push) → IsMaxAfter p self.old → MatchResult result (λ es. HasEnded max_row p (emits_of es.items)) (CloseRefused max_row p) }
     {

@@ -1,4 +1,4 @@
-//! `min`, which emits its least item.
+//! `min`: emits its least item.
 
 ghost use Rattle.std.specs.Prelude.{List, [], ◌∷◌, IfOk, IsOk, MatchResult};
 ghost use Rattle.nf_value.specs.View.{plain_of};
@@ -16,8 +16,8 @@ use nf_value::{Mem, Value};
 use std::alloc::Global;
 use std::mem::replace;
 
-/// The state of `min`: when the input ends the least item in the order of values is emitted, and nothing where there was none (Nextflow reference,
-/// "Operators: min"; that values of any kinds have an order is this project's own choice).
+/// The state of `min`: when the input ends, emits the least item in the order of values, or nothing if there was none (Nextflow
+/// reference, "Operators: min"; the order of values of all kinds is own).
 #[derive(Drop)]
 pub struct MinState {
     alloc: Global,
@@ -28,11 +28,11 @@ pub struct MinState {
 impl MinState {
     ghost use Rattle.nf_opclose.specs.Kept.{IsMinAfter};
 
-    /// The state before the first item. No option is read.
+    /// The state before the first item. It reads no option.
     ///
     /// # Errors
     ///
-    /// `Mem`, which this operator doesn't answer.
+    /// None. It takes no memory.
     pub fn begin(alloc: Global, opts: &OpOpts) -> Result<MinState, Mem>
         ensures after { IfOk result (λ s. IsMinAfter [] s) }
         ensures begun { IsOk result }
@@ -45,11 +45,11 @@ impl MinState {
         })
     }
 
-    /// Takes an item. Nothing is emitted for it.
+    /// Takes an item. Emits nothing.
     ///
     /// # Errors
     ///
-    /// `Mem`, which this operator doesn't answer.
+    /// None. It takes no memory.
     pub fn push(
         &mut self,
         port: u32,
@@ -67,11 +67,11 @@ impl MinState {
         Ok(Vec::new(self.alloc))
     }
 
-    /// Ends the input, and gives the least item.
+    /// Ends the input, and emits the least item.
     ///
     /// # Errors
     ///
-    /// `TooDeep` where that item is deeper than 64, `Mem` where there is no memory.
+    /// `TooDeep` if that item is deeper than 64, `Mem` if there is no memory.
     pub fn close(&mut self) -> Result<Vec<(u32, Value)>, OpFault>
         ensures { (p : List Push) → IsMinAfter p self.old → MatchResult result (λ es. HasEnded min_row p (emits_of es.items)) (CloseRefused min_row p) }
     {

@@ -1,4 +1,4 @@
-//! Numbers, counted and added up as they come.
+//! The count and the total of the numbers so far.
 
 ghost use Rattle.std.specs.Prelude.{◌≡◌, ◌+◌, ◌*◌, ◌^◌, ◌≤◌, ◌≤ℤ◌, ◌+ℤ◌, pos, neg_ℤ, Ok, MatchResult};
 ghost use Rattle.nf_value.specs.View.{plain_of};
@@ -10,7 +10,7 @@ use nf_bag::OpFault;
 use nf_opstream::PassState;
 use nf_value::Value;
 
-/// How many items an operator that counts them takes at most.
+/// The most items that an operator which counts them takes.
 pub(crate) const MOST_ITEMS: u64 = 1 << 32;
 
 /// The least total that is emitted.
@@ -19,7 +19,7 @@ const LEAST: i128 = i64::MIN as i128;
 /// The greatest total that is emitted.
 const GREATEST: i128 = i64::MAX as i128;
 
-/// How many numbers there were, and their total. Each has 64 signed bits, so with 2^32 of them it fits 128.
+/// How many numbers there were, and their total. Each has 64 signed bits, so the total of 2^32 + 1 of them fits 128.
 #[derive(Drop)]
 pub(crate) struct Numbers {
     pub(crate) count: u64,
@@ -46,7 +46,7 @@ impl Numbers {
         self.total += number as i128;
     }
 
-    /// The total to the first output, if it has 64 signed bits.
+    /// Emits the total to the first output, if it fits 64 signed bits.
     pub(crate) fn emit_total(&self, out: &mut PassState) -> Result<Vec<(u32, Value)>, OpFault>
         ensures { let due = total_due self.now.total in MatchResult result (λ es. due ≡ Ok (emits_of es.items)) (IsFault due) }
     {
@@ -67,7 +67,7 @@ pub(crate) fn is_number(value: &Value) -> bool
     }
 }
 
-/// The number that a value is, and 0 where it is none.
+/// The number; 0 if the value is none.
 pub(crate) fn number(value: &Value) -> i64
     ensures { result ≡ number_of (plain_of value.now) }
 {

@@ -1,4 +1,4 @@
-//! `reduce`, which emits what its closure makes of all items.
+//! `reduce`: emits what its closure makes of all items.
 
 ghost use Rattle.std.specs.Prelude.{◌≡◌, List, [], ◌∷◌, Option, IfOk, MatchResult, IsTrue, ◌↔◌};
 ghost use Rattle.std.specs.Option.{option_map};
@@ -20,9 +20,9 @@ use nf_value::{Mem, Value};
 use std::alloc::Global;
 use std::mem::replace;
 
-/// The state of `reduce`: when the input ends what the closure makes of the items and the initial value is emitted, and nothing where there is no
-/// value (Nextflow reference, "Operators: reduce"; the kinds of closure are this project's own choice). A total is kept in 128 bits and judged as
-/// a whole, so that the order of items doesn't matter.
+/// The state of `reduce`: when the input ends, emits what the closure makes of the items and the initial value, or nothing if there is
+/// neither (Nextflow reference, "Operators: reduce"; the kinds of closure are own). A total is kept in 128 bits and checked at the end,
+/// so the order of the items doesn't matter.
 #[derive(Drop)]
 pub struct ReduceState {
     alloc: Global,
@@ -34,11 +34,11 @@ pub struct ReduceState {
 impl ReduceState {
     ghost use Rattle.nf_opclose.specs.Kept.{IsReduceAfter};
 
-    /// The state before the first item. Of the options `total` and `start` are read.
+    /// The state before the first item. It reads `total` and `start` of the options.
     ///
     /// # Errors
     ///
-    /// `Mem` where there is no memory for the initial value.
+    /// `Mem` if there is no memory for the initial value.
     pub fn begin(alloc: Global, opts: &OpOpts) -> Result<ReduceState, Mem>
         ensures { IfOk result (λ s. IsReduceAfter opts.now.total (option_map plain_of opts.now.start) [] s) }
     {
@@ -54,18 +54,18 @@ impl ReduceState {
         })
     }
 
-    /// Whether a further item may be pushed, as it may where fewer than 2^32 were.
+    /// Whether one more item may be pushed. It may after fewer than 2^32.
     pub fn has_room(&self) -> bool
         ensures { IsTrue result ↔ HasRoom self.now.running }
     {
         self.running.has_room()
     }
 
-    /// Takes an item. Nothing is emitted for it. Fewer than 2^32 items may have come before.
+    /// Takes an item. Emits nothing. At most 2^32 - 1 items may have come before.
     ///
     /// # Errors
     ///
-    /// `NotANumber` where the closure adds or compares numbers and the item is none. Nothing is to be pushed after that.
+    /// `NotANumber` if the closure adds or compares numbers and the item is none. Push nothing after an error.
     pub fn push(
         &mut self,
         port: u32,
@@ -86,12 +86,12 @@ impl ReduceState {
         Ok(Vec::new(self.alloc))
     }
 
-    /// Ends the input, and gives what the closure makes of all values.
+    /// Ends the input, and emits what the closure makes of all values.
     ///
     /// # Errors
     ///
-    /// `NotANumber` where the closure adds or compares numbers and the initial value is none, `Overflow` where a total leaves 64 signed bits,
-    /// `Mem` where there is no memory.
+    /// `NotANumber` if the closure adds or compares numbers and the initial value is none, `Overflow` if a total doesn't fit 64 signed
+    /// bits, `Mem` if there is no memory.
     pub fn close(&mut self) -> Result<Vec<(u32, Value)>, OpFault>
         ensures { (kind : Total) → (start : Option Plain) → (p : List Push) → IsReduceAfter kind start p self.old → MatchResult result (λ es. HasEnded (reduce_row kind start) p (emits_of es.items)) (CloseRefused (reduce_row kind start) p) }
     {
@@ -106,7 +106,7 @@ impl ReduceState {
     }
 }
 
-/// The initial value, where the closure doesn't take it.
+/// The initial value, if the closure doesn't take it.
 fn stray(running: &Running, start: &Option<Value>) -> Result<Option<Value>, Mem>
     ensures { IfOk result (λ v. option_map plain_of v ≡ stray_of (kind_of running.now) (option_map plain_of start.now)) }
 {

@@ -1,4 +1,4 @@
-//! What `reduce` makes of values, as they come.
+//! What `reduce` makes of the values so far.
 
 ghost use Rattle.std.specs.Prelude.{◌≡◌, ◌+◌, ◌^◌, ◌≤◌, ◌+ℤ◌, List, [], ◌∷◌, true, false, ◌&&◌, ◌||◌, length, unwrap_or, Ok, MatchResult, IsTrue, ◌↔◌};
 ghost use Rattle.std.specs.Option.{option_map};
@@ -18,10 +18,10 @@ use nf_opstream::PassState;
 use nf_value::{Value, truth};
 use std::alloc::Global;
 
-/// The values so far, by the kind of the closure.
+/// The result so far, by the kind of the closure.
 #[derive(Drop)]
 pub(crate) enum Running {
-    /// Their number and their total, in which what is no number counts as 0.
+    /// The count and the total; a value that is no number counts as 0.
     Sum(Numbers),
     /// The least.
     Least(Option<Value>),
@@ -36,7 +36,7 @@ pub(crate) enum Running {
 impl Running {
     ghost use Rattle.nf_opclose.specs.Running.{kind_of, IsRunning, HasRoom};
 
-    /// No value.
+    /// The result of no values.
     pub(crate) fn of(kind: Total) -> Running
         ensures kind { kind_of result ≡ kind }
         ensures running { IsRunning [] result }
@@ -51,7 +51,7 @@ impl Running {
         }
     }
 
-    /// Whether the closure doesn't take a value.
+    /// Whether the closure refuses a value.
     pub(crate) fn refuses(&self, value: &Value) -> bool
         ensures { result ≡ is_refused (kind_of self.now) (plain_of value.now) }
     {
@@ -72,7 +72,7 @@ impl Running {
         }
     }
 
-    /// One more value.
+    /// The result with one more value.
     pub(crate) fn with(self, value: Value) -> Running
         requires { HasRoom self }
         ensures kind { kind_of result ≡ kind_of self }
@@ -88,7 +88,7 @@ impl Running {
         }
     }
 
-    /// What the closure makes of them, to the first output; of none, nothing.
+    /// Emits the result to the first output; of no values, nothing.
     pub(crate) fn emit(
         self,
         alloc: Global,

@@ -1,4 +1,4 @@
-//! `sum`, which emits the total of its items.
+//! `sum`: emits the total of its items.
 
 ghost use Rattle.std.specs.Prelude.{◌≡◌, List, [], ◌∷◌, ◌<◌, ◌^◌, IfOk, IsOk, MatchResult, IsTrue, ◌↔◌};
 ghost use Rattle.nf_value.specs.View.{plain_of};
@@ -14,8 +14,8 @@ use nf_opstream::laws::promises;
 use nf_value::{Mem, Value};
 use std::alloc::Global;
 
-/// The state of `sum`: when the input ends the total of all items is emitted, 0 of none (Nextflow reference, "Operators: sum"; the total of none
-/// is this project's own choice). It is kept in 128 bits and judged as a whole, so that the order of items doesn't matter.
+/// The state of `sum`: when the input ends, emits the total of all items, 0 of none (Nextflow reference, "Operators: sum"; the total of
+/// none is own). The total is kept in 128 bits and checked at the end, so the order of the items doesn't matter.
 #[derive(Drop)]
 pub struct SumState {
     alloc: Global,
@@ -26,11 +26,11 @@ pub struct SumState {
 impl SumState {
     ghost use Rattle.nf_opclose.specs.Kept.{IsSumAfter};
 
-    /// The state before the first item. No option is read.
+    /// The state before the first item. It reads no option.
     ///
     /// # Errors
     ///
-    /// `Mem`, which this operator doesn't answer.
+    /// None. It takes no memory.
     pub fn begin(alloc: Global, opts: &OpOpts) -> Result<SumState, Mem>
         ensures after { IfOk result (λ s. IsSumAfter [] s) }
         ensures begun { IsOk result }
@@ -43,18 +43,18 @@ impl SumState {
         })
     }
 
-    /// Whether a further item may be pushed: fewer than 2^32 were.
+    /// Whether one more item may be pushed: fewer than 2^32 were.
     pub fn has_room(&self) -> bool
         ensures { IsTrue result ↔ (self.now.numbers.count < 2 ^ 32) }
     {
         self.numbers.count < MOST_ITEMS
     }
 
-    /// Takes an item. Nothing is emitted for it. Fewer than 2^32 items may have come before.
+    /// Takes an item. Emits nothing. At most 2^32 - 1 items may have come before.
     ///
     /// # Errors
     ///
-    /// `NotANumber` where the item is no number of 64 signed bits. Nothing is to be pushed after that.
+    /// `NotANumber` if the item is no number. Push nothing after an error.
     pub fn push(
         &mut self,
         port: u32,
@@ -76,11 +76,11 @@ impl SumState {
         }
     }
 
-    /// Ends the input, and gives the total, which stays as it was.
+    /// Ends the input, and emits the total. The total stays.
     ///
     /// # Errors
     ///
-    /// `Overflow` where the total leaves 64 signed bits, `Mem` where there is no memory.
+    /// `Overflow` if the total doesn't fit 64 signed bits, `Mem` if there is no memory.
     pub fn close(&mut self) -> Result<Vec<(u32, Value)>, OpFault>
         ensures ends { (p : List Push) → IsSumAfter p self.old → MatchResult result (λ es. HasEnded sum_row p (emits_of es.items)) (CloseRefused sum_row p) }
         ensures kept { self.new.numbers ≡ self.old.numbers }

@@ -1,4 +1,4 @@
-//! `toList` and `toSortedList`, which emit the list of all items.
+//! `toList` and `toSortedList`: emit the list of all items.
 
 ghost use Rattle.std.specs.Prelude.{List, [], ◌∷◌, IfOk, IsOk, MatchResult};
 ghost use Rattle.nf_value.specs.View.{plain_of};
@@ -16,8 +16,8 @@ use nf_value::{Mem, Value};
 use std::alloc::Global;
 use std::mem::replace;
 
-/// The state of `toList` and `toSortedList`: when the input ends one list of all items is emitted, in the order of values, empty where there was
-/// none (Nextflow reference, "Operators: toList" and "Operators: toSortedList"; that `toList` sorts is this project's own choice).
+/// The state of `toList` and `toSortedList`: when the input ends, emits one list of all items in the order of values, which may be
+/// empty (Nextflow reference, "Operators: toList" and "Operators: toSortedList"; that `toList` sorts is own).
 #[derive(Drop)]
 pub struct ToListState {
     alloc: Global,
@@ -28,11 +28,11 @@ pub struct ToListState {
 impl ToListState {
     ghost use Rattle.nf_opclose.specs.Kept.{IsToListAfter};
 
-    /// The state before the first item. No option is read.
+    /// The state before the first item. It reads no option.
     ///
     /// # Errors
     ///
-    /// `Mem`, which this operator doesn't answer.
+    /// None. It takes no memory.
     pub fn begin(alloc: Global, opts: &OpOpts) -> Result<ToListState, Mem>
         ensures after { IfOk result (λ s. IsToListAfter [] s) }
         ensures begun { IsOk result }
@@ -45,11 +45,11 @@ impl ToListState {
         })
     }
 
-    /// Takes an item. Nothing is emitted for it.
+    /// Takes an item. Emits nothing.
     ///
     /// # Errors
     ///
-    /// `Mem` where there is no memory. Nothing is to be pushed after that.
+    /// `Mem` if there is no memory. Push nothing after an error.
     pub fn push(
         &mut self,
         port: u32,
@@ -65,11 +65,11 @@ impl ToListState {
         Ok(Vec::new(self.alloc))
     }
 
-    /// Ends the input, and gives the list. Takes some n log n comparisons of values for n items.
+    /// Ends the input, and emits the list. Time: some n log n comparisons of values for n items.
     ///
     /// # Errors
     ///
-    /// `TooDeep` where the list is deeper than 64, `Mem` where there is no memory.
+    /// `TooDeep` if the list is deeper than 64, `Mem` if there is no memory.
     pub fn close(&mut self) -> Result<Vec<(u32, Value)>, OpFault>
         ensures { (p : List Push) → IsToListAfter p self.old → MatchResult result (λ es. HasEnded to_list_row p (emits_of es.items)) (CloseRefused to_list_row p) }
     {

@@ -1,4 +1,4 @@
-//! `first` and `last` of a value channel.
+//! `first` and `last` of a value channel: emit its item.
 
 ghost use Rattle.std.specs.Prelude.{List, IsOk, MatchResult};
 ghost use Rattle.nf_value.specs.View.{plain_of};
@@ -12,19 +12,19 @@ use nf_opstream::PassState;
 use nf_value::{Mem, Value};
 use std::alloc::Global;
 
-/// The state of `first` and `last` of a value channel: its item, of which there is at most one, is emitted (Nextflow reference, "Operators: first"
-/// and "Operators: last").
+/// The state of `first` and `last` of a value channel: emits its item, of which there is at most one (Nextflow reference, "Operators:
+/// first" and "Operators: last").
 #[derive(Drop)]
 pub struct ValueState {
     items: PassState,
 }
 
 impl ValueState {
-    /// The state before the item. No option is read.
+    /// The state before the item. It reads no option.
     ///
     /// # Errors
     ///
-    /// `Mem`, which this operator doesn't answer.
+    /// None. It takes no memory.
     pub fn begin(alloc: Global, opts: &OpOpts) -> Result<ValueState, Mem>
         ensures { IsOk result }
     {
@@ -32,11 +32,11 @@ impl ValueState {
         Ok(ValueState { items })
     }
 
-    /// Takes an item, and gives it back to the first output.
+    /// Takes an item, and emits it to the first output.
     ///
     /// # Errors
     ///
-    /// `TooDeep` where the item is deeper than 64, `Mem` where there is no memory. Nothing is to be pushed after that.
+    /// `TooDeep` if the item is deeper than 64, `Mem` if there is no memory. Push nothing after an error.
     pub fn push(
         &mut self,
         port: u32,
@@ -48,11 +48,11 @@ impl ValueState {
         self.items.push(port, item, answer)
     }
 
-    /// Ends the input. Nothing is emitted then.
+    /// Ends the input. Emits nothing.
     ///
     /// # Errors
     ///
-    /// `Mem`, which this operator doesn't answer.
+    /// None. It takes no memory.
     pub fn close(&mut self) -> Result<Vec<(u32, Value)>, OpFault>
         ensures ends { (p : List Push) → AreFine value_row p → MatchResult result (λ es. HasEnded value_row p (emits_of es.items)) (CloseRefused value_row p) }
         ensures ended { IsOk result }

@@ -1,4 +1,4 @@
--- The pairs of `combine` in the order of arrival, and what its state keeps.
+-- The pairs of `combine` in the order of arrival, and its state after one more push.
 use Rattle.std.proofs.Common.{◌≡◌, ℕ, List, [], ◌∷◌, ◌++◌, Bool, true, false, cond, not, ◌&&◌, refl, ap, sym, ◌∙◌, subst, arith, inl, inr}
 use Rattle.std.specs.Prelude.{◌==◌, nat_lt, count_by, Option, Some, None, unwrap_or, is_ok, Result, Ok, Err, IfOk, OnOk, IfSome}
 use Rattle.std.specs.Ordering.{eq_by_cmp}

@@ -1,4 +1,4 @@
--- What one more keyed item gives, and what is left over.
+-- What `join` emits for one more item, and at the close.
 use Rattle.std.proofs.Common.{◌≡◌, ℕ, ◌+◌, ◌≤◌, List, [], ◌∷◌, ◌++◌, Bool, true, false, cond, not, ◌&&◌, ◌||◌, refl, ap, sym, ◌∙◌, subst, arith, inl, inr}
 use Rattle.std.specs.Prelude.{◌==◌, nat_lt, sum_by, count_by, unwrap_or, Option, Some, None, is_some, is_ok, Ok, Err}
 use Rattle.std.specs.Ordering.{eq_by_cmp}

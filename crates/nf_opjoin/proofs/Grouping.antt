@@ -1,4 +1,4 @@
--- What the state of `groupTuple` keeps, and what it gives.
+-- The state of `groupTuple` after one more push, and what it emits.
 use Rattle.std.proofs.Common.{◌≡◌, ℕ, ◌+◌, min, List, [], ◌∷◌, ◌++◌, map, Bool, true, false, cond, refl, ap, sym, ◌∙◌, subst, arith, inl, inr}
 use Rattle.std.specs.Prelude.{nat_lt, count_by, Option, Some, None, is_some, unwrap_or, is_ok, Ok, Err, IfSome}
 use Rattle.std.specs.List.{AllByRecursion}

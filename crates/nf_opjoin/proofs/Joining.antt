@@ -1,4 +1,4 @@
--- What the state of `join` keeps, and what it gives.
+-- The state of `join` after one more push, and what it emits.
 use Rattle.std.proofs.Common.{◌≡◌, ℕ, ◌+◌, List, [], ◌∷◌, ◌++◌, map, Bool, true, false, cond, not, ◌&&◌, refl, ap, sym, ◌∙◌, subst, arith, inl, inr}
 use Rattle.std.specs.Prelude.{sum_by, Option, Some, None, is_some, is_ok, Result, Ok, Err, IfOk, OnOk, IfSome}
 use Rattle.std.specs.Ordering.{eq_by_cmp}

@@ -1,4 +1,4 @@
--- The join pairs items.
+-- `join` meets `IsMatching`.
 use Rattle.std.proofs.Common.{◌≡◌, ℕ, List, [], ◌∷◌, ◌++◌, Bool, true, false, cond, not, ◌&&◌, ◌||◌, refl, ap, sym}
 use Rattle.std.specs.Prelude.{◌==◌, Option, Some, None, is_some, Ok}
 use Rattle.std.specs.Ordering.{eq_by_cmp}

@@ -1,4 +1,4 @@
--- An operator that pairs items is one.
+-- An operator that pairs items meets `IsOperator`.
 use Rattle.std.proofs.Common.{◌≡◌, ℕ, ◌+◌, ◌≤◌, List, [], ◌∷◌, ◌++◌, Bool, true, false, cond, refl, ap, sym, ◌∙◌, subst, arith, ◌⊎◌, inl, inr}
 use Rattle.std.specs.Prelude.{nat_lt, sum_by, count_by, map, filter, Ok, Err, is_ok}
 use Rattle.std.specs.List.{flat_map}

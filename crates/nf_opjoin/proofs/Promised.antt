@@ -1,4 +1,4 @@
--- From what an operator gives to what a push and a close promise.
+-- What an operator gives meets the promises of a push and a close.
 use Rattle.std.proofs.Common.{◌≡◌, ℕ, List, [], ◌∷◌, ap, sym, ◌∙◌, subst}
 use Rattle.std.specs.Prelude.{Option, Some, None, Result, Ok, Err, MatchResult, IfSome}
 use Rattle.nf_value.specs.Plain.{Plain}

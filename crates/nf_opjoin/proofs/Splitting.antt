@@ -1,4 +1,4 @@
--- A tuple without its key.
+-- Tuples split into key and rest.
 use Rattle.std.proofs.Common.{◌≡◌, ℕ, zero, suc, ◌<◌, List, [], ◌∷◌, map, length, get_or, refl, ap, sym, ◌∙◌}
 use Rattle.std.specs.Prelude.{Some, None, slice_get, remove, Result, Ok, Err, MatchResult}
 use Rattle.std.specs.Option.{option_map}

@@ -1,4 +1,4 @@
--- What the state of `join` keeps of the pushes so far, none of them a fault.
+-- The state of `join` after these pushes, none of which had a fault.
 use Rattle.std.specs.Prelude.{◌≡◌, ◌&&◌, ℕ, List, [], ◌∷◌, Bool, true, false, cond, not, Option, Some, None, is_some, sum_by}
 use Rattle.std.specs.BTreeMap.{get}
 use Rattle.std.specs.BTreeSet.{contains}
@@ -12,7 +12,7 @@ use Rattle.nf_opjoin.specs.Joined.{join_row}
 use Rattle.nf_opjoin.specs.Entered.{by_order}
 use Rattle.nf_opjoin.specs.declared.join.JoinState.{JoinState}
 
--- whether an item is of the first input, or of the second
+-- whether an item is of this input, the first (true) or the second (false)
 abbrev pub on_side : Bool → Push → Bool
 on_side first y = cond first (is_left y) (not (is_left y))
 

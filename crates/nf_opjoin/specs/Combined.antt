@@ -8,7 +8,7 @@ use Rattle.nf_opstream.specs.Alone.{judged}
 use Rattle.nf_opjoin.specs.Pairing.{Due, Matching, pairing}
 use Rattle.nf_opjoin.specs.Tuples.{parts_of, rest_at, key_or_null, keyed, faces, meets}
 
--- the list of these values to the first output, if it isn't too deep
+-- the list of these values, emitted to the first output if it isn't too deep
 abbrev pub tuple : List Plain → Due
 tuple vs = judged ((0, list (plains_of vs)) ∷ [])
 
@@ -16,7 +16,7 @@ tuple vs = judged ((0, list (plains_of vs)) ∷ [])
 abbrev pub glued : Push → Push → Due
 glued x y = cond (faces x y) (tuple (parts_of x.item ++ parts_of y.item)) (Ok [])
 
--- each pair of equal keys: the key, the rest of the first, the rest of the second
+-- each pair with equal keys as one list: the key, the rest of the first, the rest of the second
 abbrev pub joined : ℕ → Push → Push → Due
 joined n x y = cond (meets n x y) (tuple (key_or_null n x.item ∷ (rest_at n x.item ++ rest_at n y.item))) (Ok [])
 
@@ -29,6 +29,6 @@ combine by_first = record {
   left_over = λ p. [];
 }
 
--- `combine`, and with `by: 0` by the first items
+-- `combine`; if `by_first`, with `by: 0`
 abbrev pub combine_row : Bool → Operator
 combine_row by_first = pairing (combine by_first)

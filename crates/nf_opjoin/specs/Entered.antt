@@ -1,4 +1,4 @@
--- What one keyed item gives with what the maps of both inputs hold.
+-- What `join` emits for one keyed item, by the maps of both inputs.
 use Rattle.std.specs.Prelude.{◌≡◌, ℕ, List, [], ◌∷◌, ◌++◌, Bool, cond, Option, Some, None, is_some, Ok, Err}
 use Rattle.std.specs.List.{flat_map}
 use Rattle.std.specs.Ordering.{on}
@@ -16,20 +16,20 @@ use Rattle.nf_opjoin.specs.Joined.{padded}
 abbrev pub by_order : Value → Value → Ordering
 by_order = on plain_of value_cmp
 
--- a tuple is this key and this rest
+-- a tuple with this key and this rest
 pub record IsSplit (n : ℕ) (v k : Plain) (r : List Plain) : Type 0 where
   pub key : key_at n v ≡ Some k
   pub rest : rest_at n v ≡ r
 
--- a key with its rest and what the other input holds at the key
+-- the pair of this key and rest with what the other input has at the key
 abbrev pub met : Bool → Plain → List Plain → Option (List Plain) → Due
 met first k r None = Ok []
 met first k r (Some o) = tuple (k ∷ cond first (r ++ o) (o ++ r))
 
--- the same, unless the key is there in its own input
+-- the same; a fault if its own input has the key already
 abbrev pub entered : Bool → Plain → List Plain → Option (List Plain) → Option (List Plain) → Due
 entered first k r own other = cond (is_some own) (Err (duplicate_key k)) (met first k r other)
 
--- the entries whose keys aren't matched, padded
+-- the entries without a partner, padded with null
 abbrev pub unmatched : (Value → Bool) → Bool → List (Value × List Plain) → List Plain
 unmatched matched first es = flat_map (λ e. cond (matched e.0) [] (padded first (plain_of e.0) e.1 ∷ [])) es

@@ -1,4 +1,4 @@
--- Groups of tuples with equal keys.
+-- The groups of `groupTuple`.
 use Rattle.std.specs.Prelude.{ℕ, max, List, [], ◌∷◌, map, length, Bool, false, cond, Some, slice_get, Ok}
 use Rattle.std.specs.List.{flat_map, insert, range_with_len}
 use Rattle.std.specs.Option.{option_to_list}
@@ -17,7 +17,7 @@ keys_in n q = flat_map (λ x. option_to_list (key_at n x.item)) q
 abbrev pub rests_with : ℕ → Plain → List Push → List Plain
 rests_with n k q = flat_map (λ x. cond (same_key (Some k) (key_at n x.item)) (list (plains_of (rest_at n x.item)) ∷ []) []) q
 
--- a column of these rests; those without it are left out
+-- one column of these rests; a rest that is too short is left out
 abbrev pub column : List Plain → ℕ → List Plain
 column rs j = flat_map (λ r. option_to_list (slice_get (parts_of r) j)) rs
 
@@ -26,7 +26,7 @@ abbrev pub width : List Plain → ℕ
 width [] = 0
 width (r ∷ rs) = max (length (parts_of r)) (width rs)
 
--- these values as one list, sorted by itself where this is wanted
+-- these values as a list, sorted if `sort`
 abbrev pub listed : Bool → List Plain → Plain
 listed sort vs = list (plains_of (cond sort (sorted_of vs) vs))
 
@@ -34,7 +34,7 @@ listed sort vs = list (plains_of (cond sort (sorted_of vs) vs))
 abbrev pub group_of : ℕ → Bool → Plain → List Plain → Plain
 group_of n sort k rs = list (plains_of (insert (map (λ j. listed sort (column rs j)) (range_with_len 0 (width rs))) n k))
 
--- a group for each key, over its rests in sorted order
+-- one group for each key, over its sorted rests
 abbrev pub groups : ℕ → Bool → List Push → List Plain
 groups n sort q = map (λ k. group_of n sort k (sorted_of (rests_with n k q))) (distinct_of (keys_in n q))
 
@@ -47,6 +47,6 @@ group n sort = record {
   left_over = groups n sort;
 }
 
--- `groupTuple` by the key at a place, which emits all groups at the close
+-- `groupTuple` by the key at place n; it emits all groups at the close
 abbrev pub group_row : ℕ → Bool → Operator
 group_row n sort = pairing (group n sort)

@@ -1,4 +1,4 @@
--- Pairs of items with equal keys, and the items that have no partner.
+-- The pairs of `join`, and the items without a partner.
 use Rattle.std.specs.Prelude.{◌==◌, ◌&&◌, ◌||◌, ℕ, List, [], ◌∷◌, ◌++◌, Bool, cond, not, is_some, count_by}
 use Rattle.std.specs.List.{flat_map}
 use Rattle.nf_value.specs.Plain.{Plain, null, list, plains_of}
@@ -13,7 +13,7 @@ use Rattle.nf_opjoin.specs.Combined.{joined}
 abbrev pub same_side : Push → Push → Bool
 same_side x y = cond (is_left x) (is_left y) (not (is_left y))
 
--- items of one input with equal keys
+-- two items of one input with equal keys
 abbrev pub twin_by : ℕ → Push → Push → Bool
 twin_by n x y = same_side x y && same_key (key_at n x.item) (key_at n y.item)
 
@@ -21,7 +21,7 @@ twin_by n x y = same_side x y && same_key (key_at n x.item) (key_at n y.item)
 abbrev pub partners : ℕ → List Push → Push → ℕ
 partners n q x = count_by (λ y. meets n x y || meets n y x) q
 
--- an item without a partner: its key and its rest, and null in the place of the rest of the other
+-- an item without a partner: its key and its rest, with null in the partner's place
 abbrev pub padded : Bool → Plain → List Plain → Plain
 padded left k r = list (plains_of (cond left (k ∷ (r ++ null ∷ [])) (k ∷ null ∷ r)))
 
@@ -31,7 +31,7 @@ lonely n q x = cond (is_some (key_at n x.item) && (partners n q x == 0)) (padded
 abbrev pub all_lonely : ℕ → List Push → List Plain
 all_lonely n q = flat_map (lonely n q) q
 
--- what is left at the close
+-- what the close emits: the items without a partner, if `wanted`
 abbrev pub remainder_of : ℕ → Bool → List Push → List Plain
 remainder_of n wanted q = cond wanted (sorted_of (all_lonely n q)) []
 
@@ -44,6 +44,6 @@ join n wanted = record {
   left_over = remainder_of n wanted;
 }
 
--- `join` by the key at a place, and with the items without a partner where they are wanted
+-- `join` by the key at place n; if `wanted`, with the items without a partner
 abbrev pub join_row : ℕ → Bool → Operator
 join_row n wanted = pairing (join n wanted)

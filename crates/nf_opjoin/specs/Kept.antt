@@ -1,4 +1,4 @@
--- What the states keep of the pushes so far, none of them a fault.
+-- The states of `combine` and `groupTuple` after these pushes, none of which had a fault.
 use Rattle.std.specs.Prelude.{◌≡◌, ◌&&◌, ℕ, nat_lt, List, [], ◌∷◌, ◌++◌, Bool, true, false, cond, Some, is_some, unwrap_or}
 use Rattle.std.specs.BTreeMap.{IsOrdered}
 use Rattle.nf_value.specs.Plain.{Plain, list, plains_of}
@@ -22,7 +22,7 @@ paired_with by_first first k y = on_side first y && same_key (Some k) (pair_key 
 abbrev pub rest_listed : Bool → Push → Plain
 rest_listed by_first y = list (plains_of (pair_rest by_first y.item))
 
--- the rests of the items of this input that have this key, each as a list, in the order of arrival
+-- the rests of this input's items with this key, each as a list, in the order of arrival
 abbrev pub rests_in : Bool → Bool → Plain → List Push → List Plain
 rests_in by_first first k [] = []
 rests_in by_first first k (y ∷ p) = cond (paired_with by_first first k y) (rests_in by_first first k p ++ rest_listed by_first y ∷ []) (rests_in by_first first k p)

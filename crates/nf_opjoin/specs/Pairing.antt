@@ -7,7 +7,7 @@ use Rattle.nf_opstream.specs.Fault.{Fault, too_deep}
 use Rattle.nf_opstream.specs.Operator.{Operator, to_out, oks, errs}
 use Rattle.nf_opstream.specs.Alone.{is_too_deep, judged}
 
--- what is emitted, or a fault
+-- emitted values, or a fault
 abbrev pub Due : Type 0
 Due = Result (List (ℕ × Plain)) Fault
 
@@ -17,42 +17,46 @@ and_then (Ok es) (Ok fs) = Ok (es ++ fs)
 and_then (Ok es) (Err f) = Err f
 and_then (Err f) r = Err f
 
--- all of these in the order of arrival, or the first fault
+-- what each of these gives, in the order of arrival, or the first fault
 abbrev pub gathered : (Push → Due) → List Push → Due
 gathered h [] = Ok []
 gathered h (y ∷ p) = and_then (gathered h p) (h y)
 
--- these values to the first output, or the first fault
+-- these values, emitted to the first output, or the first fault
 abbrev pub given : List Plain → Due
 given [] = Ok []
 given (v ∷ vs) = and_then (judged ((0, v) ∷ [])) (given vs)
 
--- those of these values that may be emitted, to the first output
+-- the values that aren't too deep, emitted to the first output
 abbrev pub shown : List Plain → List (ℕ × Plain)
 shown vs = map (λ v. (0, v)) (filter (λ v. not (is_too_deep v)) vs)
 
--- a fault for each that is too deep
+-- a fault for each value that is too deep
 abbrev pub deep_faults : List Plain → List Fault
 deep_faults vs = map too_deep (filter is_too_deep vs)
 
--- `judge` says whether an item may be paired at all, `twin` which items of one input may not stand beside each other and `repeated` the
--- fault of those that do, `pair` what an item of the first input and one of the second give, `left_over` the values due at the close
+-- a way to pair items
 pub record Matching : Type 0 where
+  -- a fault, if the item can't be paired at all
   pub judge : Push → Due
+  -- which items of one input may not come together
   pub twin : Push → Push → Bool
+  -- the fault of an item that comes with a twin
   pub repeated : Push → Fault
+  -- what an item of the first input and one of the second give
   pub pair : Push → Push → Due
+  -- the values that the close emits
   pub left_over : List Push → List Plain
 
 -- how many twins an item has among these
 abbrev pub twins : Matching → Push → List Push → ℕ
 twins m x p = count_by (λ y. m.twin x y) p
 
--- an item that comes beside a twin is a fault
+-- a fault, if a twin of the item came before
 abbrev pub first_of_its_kind : Matching → List Push → Push → Due
 first_of_its_kind m p x = cond (nat_lt 0 (twins m x p)) (Err (m.repeated x)) (Ok [])
 
--- an item that has a twin beside itself
+-- a fault, if the item has a twin other than itself
 abbrev pub repeats : Matching → List Push → Push → List Fault
 repeats m q x = cond (nat_lt 1 (twins m x q)) (m.repeated x ∷ []) []
 
@@ -62,7 +66,7 @@ pairs_of m q x out = flat_map (λ y. to_out out (oks (m.pair x y))) q
 abbrev pub pair_faults : Matching → List Push → Push → List Fault
 pair_faults m q x = flat_map (λ y. errs (m.pair x y)) q
 
--- the operator that gives all pairs, and at the close what is left over; each value of that is judged by itself
+-- the operator that emits all pairs, and at the close the values left over; each of those is checked for its depth by itself
 abbrev pub pairing : Matching → Operator
 pairing m = record {
   items = λ q out. flat_map (λ x. pairs_of m q x out) q ++ to_out out (shown (m.left_over q));
@@ -71,8 +75,8 @@ pairing m = record {
   ends = λ q. given (m.left_over q);
 }
 
--- nothing is emitted for an item alone, none is paired with itself, a twin of an item has the same twins, and what is left over depends on the
--- bag alone
+-- what makes `pairing` an operator: an item alone emits nothing, no item is paired with itself, a twin of an item has the same twins, and
+-- what is left over depends on the bag alone
 pub record IsMatching (m : Matching) : Type 0 where
   pub quiet : (x : Push) → oks (m.judge x) ≡ []
   pub no_self : (x : Push) → m.pair x x ≡ Ok []

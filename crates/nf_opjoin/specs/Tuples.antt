@@ -8,7 +8,7 @@ use Rattle.nf_opstream.specs.Fault.{not_a_tuple}
 use Rattle.nf_opstream.specs.Nested.{items_of}
 use Rattle.nf_opjoin.specs.Pairing.{Due}
 
--- the items of a list; what is no list counts as a list of itself
+-- the items of a list; any other value counts as a list of itself
 abbrev pub parts_of : Plain → List Plain
 parts_of (list vs) = items_of vs
 parts_of null = null ∷ []
@@ -18,7 +18,7 @@ parts_of (text t) = text t ∷ []
 parts_of (file n d l) = file n d l ∷ []
 parts_of (table ps) = table ps ∷ []
 
--- the key of a tuple that is long enough: its item at this place
+-- the key of a tuple: its item at this place, if it is long enough
 abbrev pub key_at : ℕ → Plain → Option Plain
 key_at n (list vs) = slice_get (items_of vs) n
 key_at n null = None
@@ -39,7 +39,7 @@ abbrev pub has_key : Option Plain → Plain → Due
 has_key (Some k) v = Ok []
 has_key None v = Err (not_a_tuple v)
 
--- an item that is no such tuple is a fault
+-- a fault, if the item has no key
 abbrev pub keyed : ℕ → Push → Due
 keyed n x = has_key (key_at n x.item) x.item
 
@@ -48,14 +48,14 @@ same_key (Some k) (Some l) = eq_by_cmp value_cmp k l
 same_key (Some k) None = false
 same_key None l = false
 
--- the first input is that of port 0, the second that of any other
+-- whether an item is of the first input, port 0; any other port is the second input
 abbrev pub is_left : Push → Bool
 is_left x = x.port == 0
 
--- an item of the first input and one of the second
+-- x is of the first input, y of the second
 abbrev pub faces : Push → Push → Bool
 faces x y = is_left x && not (is_left y)
 
--- two items with equal keys, one of each input
+-- the same, with equal keys
 abbrev pub meets : ℕ → Push → Push → Bool
 meets n x y = faces x y && same_key (key_at n x.item) (key_at n y.item)

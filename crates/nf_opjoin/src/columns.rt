@@ -12,7 +12,7 @@ use nf_value::{Mem, Vals, Value};
 use std::alloc::Global;
 use std::mem::replace;
 
-/// The columns of these tuples in order. Moves each item once.
+/// The columns of these tuples, in order. Moves each item once.
 pub(crate) fn columns_of(alloc: Global, tuples: Vals) -> Result<Vec<Vals>, Mem>
     ensures { IfOk result (λ v. v.items ≡ map (column tuples) (range_with_len 0 (width tuples))) }
 {
@@ -35,7 +35,7 @@ fn put_row(alloc: Global, columns: &mut Vec<Vals>, row: Vals) -> Result<(), Mem>
     Ok(())
 }
 
-/// Adds an item to the column at a place, or a column at the end where there is none.
+/// Adds an item to the column at a place, or as a new last column if there is none.
 fn put_cell(alloc: Global, columns: &mut Vec<Vals>, place: usize, item: Value) -> Result<(), Mem>
     requires { place ≤ vec_len columns.old }
     ensures { OnOk result (columns.new.items ≡ with_cell columns.old.items place (plain_of item)) }
@@ -52,7 +52,7 @@ fn put_cell(alloc: Global, columns: &mut Vec<Vals>, place: usize, item: Value) -
     Ok(())
 }
 
-/// Each column as one list, sorted by itself where this is wanted.
+/// Each column as a list, sorted if `sort`.
 pub(crate) fn lists(alloc: Global, columns: Vec<Vals>, sort: bool) -> Result<Vec<Value>, Mem>
     ensures { IfOk result (λ v. map plain_of v.items ≡ map (listed sort) columns.items) }
 {

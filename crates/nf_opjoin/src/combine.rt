@@ -1,4 +1,4 @@
-//! `combine`, which emits the pairs of items of its two inputs.
+//! `combine`: emits all pairs of an item of one input and an item of the other.
 
 ghost use Rattle.std.specs.Prelude.{◌≡◌, List, [], ◌∷◌, Bool, is_some, IfOk, IsOk, MatchResult};
 ghost use Rattle.nf_value.specs.View.{plain_of};
@@ -16,9 +16,10 @@ use nf_value::{Mem, Vals, Value};
 use std::alloc::Global;
 use std::collections::BTreeMap;
 
-/// The state of `combine`: each item of the first input with each of the second is emitted as one list, in which an item that is no list counts as a
-/// list of itself; with `by: 0` of the options only those with equal first items are, as the key, the rest of the first and the rest of the second
-/// (Nextflow reference, "Operators: combine"). It keeps all items by their keys, so n pushes take some n log n comparisons of keys, and the pairs.
+/// The state of `combine`: emits each item of the first input with each item of the second as one list (Nextflow reference,
+/// "Operators: combine"). An item that is no list counts as a list of itself. With `by: 0`, only items with the same first item, the
+/// key, are paired, as the key, the rest of the first and the rest of the second: `[1, "a"]` and `[1, "b"]` give
+/// `[1, "a", "b"]`. It keeps all items by their keys. Time: some n log n comparisons of keys for n pushes, and the pairs.
 #[derive(Drop)]
 pub struct CombineState {
     alloc: Global,
@@ -31,11 +32,11 @@ pub struct CombineState {
 impl CombineState {
     ghost use Rattle.nf_opjoin.specs.Kept.{IsCombineAfter};
 
-    /// The state before the first item. Of the options it is read whether `by` is there, which may be 0 alone.
+    /// The state before the first item. It reads whether `by` of the options is there; `by` may only be 0.
     ///
     /// # Errors
     ///
-    /// `Mem`, which this operator doesn't answer.
+    /// None. It takes no memory.
     pub fn begin(alloc: Global, opts: &OpOpts) -> Result<CombineState, Mem>
         requires { Allows combine opts.now }
         ensures after { IfOk result (λ s. IsCombineAfter (is_some opts.now.by) [] s) }
@@ -51,12 +52,12 @@ impl CombineState {
         })
     }
 
-    /// Takes an item of the first input at port 0, of the second at any other, and gives its pairs with the items of the other input so far.
+    /// Takes an item of the first input (port 0) or of the second (any other port), and emits its pairs with the other input's items so far.
     ///
     /// # Errors
     ///
-    /// With `by: 0` `NotATuple` where the item is no list with a first item, `TooDeep` where a pair is deeper than 64, `Mem` where there is no memory.
-    /// Nothing is to be pushed after that.
+    /// `NotATuple` if `by: 0` is set and the item is no list with a first item, `TooDeep` if a pair is deeper than 64, `Mem` if there is
+    /// no memory. Push nothing after an error.
     pub fn push(
         &mut self,
         port: u32,
@@ -96,11 +97,11 @@ impl CombineState {
         }
     }
 
-    /// Ends the input. Nothing is emitted then. What the options said stays as it was.
+    /// Ends the input. Emits nothing. The options stay.
     ///
     /// # Errors
     ///
-    /// `Mem`, which this operator doesn't answer.
+    /// None. It takes no memory.
     pub fn close(&mut self) -> Result<Vec<(u32, Value)>, OpFault>
         ensures ends { (by_first : Bool) → (p : List Push) → IsCombineAfter by_first p self.old → MatchResult result (λ es. HasEnded (combine_row by_first) p (emits_of es.items)) (CloseRefused (combine_row by_first) p) }
         ensures ended { IsOk result }

@@ -1,4 +1,4 @@
-//! What `groupTuple` holds at each key, and what it makes of it.
+//! Tuples gathered by keys, and the groups that `groupTuple` makes of them.
 
 ghost use Rattle.std.specs.Prelude.{◌≡◌, ◌∷◌, ◌++◌, [], ℕ, Some, unwrap_or, cond, map, IfOk, OnOk};
 ghost use Rattle.std.specs.BTreeMap.{IsOrdered};
@@ -16,7 +16,7 @@ use nf_value::{Mem, Vals, Value};
 use std::alloc::Global;
 use std::collections::BTreeMap;
 
-/// Adds the rest of a tuple to those with its key.
+/// Adds the rest of a tuple to those with the same key.
 pub(crate) fn gather(
     alloc: Global,
     groups: &mut BTreeMap<Value, Vals>,
@@ -49,7 +49,7 @@ pub(crate) fn put_groups(
     Ok(())
 }
 
-/// The tuple of a key and of the columns of the rests with it.
+/// The group of a key: a tuple of the key and the columns of its rests.
 fn one_group(alloc: Global, entry: (Value, Vals), place: usize, sort: bool) -> Result<Value, Mem>
     ensures { IfOk result (λ v. plain_of v ≡ group_of place sort (plain_of entry.0) (sorted_of entry.1)) }
 {

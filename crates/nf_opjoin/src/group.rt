@@ -1,4 +1,4 @@
-//! `groupTuple`, which gathers tuples by their keys.
+//! `groupTuple`: emits one tuple for each key.
 
 ghost use Rattle.std.specs.Prelude.{◌≡◌, ℕ, List, [], ◌∷◌, Bool, unwrap_or, IfOk, IsOk, MatchResult};
 ghost use Rattle.nf_value.specs.View.{plain_of};
@@ -19,10 +19,10 @@ use std::alloc::Global;
 use std::collections::BTreeMap;
 use std::mem::replace;
 
-/// The state of `groupTuple`: when the input ends, for each key one list is emitted that has the key at its place, and in the other places, for
-/// each further column in order, the list of what the tuples with this key have there (Nextflow reference, "Operators: groupTuple"; that a column
-/// goes over these tuples in the order of values, and leaves out those that don't have it, is this project's own choice). With `sort` of the options
-/// each of these lists is sorted by itself. n pushes take some n log n comparisons of keys.
+/// The state of `groupTuple`: when the input ends, emits one tuple for each key. It has the key at the key's place, and in each other
+/// column the list of what the tuples with this key have there (Nextflow reference, "Operators: groupTuple"). The tuples of a key are
+/// taken in the order of values, and one that is too short for a column is left out there (own). With `sort` of the options each list
+/// is sorted. Example: `[1, "b"]` and `[1, "a"]` give `[1, ["a", "b"]]`. Time: some n log n comparisons of keys for n pushes.
 #[derive(Drop)]
 pub struct GroupState {
     alloc: Global,
@@ -35,11 +35,11 @@ pub struct GroupState {
 impl GroupState {
     ghost use Rattle.nf_opjoin.specs.Kept.{IsGroupAfter};
 
-    /// The state before the first item. Of the options `by`, the place of the key, which is 0 where it is absent, and `sort` are read.
+    /// The state before the first item. It reads `by`, the key's place (0 if absent), and `sort` of the options.
     ///
     /// # Errors
     ///
-    /// `Mem`, which this operator doesn't answer.
+    /// None. It takes no memory.
     pub fn begin(alloc: Global, opts: &OpOpts) -> Result<GroupState, Mem>
         ensures after { IfOk result (λ s. IsGroupAfter (unwrap_or opts.now.by 0) opts.now.sort [] s) }
         ensures begun { IsOk result }
@@ -54,12 +54,11 @@ impl GroupState {
         })
     }
 
-    /// Takes an item. Nothing is emitted for it.
+    /// Takes an item. Emits nothing.
     ///
     /// # Errors
     ///
-    /// `NotATuple` where the item is no list that has an item at the place of the key, `Mem` where there is no memory. Nothing is to be pushed after
-    /// that.
+    /// `NotATuple` if the item is no list with an item at the key's place, `Mem` if there is no memory. Push nothing after an error.
     pub fn push(
         &mut self,
         port: u32,
@@ -80,12 +79,12 @@ impl GroupState {
         }
     }
 
-    /// Ends the input, and gives the groups, in the order of their keys. Takes some n log n comparisons of values for n items. What the options said
-    /// stays as it was.
+    /// Ends the input, and emits the groups in the order of their keys. Time: some n log n comparisons of values for n items. The
+    /// options stay.
     ///
     /// # Errors
     ///
-    /// `TooDeep` where a group is deeper than 64, `Mem` where there is no memory.
+    /// `TooDeep` if a group is deeper than 64, `Mem` if there is no memory.
     pub fn close(&mut self) -> Result<Vec<(u32, Value)>, OpFault>
         ensures ends { (n : ℕ) → (sort : Bool) → (p : List Push) → IsGroupAfter n sort p self.old → MatchResult result (λ es. HasEnded (group_row n sort) p (emits_of es.items)) (CloseRefused (group_row n sort) p) }
         ensures by { self.new.by ≡ self.old.by }

@@ -1,4 +1,4 @@
-//! `join`, which emits the pairs of items with equal keys.
+//! `join`: emits the pairs of items with equal keys.
 
 ghost use Rattle.std.specs.Prelude.{◌≡◌, ℕ, List, [], ◌∷◌, Bool, unwrap_or, IfOk, IsOk, MatchResult};
 ghost use Rattle.nf_value.specs.View.{plain_of};
@@ -18,9 +18,10 @@ use std::alloc::Global;
 use std::collections::{BTreeMap, BTreeSet};
 use std::mem::replace;
 
-/// The state of `join`: for each key on both sides the key, the rest of the first and the rest of the second are emitted as one list; where
-/// `remainder` of the options is set, at the close also what has no partner, with null in its place (Nextflow reference, "Operators: join"; that a key
-/// that comes twice on a side is always a fault is this project's own choice). n pushes take some n log n comparisons of keys.
+/// The state of `join`: for each key in both inputs, emits one list of the key, the rest of the first input's item and the rest of the
+/// second's (Nextflow reference, "Operators: join"). With `remainder` of the options, the close also emits each item without a partner,
+/// with null in the partner's place. A key that comes twice in one input is always a fault (own). Example: `[1, "a"]` and `[1, "b"]`
+/// give `[1, "a", "b"]`. Time: some n log n comparisons of keys for n pushes.
 #[derive(Drop)]
 pub struct JoinState {
     alloc: Global,
@@ -35,11 +36,11 @@ pub struct JoinState {
 impl JoinState {
     ghost use Rattle.nf_opjoin.specs.After.{IsJoinAfter};
 
-    /// The state before the first item. Of the options `by`, the place of the key, which is 0 where it is absent, and `remainder` are read.
+    /// The state before the first item. It reads `by`, the key's place (0 if absent), and `remainder` of the options.
     ///
     /// # Errors
     ///
-    /// `Mem`, which this operator doesn't answer.
+    /// None. It takes no memory.
     pub fn begin(alloc: Global, opts: &OpOpts) -> Result<JoinState, Mem>
         ensures after { IfOk result (λ s. IsJoinAfter (unwrap_or opts.now.by 0) opts.now.remainder [] s) }
         ensures begun { IsOk result }
@@ -56,12 +57,12 @@ impl JoinState {
         })
     }
 
-    /// Takes an item of the first input at port 0, of the second at any other, and gives it with the item of the other input that has its key.
+    /// Takes an item of the first input (port 0) or of the second (any other port), and emits its pair if the other input has its key.
     ///
     /// # Errors
     ///
-    /// `NotATuple` where the item is no list that has an item at the place of the key, `DuplicateKey` where its input had that key before, `TooDeep`
-    /// where the pair is deeper than 64, `Mem` where there is no memory. Nothing is to be pushed after that.
+    /// `NotATuple` if the item is no list with an item at the key's place, `DuplicateKey` if its input had that key before, `TooDeep` if
+    /// the pair is deeper than 64, `Mem` if there is no memory. Push nothing after an error.
     pub fn push(
         &mut self,
         port: u32,
@@ -101,11 +102,11 @@ impl JoinState {
         }
     }
 
-    /// Ends the input, and gives what has no partner where that is wanted. What the options said stays as it was.
+    /// Ends the input, and emits the items without a partner if `remainder` is set. The options stay.
     ///
     /// # Errors
     ///
-    /// `TooDeep` where a list that is to be emitted is deeper than 64, `Mem` where there is no memory.
+    /// `TooDeep` if a list to be emitted is deeper than 64, `Mem` if there is no memory.
     pub fn close(&mut self) -> Result<Vec<(u32, Value)>, OpFault>
         ensures ends { (n : ℕ) → (wanted : Bool) → (p : List Push) → IsJoinAfter n wanted p self.old → MatchResult result (λ es. HasEnded (join_row n wanted) p (emits_of es.items)) (CloseRefused (join_row n wanted) p) }
         ensures by { self.new.by ≡ self.old.by }

@@ -1,4 +1,4 @@
-//! Tuples by their keys.
+//! Tuples split into key and rest, and how `join` pairs one.
 
 ghost use Rattle.std.specs.Prelude.{◌≡◌, ◌∷◌, ◌++◌, Some, None, cond, ◌&&◌, true, map, is_some, slice_get, remove, Ok, IfOk, OnOk, MatchResult};
 ghost use Rattle.std.specs.BTreeMap.{get, insert_entry, Updates};
@@ -52,7 +52,7 @@ fn split_list(list: Vals, place: usize) -> Result<Keyed, OpFault>
     })
 }
 
-/// Puts a keyed item into the map of its own input, and gives it with the item of the other input that has its key.
+/// Puts a keyed item into the map of its own input, and emits its pair if the other input has its key.
 pub(crate) fn enter(
     alloc: Global,
     out: &mut PassState,

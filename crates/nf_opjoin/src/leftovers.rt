@@ -1,4 +1,4 @@
-//! What is left over at the close.
+//! The items without a partner, which `join` emits at the close.
 
 ghost use Rattle.std.specs.Prelude.{◌≡◌, ◌++◌, ◌∷◌, [], map, Ok, IfOk, OnOk, MatchResult};
 ghost use Rattle.std.specs.BTreeSet.{contains};
@@ -15,7 +15,7 @@ use nf_value::{Mem, Vals, Value};
 use std::alloc::Global;
 use std::collections::{BTreeMap, BTreeSet};
 
-/// Adds the entries whose keys aren't matched, padded with null.
+/// Adds the entries without a partner, padded with null.
 pub(crate) fn put_unmatched(
     alloc: Global,
     lonely: &mut Vec<Value>,
@@ -48,7 +48,7 @@ fn put_entry(
     Ok(())
 }
 
-/// A key and its rest, with null in the place of the rest of the other.
+/// A key and its rest, with null in the partner's place.
 fn padded(alloc: Global, key: Value, rest: Vals, first: bool) -> Result<Value, Mem>
     ensures { IfOk result (λ v. plain_of v ≡ padded_plain first (plain_of key) rest) }
 {
@@ -65,7 +65,7 @@ fn padded(alloc: Global, key: Value, rest: Vals, first: bool) -> Result<Value, M
     Ok(Value::List(Vals::of(items)))
 }
 
-/// These values to the first output, or the first that is too deep.
+/// Emits these values to the first output, or fails on the first that is too deep.
 pub(crate) fn give(
     alloc: Global,
     out: &mut PassState,

@@ -1,4 +1,4 @@
-//! Operators that pair and group items by their keys: each with its meaning over whole inputs, and the promise that the order of its items doesn't matter.
+//! Operators that pair and group items by keys. Each has a meaning over a whole input, and emits the same bag in any order of the items.
 #![tactic(auto)]
 
 mod columns;

@@ -1,4 +1,4 @@
-//! The pairs of one item with those of the other input.
+//! How `combine` pairs one item with those of the other input.
 
 ghost use Rattle.std.specs.Prelude.{◌≡◌, ◌∷◌, ◌++◌, [], Some, None, cond, map, unwrap_or, Ok, IfOk, IfSome, OnOk, MatchResult};
 ghost use Rattle.nf_value.specs.Plain.{Plain, list as plain_list, plains_of};
@@ -19,7 +19,7 @@ use std::alloc::Global;
 use std::collections::BTreeMap;
 use std::slice;
 
-/// The key by which an item is paired, and what stands in its pairs beside the key. Where all items are paired, they have one key, null.
+/// The key by which an item is paired, and the rest of it. Without `by` all items have the key null, so that all are paired.
 pub(crate) fn paired_by(alloc: Global, by_first: bool, item: Value) -> Result<Keyed, OpFault>
     ensures { MatchResult result (λ t. IsPaired by_first (plain_of item) (plain_of t.key) t.rest) (λ f. IfSome (fault_of f) (λ g. (pair_key by_first (plain_of item) ≡ None) × (g ≡ not_a_tuple (plain_of item)))) }
 {
@@ -32,7 +32,7 @@ pub(crate) fn paired_by(alloc: Global, by_first: bool, item: Value) -> Result<Ke
     })
 }
 
-/// Gives a keyed item with those of the other input that have its key, and puts it into the map of its own input.
+/// Emits a keyed item's pairs with those of the other input that have its key, and puts it into the map of its own input.
 pub(crate) fn meet(
     alloc: Global,
     out: &mut PassState,
@@ -109,7 +109,7 @@ fn pair(
     emit(out, Vals::of(items))
 }
 
-/// The key, where items are paired by it.
+/// The key, if `by_first`.
 fn front(alloc: Global, by_first: bool, key: &Value) -> Result<Vec<Value>, Mem>
     ensures { IfOk result (λ v. map plain_of v.items ≡ key_in_front by_first (plain_of key.now)) }
 {

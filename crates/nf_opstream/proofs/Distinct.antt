@@ -1,4 +1,4 @@
--- Each distinct item unique_row, as items come.
+-- `unique`: each distinct item once, as items come.
 use Rattle.std.proofs.Common.{◌≡◌, ℕ, ◌+◌, ◌<◌, ◌≤◌, min, List, [], ◌∷◌, ◌++◌, map, filter, Bool, true, false, cond, not, refl, ap, sym, ◌∙◌, subst, arith, inl, inr, append-nil}
 use Rattle.std.specs.Prelude.{◌==◌, Result, Ok, Err, is_ok}
 use Rattle.std.specs.Ordering.{eq_by_cmp}

@@ -1,4 +1,4 @@
--- An operator that looks at each item by itself is one.
+-- An operator that looks at each item by itself meets `IsOperator`.
 use Rattle.std.proofs.Common.{◌≡◌, ℕ, List, [], ◌∷◌, true, false, cond, refl, sym, ◌∙◌, arith, inl, append-nil}
 use Rattle.std.specs.Prelude.{Result, Ok, Err, is_ok}
 use Rattle.std.specs.List.{flat_map}

@@ -1,4 +1,4 @@
--- What stands in a list.
+-- Members of lists.
 use Rattle.std.proofs.Common.{◌≡◌, suc, ◌+◌, ◌≤◌, List, [], ◌∷◌, ◌++◌, Bool, true, refl, ap, sym, subst, arith, ◌⊎◌, inl, inr}
 use Rattle.std.specs.List.{Contains, flat_map}
 use Rattle.std.proofs.lemmas.Bool.{cases_Bool}

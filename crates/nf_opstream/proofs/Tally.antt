@@ -1,4 +1,4 @@
--- Lists of anything up to order, by tests.
+-- Lists up to order, compared by how many members pass each test.
 use Rattle.std.proofs.Common.{◌≡◌, ℕ, zero, suc, ◌+◌, ◌≤◌, min, List, [], ◌∷◌, ◌++◌, map, filter, Bool, cond, refl, ap, sym, ◌∙◌, arith, inl, inr}
 use Rattle.std.specs.Prelude.{nat_lt, sum_by, count_by}
 use Rattle.std.specs.List.{flat_map}

@@ -15,11 +15,11 @@ abbrev judged_by : List (ℕ × Plain) → List Plain → Result (List (ℕ × P
 judged_by es [] = Ok es
 judged_by es (v ∷ vs) = Err (too_deep v)
 
--- all of these, or the first that is too deep
+-- all of these, or a fault with the first that is too deep
 abbrev pub judged : List (ℕ × Plain) → Result (List (ℕ × Plain)) Fault
 judged es = judged_by es (filter is_too_deep (map (λ e. e.1) es))
 
--- the operator that answers each push by itself
+-- the operator whose answer to a push depends on that push alone
 abbrev pub each : (Push → Result (List (ℕ × Plain)) Fault) → Operator
 each f = record {
   items = λ q out. flat_map (λ x. to_out out (oks (f x))) q;
@@ -28,6 +28,6 @@ each f = record {
   ends = λ p. Ok [];
 }
 
--- the operator that emits these of each item
+-- the operator that emits these values of each push
 abbrev pub alone : (Push → List (ℕ × Plain)) → Operator
 alone f = each (λ x. judged (f x))

@@ -1,4 +1,4 @@
--- Tuples and their columns.
+-- The tuples that `transpose` makes of a tuple's columns.
 use Rattle.std.specs.Prelude.{ℕ, min, List, [], ◌∷◌, map, length, get_or, Option, Some, None, Result, Err}
 use Rattle.std.specs.List.{range_with_len}
 use Rattle.nf_value.specs.Plain.{Plain, null, truth, int, text, file, list, table, plains_of}
@@ -26,7 +26,7 @@ abbrev pub shortest : List Plain → Option ℕ
 shortest [] = None
 shortest (v ∷ vs) = lesser (length_of v) (shortest vs)
 
--- the item of a list at a place; what is no list is the same at each
+-- the item of a list at a place; a value that is no list is the same at each place
 abbrev pub at_place : ℕ → Plain → Plain
 at_place i (list vs) = get_or (items_of vs) i null
 at_place i null = null
@@ -39,7 +39,7 @@ at_place i (table ps) = table ps
 abbrev pub tuple_at : List Plain → ℕ → Plain
 tuple_at vs i = list (plains_of (map (at_place i) vs))
 
--- a tuple for each place of the shortest list column; without one the tuple itself
+-- one tuple for each place of the shortest list column; the tuple itself if it has no such column
 abbrev pub tuples_by : Option ℕ → List Plain → List Plain
 tuples_by None vs = list (plains_of vs) ∷ []
 tuples_by (Some n) vs = map (tuple_at vs) (range_with_len 0 n)

@@ -1,4 +1,4 @@
--- Why an operator has no answer, by plain values.
+-- The faults of operators, by plain values.
 use Rattle.std.specs.Prelude.{ℤ, Option, Some, None}
 use Rattle.nf_value.specs.Plain.{Plain}
 use Rattle.nf_value.specs.View.{plain_of}
@@ -12,7 +12,7 @@ pub data Fault : Type 0 where
   overflow : ℤ → Fault
   too_deep : Plain → Fault
 
--- the fault that an answer names; want of memory is none
+-- the code's fault; want of memory is none
 abbrev pub fault_of : OpFault → Option Fault
 fault_of (f.DuplicateKey k) = Some (duplicate_key (plain_of k))
 fault_of (f.NotATuple x) = Some (not_a_tuple (plain_of x))

@@ -1,4 +1,4 @@
--- What stands in lists and maps.
+-- The members of lists and maps.
 use Rattle.std.specs.Prelude.{ℕ, List, [], ◌∷◌, ◌++◌, codes}
 use Rattle.nf_value.specs.Plain.{Plain, null, truth, int, text, file, list, table, Plains, no_items, item, PlainPairs, no_pairs, pair}
 
@@ -24,7 +24,7 @@ opened (file n d l) = file n d l ∷ []
 opened (list vs) = items_of vs
 opened (table ps) = maps_of ps
 
--- the items of a list and of the lists in it that are no lists, or the value itself
+-- what a list and the lists in it hold, down to what is no list; or the value itself
 abbrev mutual
   pub leaves : Plain → List Plain
   leaves null = null ∷ []

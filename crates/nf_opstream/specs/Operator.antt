@@ -1,4 +1,4 @@
--- What an operator is, and what makes it one.
+-- An operator as a meaning over whole inputs and a way to go on push by push, and the law that ties both.
 use Rattle.std.specs.Prelude.{◌≡◌, ◌==◌, ℕ, List, [], ◌∷◌, ◌++◌, Bool, true, cond, Result, Ok, Err, is_ok, count_by}
 use Rattle.std.specs.List.{Contains, flat_map}
 use Rattle.nf_value.specs.Plain.{Plain}
@@ -6,8 +6,8 @@ use Rattle.nf_bag.specs.Bag.{IsSubBag, IsSameBag}
 use Rattle.nf_opstream.specs.Push.{Push, IsWithin, IsSameInput}
 use Rattle.nf_opstream.specs.Fault.{Fault}
 
--- `items` and `faults` say what an operator means: the bag of each output and the faults of a whole input. `gives` and `ends` say
--- how it goes on: what one more push emits after the pushes so far, which stand latest first, and what the close emits after all
+-- The meaning of a whole input: `items` is the bag of each output, `faults` the faults. The way: `gives` is what one more push emits
+-- after the pushes so far (latest first), `ends` what the close emits after all
 pub record Operator : Type 0 where
   pub items : List Push → ℕ → List Plain
   pub faults : List Push → List Fault
@@ -31,13 +31,13 @@ abbrev pub emitted : Operator → List Push → ℕ → List Plain
 emitted op [] out = []
 emitted op (x ∷ p) out = emitted op p out ++ to_out out (oks (op.gives p x))
 
--- no push was a fault
+-- no push had a fault
 abbrev pub AreFine : Operator → List Push → Type 0
 AreFine op [] = Unit {0}
 AreFine op (x ∷ p) = (is_ok (op.gives p x) ≡ true) × AreFine op p
 
--- Whatever the order of the pushes, what an operator emits is the bag that it means, and it has a fault only where it means one. What
--- it means doesn't depend on the order of its input
+-- In any order of the pushes the operator emits the bag that it means, and has a fault only if its meaning has that fault. Its meaning
+-- doesn't depend on the order of the input
 pub record IsOperator (op : Operator) : Type 0 where
   pub items_by_bag : (p q : List Push) (out : ℕ) → IsSameInput p q → IsSameBag (op.items p out) (op.items q out)
   pub faults_by_bag : (p q : List Push) (test : Fault → Bool) → IsSameInput p q → count_by test (op.faults p) ≡ count_by test (op.faults q)

@@ -1,4 +1,4 @@
--- What an operator is given: items with their answers, at its ports.
+-- What an operator gets: items at its ports, each with its closure's answer.
 use Rattle.std.specs.Prelude.{◌≡◌, ◌≤◌, ◌==◌, ◌&&◌, ℕ, List, Bool, count_by}
 use Rattle.std.specs.Ordering.{eq_by_cmp}
 use Rattle.nf_value.specs.Plain.{Plain}
@@ -16,14 +16,14 @@ push_of port item answer = record { port = port; item = item; answer = answer }
 abbrev pub is_same_push : Push → Push → Bool
 is_same_push x y = (x.port == y.port) && (eq_by_cmp value_cmp x.item y.item && eq_by_cmp value_cmp x.answer y.answer)
 
--- how often a push is among these
+-- how often the push is among these
 abbrev pub times : Push → List Push → ℕ
 times x p = count_by (λ y. is_same_push y x) p
 
--- an input that contains another, whatever their order
+-- q contains p, whatever their order
 pub record IsWithin (p q : List Push) : Type 0 where
   pub at : (x : Push) → times x p ≤ times x q
 
--- one input in two orders
+-- p and q are one input, in any order
 pub record IsSameInput (p q : List Push) : Type 0 where
   pub at : (x : Push) → times x p ≡ times x q

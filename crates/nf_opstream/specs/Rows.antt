@@ -1,4 +1,4 @@
--- The operators of this crate.
+-- The operators of this crate, each by its meaning.
 use Rattle.std.specs.Prelude.{◌==◌, ℕ, nat_lt, pos, negsuc, take, List, [], ◌∷◌, map, filter, cond, not, Ok, Err}
 use Rattle.std.specs.List.{enumerate_from}
 use Rattle.nf_value.specs.Plain.{Plain, null, truth, int, text, file, list, table}
@@ -28,15 +28,15 @@ map_row = alone (λ x. (0, x.answer) ∷ [])
 abbrev pub filter_row : Operator
 filter_row = alone (λ x. cond (truth_of x.answer) ((0, x.item) ∷ []) [])
 
--- `flatMap`: what stands in each image
+-- `flatMap`: the members of each image
 abbrev pub flat_map_row : Operator
 flat_map_row = alone (λ x. first_out (opened x.answer))
 
--- `flatten`: what stands in each item, at any depth
+-- `flatten`: the members of each item, at any depth
 abbrev pub flatten_row : Operator
 flatten_row = alone (λ x. first_out (leaves x.item))
 
--- an item goes to the output that its answer names, if there is one
+-- the item to the output that its answer names, if there is one
 abbrev pub branched : ℕ → Plain → Plain → List (ℕ × Plain)
 branched outs (int (pos i)) v = cond (nat_lt i outs) ((i, v) ∷ []) []
 branched outs (int (negsuc i)) v = []
@@ -51,7 +51,7 @@ branched outs (table ps) v = []
 abbrev pub branch_row : ℕ → Operator
 branch_row outs = alone (λ x. branched outs x.answer x.item)
 
--- the items of a list go each to the output of its place, as far as there are outputs
+-- each item of a list to the output of its place, up to the last output
 abbrev pub labelled : ℕ → Plain → List (ℕ × Plain)
 labelled outs (list vs) = enumerate_from 0 (take outs (items_of vs))
 labelled outs null = []
@@ -61,11 +61,11 @@ labelled outs (text t) = []
 labelled outs (file n d l) = []
 labelled outs (table ps) = []
 
--- `multiMap` with this many labels: the images by each label to its output
+-- `multiMap` with this many labels: each label's image to its output
 abbrev pub multi_map_row : ℕ → Operator
 multi_map_row outs = alone (λ x. labelled outs x.answer)
 
--- `transpose`: of each tuple the tuples of its columns
+-- `transpose`: the tuples that each tuple's columns make
 abbrev pub transpose_row : Operator
 transpose_row = each (λ x. transposed x.item)
 

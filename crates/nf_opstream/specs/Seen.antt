@@ -11,7 +11,7 @@ use Rattle.nf_opstream.specs.Operator.{AreFine}
 use Rattle.nf_opstream.specs.Rows.{unique_row, items_in}
 use Rattle.nf_opstream.specs.declared.unique.UniqueState.{UniqueState}
 
--- the state after these pushes, none of them a fault: it has seen exactly their items
+-- the state after these pushes, none with a fault: it has seen exactly their items
 pub record IsUniqueAfter (p : List Push) (s : UniqueState) : Type 0 where
   pub fine : AreFine unique_row p
   pub seen : (v : Value) → contains (on plain_of value_cmp) s.seen v ≡ nat_lt 0 (count (plain_of v) (items_in p))

@@ -1,4 +1,4 @@
-//! `branch`, which emits each item to the output of its first true label.
+//! `branch`: sends each item to the output of its first true label.
 
 ghost use Rattle.std.specs.Prelude.{◌≡◌, ◌∷◌, [], List, IfOk, IsOk, MatchResult, MatchOption};
 ghost use Rattle.nf_value.specs.Plain.{Plain};
@@ -13,8 +13,8 @@ use nf_bag::{OpFault, OpOpts};
 use nf_value::{Mem, Value};
 use std::alloc::Global;
 
-/// The state of `branch`: each item goes to the output whose number is its answer, and is dropped where there is none (Nextflow reference,
-/// "Operators: branch").
+/// The state of `branch`: each item goes to the output whose number is its answer, and is dropped if no output has it (Nextflow
+/// reference, "Operators: branch").
 #[derive(Drop)]
 pub struct BranchState {
     alloc: Global,
@@ -22,11 +22,11 @@ pub struct BranchState {
 }
 
 impl BranchState {
-    /// The state before the first item, with as many outputs as `outs` of the options says.
+    /// The state before the first item. `outs` of the options is the count of outputs.
     ///
     /// # Errors
     ///
-    /// `Mem`, which this operator doesn't answer.
+    /// None. It takes no memory.
     pub fn begin(alloc: Global, opts: &OpOpts) -> Result<BranchState, Mem>
         ensures outs { IfOk result (λ s. s.outs ≡ opts.now.outs) }
         ensures begun { IsOk result }
@@ -37,11 +37,11 @@ impl BranchState {
         })
     }
 
-    /// Takes an item with its answer, and gives what is emitted for it, each value with its output.
+    /// Takes an item with the closure's answer on it. Gives what is emitted for it: values, each with the number of its output.
     ///
     /// # Errors
     ///
-    /// `TooDeep` where a value that is to be emitted is deeper than 64, `Mem` where there is no memory. Nothing is to be pushed after that.
+    /// `TooDeep` if a value to be emitted is deeper than 64, `Mem` if there is no memory. Push nothing after an error.
     pub fn push(
         &mut self,
         port: u32,
@@ -57,11 +57,11 @@ impl BranchState {
         }
     }
 
-    /// Ends the input. Nothing is emitted then. What the options said stays as it was.
+    /// Ends the input. Emits nothing. The options stay.
     ///
     /// # Errors
     ///
-    /// `Mem`, which this operator doesn't answer.
+    /// None. It takes no memory.
     pub fn close(&mut self) -> Result<Vec<(u32, Value)>, OpFault>
         ensures ends { (p : List Push) → AreFine (branch_row self.old.outs) p → MatchResult result (λ es. HasEnded (branch_row self.old.outs) p (emits_of es.items)) (CloseRefused (branch_row self.old.outs) p) }
         ensures ended { IsOk result }
@@ -71,7 +71,7 @@ impl BranchState {
     }
 }
 
-/// The output that an answer names.
+/// The output that an answer names, if there is one.
 fn output_of(answer: &Value, outs: u32) -> Option<u32>
     ensures { (v : Plain) → MatchOption result (branched outs (plain_of answer.now) v ≡ []) (λ out. branched outs (plain_of answer.now) v ≡ (out, v) ∷ []) }
 {

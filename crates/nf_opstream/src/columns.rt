@@ -1,4 +1,4 @@
-//! The tuples that `transpose` makes of one tuple.
+//! What `transpose` makes of one tuple.
 
 ghost use Rattle.std.specs.Prelude.{◌≡◌, Ok, IfOk, MatchResult, map, get_or};
 ghost use Rattle.std.specs.List.{range_with_len};
@@ -13,7 +13,7 @@ use nf_bag::OpFault;
 use nf_value::{Mem, Vals, Value};
 use std::alloc::Global;
 
-/// A tuple for each place of the shortest column that is a list, or the tuple itself where no column is one.
+/// One tuple for each place of the shortest column that is a list; the tuple itself if no column is a list.
 pub(crate) fn transposed(alloc: Global, list: Vals) -> Result<Vec<(u32, Value)>, OpFault>
     ensures { let due = transposed_list list in MatchResult result (λ es. due ≡ Ok (emits_of es.items)) (IsFault due) }
 {
@@ -66,7 +66,7 @@ fn item_at(list: &Vals, place: usize) -> Result<Value, Mem>
     }
 }
 
-/// How many items the shortest column has that is a list.
+/// The length of the shortest column that is a list.
 fn shortest(columns: &[Value]) -> Option<usize>
     ensures { result ≡ due_shortest (map plain_of columns.now) }
 {

@@ -1,4 +1,4 @@
-//! Emits: values with the numbers of their outputs, none too deep.
+//! What operators emit: values with the numbers of their outputs, none deeper than 64.
 
 ghost use Rattle.std.specs.Prelude.{◌≡◌, ◌∷◌, [], Ok, MatchResult};
 ghost use Rattle.nf_value.specs.View.{plain_of};
@@ -9,7 +9,7 @@ use nf_bag::OpFault;
 use nf_value::{Value, depth};
 use std::alloc::Global;
 
-/// How deep a value may be that is emitted.
+/// How deep an emitted value may be.
 const DEEPEST: u64 = 64;
 
 pub(crate) fn is_too_deep(value: &Value) -> bool
@@ -18,7 +18,7 @@ pub(crate) fn is_too_deep(value: &Value) -> bool
     depth(value) > DEEPEST
 }
 
-/// A value to an output.
+/// Emits a value to an output.
 pub(crate) fn one(alloc: Global, out: u32, value: Value) -> Result<Vec<(u32, Value)>, OpFault>
     ensures { let due = judged ((out, plain_of value) ∷ []) in MatchResult result (λ es. due ≡ Ok (emits_of es.items)) (IsFault due) }
 {
@@ -30,7 +30,7 @@ pub(crate) fn one(alloc: Global, out: u32, value: Value) -> Result<Vec<(u32, Val
     Ok(emits)
 }
 
-/// The emits, or the first value among them that is too deep.
+/// The emitted values, or a fault with the first one that is too deep.
 pub(crate) fn judge(mut emits: Vec<(u32, Value)>) -> Result<Vec<(u32, Value)>, OpFault>
     ensures { let due = judged (emits_of emits.items) in MatchResult result (λ es. due ≡ Ok (emits_of es.items)) (IsFault due) }
 {

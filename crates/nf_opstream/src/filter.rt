@@ -1,4 +1,4 @@
-//! `filter`, which emits the items that pass its test.
+//! `filter`: emits the items that pass its test.
 
 ghost use Rattle.std.specs.Prelude.{List, IsOk, MatchResult};
 ghost use Rattle.nf_value.specs.View.{plain_of};
@@ -12,29 +12,29 @@ use nf_bag::{OpFault, OpOpts};
 use nf_value::{Mem, Value, truth};
 use std::alloc::Global;
 
-/// The state of `filter`: the items whose answer is true are emitted (Nextflow reference, "Operators: filter").
+/// The state of `filter`: emits the items whose answer is true (Nextflow reference, "Operators: filter").
 #[derive(Drop)]
 pub struct FilterState {
     alloc: Global,
 }
 
 impl FilterState {
-    /// The state before the first item. No option is read.
+    /// The state before the first item. It reads no option.
     ///
     /// # Errors
     ///
-    /// `Mem`, which this operator doesn't answer.
+    /// None. It takes no memory.
     pub fn begin(alloc: Global, _opts: &OpOpts) -> Result<FilterState, Mem>
         ensures { IsOk result }
     {
         Ok(FilterState { alloc })
     }
 
-    /// Takes an item with its answer, and gives what is emitted for it, each value with its output.
+    /// Takes an item with the closure's answer on it. Gives what is emitted for it: values, each with the number of its output.
     ///
     /// # Errors
     ///
-    /// `TooDeep` where a value that is to be emitted is deeper than 64, `Mem` where there is no memory. Nothing is to be pushed after that.
+    /// `TooDeep` if a value to be emitted is deeper than 64, `Mem` if there is no memory. Push nothing after an error.
     pub fn push(
         &mut self,
         port: u32,
@@ -49,11 +49,11 @@ impl FilterState {
         one(self.alloc, 0, item)
     }
 
-    /// Ends the input. Nothing is emitted then.
+    /// Ends the input. Emits nothing.
     ///
     /// # Errors
     ///
-    /// `Mem`, which this operator doesn't answer.
+    /// None. It takes no memory.
     pub fn close(&mut self) -> Result<Vec<(u32, Value)>, OpFault>
         ensures ends { (p : List Push) → AreFine filter_row p → MatchResult result (λ es. HasEnded filter_row p (emits_of es.items)) (CloseRefused filter_row p) }
         ensures ended { IsOk result }

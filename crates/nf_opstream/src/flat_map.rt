@@ -1,4 +1,4 @@
-//! `flatMap`, which emits what stands in the images of its items.
+//! `flatMap`: emits the members of its items' images.
 
 ghost use Rattle.std.specs.Prelude.{List, IsOk, MatchResult};
 ghost use Rattle.nf_value.specs.View.{plain_of};
@@ -13,29 +13,30 @@ use nf_bag::{OpFault, OpOpts};
 use nf_value::{Mem, Value};
 use std::alloc::Global;
 
-/// The state of `flatMap`: of an answer that is a list its items are emitted, of a map its pairs as maps of `key` and `value` (own), and any other answer itself (Nextflow reference, "Operators: flatMap").
+/// The state of `flatMap`: emits the items of an answer that is a list, the pairs of a map as maps of `key` and `value` (own), and
+/// any other answer itself (Nextflow reference, "Operators: flatMap").
 #[derive(Drop)]
 pub struct FlatMapState {
     alloc: Global,
 }
 
 impl FlatMapState {
-    /// The state before the first item. No option is read.
+    /// The state before the first item. It reads no option.
     ///
     /// # Errors
     ///
-    /// `Mem`, which this operator doesn't answer.
+    /// None. It takes no memory.
     pub fn begin(alloc: Global, _opts: &OpOpts) -> Result<FlatMapState, Mem>
         ensures { IsOk result }
     {
         Ok(FlatMapState { alloc })
     }
 
-    /// Takes an item with its answer, and gives what is emitted for it, each value with its output.
+    /// Takes an item with the closure's answer on it. Gives what is emitted for it: values, each with the number of its output.
     ///
     /// # Errors
     ///
-    /// `TooDeep` where a value that is to be emitted is deeper than 64, `Mem` where there is no memory. Nothing is to be pushed after that.
+    /// `TooDeep` if a value to be emitted is deeper than 64, `Mem` if there is no memory. Push nothing after an error.
     pub fn push(
         &mut self,
         port: u32,
@@ -48,11 +49,11 @@ impl FlatMapState {
         judge(emits)
     }
 
-    /// Ends the input. Nothing is emitted then.
+    /// Ends the input. Emits nothing.
     ///
     /// # Errors
     ///
-    /// `Mem`, which this operator doesn't answer.
+    /// None. It takes no memory.
     pub fn close(&mut self) -> Result<Vec<(u32, Value)>, OpFault>
         ensures ends { (p : List Push) → AreFine flat_map_row p → MatchResult result (λ es. HasEnded flat_map_row p (emits_of es.items)) (CloseRefused flat_map_row p) }
         ensures ended { IsOk result }

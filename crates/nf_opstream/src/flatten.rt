@@ -1,4 +1,4 @@
-//! `flatten`, which emits what stands in its items.
+//! `flatten`: emits the members of its items, at any depth.
 
 ghost use Rattle.std.specs.Prelude.{List, IsOk, MatchResult};
 ghost use Rattle.nf_value.specs.View.{plain_of};
@@ -13,29 +13,30 @@ use nf_bag::{OpFault, OpOpts};
 use nf_value::{Mem, Value};
 use std::alloc::Global;
 
-/// The state of `flatten`: of an item that is a list its items are emitted, those of the lists in it too, and any other item itself (Nextflow reference, "Operators: flatten").
+/// The state of `flatten`: emits the items of a list and of the lists in it, at any depth, and any other item itself (Nextflow
+/// reference, "Operators: flatten").
 #[derive(Drop)]
 pub struct FlattenState {
     alloc: Global,
 }
 
 impl FlattenState {
-    /// The state before the first item. No option is read.
+    /// The state before the first item. It reads no option.
     ///
     /// # Errors
     ///
-    /// `Mem`, which this operator doesn't answer.
+    /// None. It takes no memory.
     pub fn begin(alloc: Global, _opts: &OpOpts) -> Result<FlattenState, Mem>
         ensures { IsOk result }
     {
         Ok(FlattenState { alloc })
     }
 
-    /// Takes an item with its answer, and gives what is emitted for it, each value with its output.
+    /// Takes an item with the closure's answer on it. Gives what is emitted for it: values, each with the number of its output.
     ///
     /// # Errors
     ///
-    /// `TooDeep` where a value that is to be emitted is deeper than 64, `Mem` where there is no memory. Nothing is to be pushed after that.
+    /// `TooDeep` if a value to be emitted is deeper than 64, `Mem` if there is no memory. Push nothing after an error.
     pub fn push(
         &mut self,
         port: u32,
@@ -50,11 +51,11 @@ impl FlattenState {
         judge(emits)
     }
 
-    /// Ends the input. Nothing is emitted then.
+    /// Ends the input. Emits nothing.
     ///
     /// # Errors
     ///
-    /// `Mem`, which this operator doesn't answer.
+    /// None. It takes no memory.
     pub fn close(&mut self) -> Result<Vec<(u32, Value)>, OpFault>
         ensures ends { (p : List Push) → AreFine flatten_row p → MatchResult result (λ es. HasEnded flatten_row p (emits_of es.items)) (CloseRefused flatten_row p) }
         ensures ended { IsOk result }

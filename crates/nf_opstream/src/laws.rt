@@ -1,4 +1,4 @@
-//! Laws of the operators, each as a contract over the definitions alone.
+//! Laws of the operators, each a contract over the definitions alone.
 
 ghost use Rattle.std.specs.Prelude.{◌≡◌, ◌≤◌, ◌∷◌, List, ℕ, Result, Ok, Err, sum_by};
 ghost use Rattle.nf_value.specs.Plain.{Plain};
@@ -11,7 +11,7 @@ ghost use Rattle.nf_opstream.specs.Rows.{unique_row};
 
 use nf_bag::laws::distinct_values;
 
-/// What an operator gives is what a push and a close of its state promise.
+/// What `gives` and `ends` of an operator say meets the promises of a push and a close.
 #[tactic(auto, using(crate::proofs::Promised::has_emitted, crate::proofs::Promised::has_faulted, crate::proofs::Promised::has_ended, crate::proofs::Promised::has_broken))]
 pub fn promises()
     ensures emitted { (op : Operator) → IsOperator op → (p : List Push) → AreFine op p → (x : Push) → (es : List (ℕ × Plain)) → op.gives p x ≡ Ok es → HasEmitted op p x es }
@@ -20,20 +20,20 @@ pub fn promises()
     ensures broken { (op : Operator) → IsOperator op → (p : List Push) → AreFine op p → (f : Fault) → op.ends p ≡ Err f → HasBroken op p f }
 {}
 
-/// A sum over an input doesn't depend on its order, and is no less than that over an input that it contains.
+/// The sum over an input doesn't depend on its order, and is at least the sum over any input that it contains.
 #[tactic(auto, using(crate::proofs::Pushes::sum_within, crate::proofs::Pushes::sum_of_input))]
 pub fn inputs()
     ensures within { (f : Push → ℕ) → (p : List Push) → (q : List Push) → IsWithin p q → sum_by f p ≤ sum_by f q }
     ensures same { (f : Push → ℕ) → (p : List Push) → (q : List Push) → IsSameInput p q → sum_by f p ≡ sum_by f q }
 {}
 
-/// An operator that answers each item by itself emits its bag, whatever the order of its items.
+/// An operator that looks at each item by itself emits the bag that it means, whatever the order of its items.
 #[tactic(auto, using(crate::proofs::Each::each_law))]
 pub fn item_by_item()
     ensures { (f : Push → Result (List (ℕ × Plain)) Fault) → IsOperator (each f) }
 {}
 
-/// `unique` emits its bag, whatever the order of its items.
+/// `unique` emits the bag that it means, whatever the order of its items.
 pub fn each_once()
     ensures { IsOperator unique_row }
 {

@@ -1,4 +1,4 @@
-//! Operators that emit as their items come: each with its meaning over whole inputs, and the promise that the order of its items doesn't matter.
+//! Operators that emit as items come. Each has a meaning over a whole input, and emits the same bag in any order of the items.
 #![tactic(auto)]
 
 mod branch;

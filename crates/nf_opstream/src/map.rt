@@ -1,4 +1,4 @@
-//! `map`, which emits the images of its items.
+//! `map`: emits the images of its items.
 
 ghost use Rattle.std.specs.Prelude.{List, IsOk, MatchResult};
 ghost use Rattle.nf_value.specs.View.{plain_of};
@@ -12,29 +12,29 @@ use nf_bag::{OpFault, OpOpts};
 use nf_value::{Mem, Value};
 use std::alloc::Global;
 
-/// The state of `map`: the answers of its closure are emitted (Nextflow reference, "Operators: map").
+/// The state of `map`: emits its closure's answers (Nextflow reference, "Operators: map").
 #[derive(Drop)]
 pub struct MapState {
     alloc: Global,
 }
 
 impl MapState {
-    /// The state before the first item. No option is read.
+    /// The state before the first item. It reads no option.
     ///
     /// # Errors
     ///
-    /// `Mem`, which this operator doesn't answer.
+    /// None. It takes no memory.
     pub fn begin(alloc: Global, _opts: &OpOpts) -> Result<MapState, Mem>
         ensures { IsOk result }
     {
         Ok(MapState { alloc })
     }
 
-    /// Takes an item with its answer, and gives what is emitted for it, each value with its output.
+    /// Takes an item with the closure's answer on it. Gives what is emitted for it: values, each with the number of its output.
     ///
     /// # Errors
     ///
-    /// `TooDeep` where a value that is to be emitted is deeper than 64, `Mem` where there is no memory. Nothing is to be pushed after that.
+    /// `TooDeep` if a value to be emitted is deeper than 64, `Mem` if there is no memory. Push nothing after an error.
     pub fn push(
         &mut self,
         port: u32,
@@ -46,11 +46,11 @@ impl MapState {
         one(self.alloc, 0, answer)
     }
 
-    /// Ends the input. Nothing is emitted then.
+    /// Ends the input. Emits nothing.
     ///
     /// # Errors
     ///
-    /// `Mem`, which this operator doesn't answer.
+    /// None. It takes no memory.
     pub fn close(&mut self) -> Result<Vec<(u32, Value)>, OpFault>
         ensures ends { (p : List Push) → AreFine map_row p → MatchResult result (λ es. HasEnded map_row p (emits_of es.items)) (CloseRefused map_row p) }
         ensures ended { IsOk result }

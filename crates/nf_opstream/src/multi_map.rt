@@ -1,4 +1,4 @@
-//! `multiMap`, which emits an image of each item to each of its outputs.
+//! `multiMap`: emits one image of each item to each output.
 
 ghost use Rattle.std.specs.Prelude.{◌≡◌, List, IfOk, IsOk, MatchResult, take};
 ghost use Rattle.std.specs.List.{enumerate_from};
@@ -13,8 +13,8 @@ use nf_bag::{OpFault, OpOpts};
 use nf_value::{Mem, Vals, Value};
 use std::alloc::Global;
 
-/// The state of `multiMap`: the items of an answer go each to the output of its place; those past the outputs are dropped, and outputs past
-/// them get nothing (Nextflow reference, "Operators: multiMap").
+/// The state of `multiMap`: each item of an answer goes to the output of its place. Items past the last output are dropped, and
+/// outputs past the last item get nothing (Nextflow reference, "Operators: multiMap").
 #[derive(Drop)]
 pub struct MultiMapState {
     alloc: Global,
@@ -22,11 +22,11 @@ pub struct MultiMapState {
 }
 
 impl MultiMapState {
-    /// The state before the first item, with as many outputs as `outs` of the options says.
+    /// The state before the first item. `outs` of the options is the count of outputs.
     ///
     /// # Errors
     ///
-    /// `Mem`, which this operator doesn't answer.
+    /// None. It takes no memory.
     pub fn begin(alloc: Global, opts: &OpOpts) -> Result<MultiMapState, Mem>
         ensures outs { IfOk result (λ s. s.outs ≡ opts.now.outs) }
         ensures begun { IsOk result }
@@ -37,11 +37,11 @@ impl MultiMapState {
         })
     }
 
-    /// Takes an item with its answer, and gives what is emitted for it, each value with its output.
+    /// Takes an item with the closure's answer on it. Gives what is emitted for it: values, each with the number of its output.
     ///
     /// # Errors
     ///
-    /// `TooDeep` where a value that is to be emitted is deeper than 64, `Mem` where there is no memory. Nothing is to be pushed after that.
+    /// `TooDeep` if a value to be emitted is deeper than 64, `Mem` if there is no memory. Push nothing after an error.
     pub fn push(
         &mut self,
         port: u32,
@@ -58,11 +58,11 @@ impl MultiMapState {
         judge(emits)
     }
 
-    /// Ends the input. Nothing is emitted then. What the options said stays as it was.
+    /// Ends the input. Emits nothing. The options stay.
     ///
     /// # Errors
     ///
-    /// `Mem`, which this operator doesn't answer.
+    /// None. It takes no memory.
     pub fn close(&mut self) -> Result<Vec<(u32, Value)>, OpFault>
         ensures ends { (p : List Push) → AreFine (multi_map_row self.old.outs) p → MatchResult result (λ es. HasEnded (multi_map_row self.old.outs) p (emits_of es.items)) (CloseRefused (multi_map_row self.old.outs) p) }
         ensures ended { IsOk result }
@@ -72,7 +72,7 @@ impl MultiMapState {
     }
 }
 
-/// The items of a list, each with its place, as far as there are outputs.
+/// The items of a list, each with its place, up to the last output.
 fn by_place(alloc: Global, outs: u32, list: Vals) -> Result<Vec<(u32, Value)>, Mem>
     ensures { IfOk result (λ es. emits_of es.items ≡ enumerate_from 0 (take outs list)) }
 {

@@ -1,4 +1,4 @@
-//! What stands in lists and maps, as emits to the first output.
+//! The members of lists and maps, emitted to the first output.
 
 ghost use Rattle.std.specs.Prelude.{◌≡◌, ◌∷◌, [], ◌++◌, IfOk, map};
 ghost use Rattle.nf_value.specs.View.{plain_of};
@@ -21,7 +21,7 @@ pub(crate) fn opened(alloc: Global, value: Value) -> Result<Vec<(u32, Value)>, M
     }
 }
 
-/// These values.
+/// These values, emitted to the first output.
 pub(crate) fn to_first(alloc: Global, values: Vec<Value>) -> Result<Vec<(u32, Value)>, Mem>
     ensures { IfOk result (λ es. emits_of es.items ≡ first_out (map plain_of values.items)) }
 {
@@ -63,7 +63,7 @@ fn pair_as_map(alloc: Global, key: Txt, value: Value) -> Result<Value, Mem>
     Ok(Value::Map(Pairs::of(items)))
 }
 
-/// Adds the items of a list and of the lists in it that are no lists, or the value itself.
+/// Adds what a list and the lists in it hold, down to what is no list; or the value itself.
 #[cycle(leaves)]
 pub(crate) fn put_leaves(values: &mut Vec<Value>, value: Value) -> Result<(), Mem>
     ensures { IfOk result (λ _. map plain_of values.new.items ≡ map plain_of values.old.items ++ leaves (plain_of value)) }

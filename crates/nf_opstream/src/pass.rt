@@ -1,4 +1,4 @@
-//! `view`, `set`, `mix` and `concat`, which emit their items.
+//! `view`, `set`, `mix` and `concat`: emit their items.
 
 ghost use Rattle.std.specs.Prelude.{List, IsOk, MatchResult};
 ghost use Rattle.nf_value.specs.View.{plain_of};
@@ -12,29 +12,29 @@ use nf_bag::{OpFault, OpOpts};
 use nf_value::{Mem, Value};
 use std::alloc::Global;
 
-/// The state of `view`, `set`, `mix` and `concat`: the items of all ports are emitted (Nextflow reference, "Operators").
+/// The state of `view`, `set`, `mix` and `concat`: emits the items of all ports (Nextflow reference, "Operators").
 #[derive(Drop)]
 pub struct PassState {
     alloc: Global,
 }
 
 impl PassState {
-    /// The state before the first item. No option is read.
+    /// The state before the first item. It reads no option.
     ///
     /// # Errors
     ///
-    /// `Mem`, which this operator doesn't answer.
+    /// None. It takes no memory.
     pub fn begin(alloc: Global, _opts: &OpOpts) -> Result<PassState, Mem>
         ensures { IsOk result }
     {
         Ok(PassState { alloc })
     }
 
-    /// Takes an item with its answer, and gives what is emitted for it, each value with its output.
+    /// Takes an item with the closure's answer on it. Gives what is emitted for it: values, each with the number of its output.
     ///
     /// # Errors
     ///
-    /// `TooDeep` where a value that is to be emitted is deeper than 64, `Mem` where there is no memory. Nothing is to be pushed after that.
+    /// `TooDeep` if a value to be emitted is deeper than 64, `Mem` if there is no memory. Push nothing after an error.
     pub fn push(
         &mut self,
         port: u32,
@@ -46,11 +46,11 @@ impl PassState {
         one(self.alloc, 0, item)
     }
 
-    /// Ends the input. Nothing is emitted then.
+    /// Ends the input. Emits nothing.
     ///
     /// # Errors
     ///
-    /// `Mem`, which this operator doesn't answer.
+    /// None. It takes no memory.
     pub fn close(&mut self) -> Result<Vec<(u32, Value)>, OpFault>
         ensures ends { (p : List Push) → AreFine pass_row p → MatchResult result (λ es. HasEnded pass_row p (emits_of es.items)) (CloseRefused pass_row p) }
         ensures ended { IsOk result }

@@ -1,4 +1,4 @@
-//! `transpose`, which emits a tuple for each place of its items' columns.
+//! `transpose`: emits one tuple for each place of an item's columns.
 
 ghost use Rattle.std.specs.Prelude.{List, IsOk, MatchResult};
 ghost use Rattle.nf_value.specs.View.{plain_of};
@@ -12,31 +12,32 @@ use nf_bag::{OpFault, OpOpts};
 use nf_value::{Mem, Value};
 use std::alloc::Global;
 
-/// The state of `transpose`: of each tuple one tuple is emitted for each place of its shortest column that is a list, in which what is no list
-/// is repeated; a tuple without a list is emitted as it is (Nextflow reference, "Operators: transpose"; that the shortest decides is this
-/// project's own choice).
+/// The state of `transpose`: for each place of an item's shortest column that is a list, emits the tuple of what all columns have
+/// there; a column that is no list has its value at each place. A tuple without a list is emitted as it is (Nextflow reference,
+/// "Operators: transpose"; that the shortest column decides is own). Example: `[[1, 2], "a"]` gives `[1, "a"]` and `[2, "a"]`.
 #[derive(Drop)]
 pub struct TransposeState {
     alloc: Global,
 }
 
 impl TransposeState {
-    /// The state before the first item. No option is read.
+    /// The state before the first item. It reads no option.
     ///
     /// # Errors
     ///
-    /// `Mem`, which this operator doesn't answer.
+    /// None. It takes no memory.
     pub fn begin(alloc: Global, _opts: &OpOpts) -> Result<TransposeState, Mem>
         ensures { IsOk result }
     {
         Ok(TransposeState { alloc })
     }
 
-    /// Takes an item with its answer, and gives what is emitted for it, each value with its output.
+    /// Takes an item with the closure's answer on it. Gives what is emitted for it: values, each with the number of its output.
     ///
     /// # Errors
     ///
-    /// `NotATuple` where the item is no list, `TooDeep` where a value that is to be emitted is deeper than 64, `Mem` where there is no memory. Nothing is to be pushed after that.
+    /// `NotATuple` if the item is no list, `TooDeep` if a value to be emitted is deeper than 64, `Mem` if there is no memory. Push
+    /// nothing after an error.
     pub fn push(
         &mut self,
         port: u32,
@@ -51,11 +52,11 @@ impl TransposeState {
         }
     }
 
-    /// Ends the input. Nothing is emitted then.
+    /// Ends the input. Emits nothing.
     ///
     /// # Errors
     ///
-    /// `Mem`, which this operator doesn't answer.
+    /// None. It takes no memory.
     pub fn close(&mut self) -> Result<Vec<(u32, Value)>, OpFault>
         ensures ends { (p : List Push) → AreFine transpose_row p → MatchResult result (λ es. HasEnded transpose_row p (emits_of es.items)) (CloseRefused transpose_row p) }
         ensures ended { IsOk result }

@@ -1,4 +1,4 @@
-//! `unique`, which emits each distinct item once.
+//! `unique`: emits each distinct item once.
 
 ghost use Rattle.std.specs.Prelude.{List, [], ◌∷◌, IfOk, IsOk, MatchResult};
 ghost use Rattle.nf_value.specs.View.{plain_of};
@@ -13,8 +13,8 @@ use nf_value::{Mem, Value};
 use std::alloc::Global;
 use std::collections::BTreeSet;
 
-/// The state of `unique`: of equal items the first that comes is emitted (Nextflow reference, "Operators: unique").
-/// It keeps a copy of each distinct item, and n pushes take some n log n comparisons of values.
+/// The state of `unique`: emits the first of equal items (Nextflow reference, "Operators: unique"). It keeps a copy of each
+/// distinct item. Time: some n log n comparisons of values for n pushes.
 #[derive(Drop)]
 pub struct UniqueState {
     alloc: Global,
@@ -24,11 +24,11 @@ pub struct UniqueState {
 impl UniqueState {
     ghost use Rattle.nf_opstream.specs.Seen.{IsUniqueAfter};
 
-    /// The state before the first item. No option is read.
+    /// The state before the first item. It reads no option.
     ///
     /// # Errors
     ///
-    /// `Mem`, which this operator doesn't answer.
+    /// None. It takes no memory.
     pub fn begin(alloc: Global, _opts: &OpOpts) -> Result<UniqueState, Mem>
         ensures after { IfOk result (λ s. IsUniqueAfter [] s) }
         ensures begun { IsOk result }
@@ -39,11 +39,11 @@ impl UniqueState {
         })
     }
 
-    /// Takes an item, and gives it back to the first output where none was equal to it before.
+    /// Takes an item, and emits it to the first output unless an equal one came before.
     ///
     /// # Errors
     ///
-    /// `TooDeep` where the item is deeper than 64, `Mem` where there is no memory. Nothing is to be pushed after that.
+    /// `TooDeep` if the item is deeper than 64, `Mem` if there is no memory. Push nothing after an error.
     pub fn push(
         &mut self,
         port: u32,
@@ -66,11 +66,11 @@ impl UniqueState {
         Ok(emits)
     }
 
-    /// Ends the input. Nothing is emitted then.
+    /// Ends the input. Emits nothing.
     ///
     /// # Errors
     ///
-    /// `Mem`, which this operator doesn't answer.
+    /// None. It takes no memory.
     pub fn close(&mut self) -> Result<Vec<(u32, Value)>, OpFault>
         ensures ends { (p : List Push) → IsUniqueAfter p self.old → MatchResult result (λ es. HasEnded unique_row p (emits_of es.items)) (CloseRefused unique_row p) }
         ensures ended { IsOk result }
