@@ -13,13 +13,13 @@ pub enum CodeFault {
     /// A value must begin at this byte, and none does; or a map's key must, and there is no text above the key before.
     #[error("NotAValue at {at}")]
     NotAValue {
-        /// How many bytes stand before it.
+        /// The count of bytes before it.
         at: usize,
     },
     /// A list or map at depth 65 begins at this byte.
     #[error("TooDeep at {at}")]
     TooDeep {
-        /// How many bytes stand before it.
+        /// The count of bytes before it.
         at: usize,
     },
     /// Out of memory.

@@ -176,7 +176,7 @@ pub record EndsWell (s : State) : Type 0 where
   pub back : s.tickets ≡ []
   pub goes_on : s.stop ≡ None
 
--- ---- what a history tells
+-- ---- what a history says
 
 -- the job of a ticket's attempt, or why there is none
 abbrev pub job_of : ProcessRules → Ticket → Result JobParts TaskFault

@@ -61,7 +61,7 @@ abbrev pub refused : Result JobParts TaskFault → List TaskFault
 refused (Ok p) = []
 refused (Err f) = f ∷ []
 
--- the fault of a report, or, where it is tried again, those of the attempts after it
+-- the fault of a report; if the task is tried again, those of the later attempts
 abbrev pub or_later : Outs → List TaskFault → List TaskFault
 or_later (Ok Again) later = later
 or_later (Ok (Emits vs)) later = []

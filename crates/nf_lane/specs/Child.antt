@@ -9,7 +9,7 @@ use Rattle.nf_job.specs.declared.report.Captured.TheVariants as captured
 use Rattle.nf_job.specs.declared.report.Report.{Report}
 use Rattle.nf_lane.specs.declared.child.TheConstants.{OUTPUT_LIMIT, NO_CODE_STATUS}
 
--- its exit code, or 255 where it has none
+-- its exit code, or 255 if it has none
 abbrev pub exit_number : ExitStatus → ℤ
 exit_number s = unwrap_or (exit_code s) NO_CODE_STATUS
 

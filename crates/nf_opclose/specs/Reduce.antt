@@ -52,6 +52,6 @@ with_start start vs = vs ++ option_to_list start
 abbrev pub values_due : Total → List Plain → Result (List (ℕ × Plain)) Fault
 values_due kind vs = cond (takes_numbers kind) (of_numbers vs (made_of kind vs)) (made_of kind vs)
 
--- what is due at the close
+-- what the close gives
 abbrev pub reduced : Total → Option Plain → List Plain → Result (List (ℕ × Plain)) Fault
 reduced kind start vs = strayed (stray_of kind start) (values_due kind (with_start start vs))
