@@ -1,8 +1,9 @@
 //! Laws of bags, each a contract over the definitions alone.
 
-ghost use Rattle.std.specs.Prelude.{◌≡◌, ◌≤◌, ◌+◌, ℕ, List, [], ◌++◌, length, min, sum_by};
+ghost use Rattle.std.specs.Prelude.{◌≡◌, ◌≤◌, ◌+◌, ◌↔◌, ℕ, List, [], ◌++◌, length, min, sum_by};
 ghost use Rattle.nf_value.specs.Plain.{Plain};
 ghost use Rattle.nf_bag.specs.Bag.{count, IsSubBag, IsSameBag};
+ghost use Rattle.nf_bag.specs.Tests.{IsSubByTests, IsSameByTests};
 ghost use Rattle.nf_bag.specs.Sorted.{IsRising, IsStrictlyRising, sorted_of, distinct_of};
 
 /// Two rising lists of the same bag are equal.
@@ -59,4 +60,11 @@ pub fn sums()
     ensures same { (f : Plain → ℕ) → (a : List Plain) → (b : List Plain) → IsSameBag a b → sum_by f a ≡ sum_by f b }
     ensures sub_length { (a : List Plain) → (b : List Plain) → IsSubBag a b → length a ≤ length b }
     ensures same_length { (a : List Plain) → (b : List Plain) → IsSameBag a b → length a ≡ length b }
+{}
+
+/// A list is a sub-bag of another, or the same bag, by counts of values exactly where it is by tests.
+#[tactic(auto, using(crate::proofs::ByTests::sub_by_tests, crate::proofs::ByTests::sub_by_counts, crate::proofs::ByTests::same_by_tests, crate::proofs::ByTests::same_by_counts))]
+pub fn tests()
+    ensures sub { (a : List Plain) → (b : List Plain) → IsSubBag a b ↔ IsSubByTests a b }
+    ensures same { (a : List Plain) → (b : List Plain) → IsSameBag a b ↔ IsSameByTests a b }
 {}

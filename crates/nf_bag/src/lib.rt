@@ -5,9 +5,11 @@ mod bag;
 mod fault;
 pub mod laws;
 mod options;
+mod rows;
 mod sorting;
 
 pub use bag::{count_of, same_bag};
 pub use fault::OpFault;
 pub use options::{OpOpts, Total};
+pub use rows::Row;
 pub use sorting::{distinct, sorted};

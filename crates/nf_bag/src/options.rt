@@ -1,6 +1,8 @@
 //! The options of operators.
 
-use nf_value::Value;
+ghost use Rattle.std.specs.Prelude.{◌≡◌, IfOk};
+
+use nf_value::{Mem, Value};
 
 /// The kinds of closure that `reduce` takes, by their result (Nextflow reference, "Operators: reduce"; these five are own).
 #[derive(Debug, Clone, Copy, PartialEq, Eq)]
@@ -34,4 +36,35 @@ pub struct OpOpts {
     pub total: Total,
     /// The number of labels of `branch` and `multiMap`.
     pub outs: u32,
+}
+
+impl OpOpts {
+    /// A copy.
+    ///
+    /// # Errors
+    ///
+    /// `Mem` if there is no memory for the copy of `start`.
+    pub fn copy(&self) -> Result<OpOpts, Mem>
+        ensures { IfOk result (λ o. o ≡ self.now) }
+    {
+        Ok(OpOpts {
+            by: self.by,
+            remainder: self.remainder,
+            sort: self.sort,
+            flat: self.flat,
+            start: copy_start(&self.start)?,
+            total: self.total,
+            outs: self.outs,
+        })
+    }
+}
+
+/// A copy of an initial value, if there is one.
+fn copy_start(start: &Option<Value>) -> Result<Option<Value>, Mem>
+    ensures { IfOk result (λ o. o ≡ start.now) }
+{
+    match start {
+        Some(value) => Ok(Some(value.copy()?)),
+        None => Ok(None),
+    }
 }

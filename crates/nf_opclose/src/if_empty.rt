@@ -6,7 +6,8 @@ ghost use Rattle.nf_value.specs.View.{plain_of};
 ghost use Rattle.nf_value.specs.declared.value.Value.{Value};
 ghost use Rattle.nf_opstream.specs.Push.{Push, push_of};
 ghost use Rattle.nf_opstream.specs.Promise.{emits_of, HasEmitted, HasEnded, PushRefused, CloseRefused};
-ghost use Rattle.nf_bag.specs.Options.{if_empty, Allows};
+ghost use Rattle.nf_bag.specs.Options.{Allows};
+ghost use Rattle.nf_bag.specs.declared.rows.Row.TheVariants as row;
 ghost use Rattle.nf_opclose.specs.Rows.{if_empty_row};
 
 use crate::emits::emit;
@@ -37,7 +38,7 @@ impl IfEmptyState {
     ///
     /// `Mem` if there is no memory for the value.
     pub fn begin(alloc: Global, opts: &OpOpts) -> Result<IfEmptyState, Mem>
-        requires { Allows if_empty opts.now }
+        requires { Allows row.IfEmpty opts.now }
         ensures { IfOk result (λ s. (v : Value) → opts.now.start ≡ Some v → IsIfEmptyAfter (plain_of v) [] s) }
     {
         let items = PassState::begin(alloc, opts)?;

@@ -5,7 +5,8 @@ ghost use Rattle.nf_value.specs.View.{plain_of};
 ghost use Rattle.nf_opstream.specs.Push.{Push, push_of};
 ghost use Rattle.nf_opstream.specs.Promise.{emits_of, HasEmitted, HasEnded, PushRefused, CloseRefused};
 ghost use Rattle.nf_opjoin.specs.Combined.{combine_row};
-ghost use Rattle.nf_bag.specs.Options.{combine, Allows};
+ghost use Rattle.nf_bag.specs.Options.{Allows};
+ghost use Rattle.nf_bag.specs.declared.rows.Row.TheVariants as row;
 
 use crate::laws;
 use crate::meeting::{meet, paired_by};
@@ -38,7 +39,7 @@ impl CombineState {
     ///
     /// None. It takes no memory.
     pub fn begin(alloc: Global, opts: &OpOpts) -> Result<CombineState, Mem>
-        requires { Allows combine opts.now }
+        requires { Allows row.Combine opts.now }
         ensures after { IfOk result (λ s. IsCombineAfter (is_some opts.now.by) [] s) }
         ensures begun { IsOk result }
     {
