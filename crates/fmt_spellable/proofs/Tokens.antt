@@ -14,7 +14,7 @@ use Rattle.nf_ast.specs.Tree as tree
 use Rattle.nf_ast.specs.Tree.{Tree, empty, cons}
 use Rattle.nf_grammar.specs.Gram.{token}
 use Rattle.nf_exprs.specs.declared.band.Band.{Band}
-use Rattle.nf_exprs.specs.Tokens.{Kind, name_at, name_of, literal_at, literal, plain_at, plain, open_template_at, open_template, template_text_at, template_text, infix_mark, infix_of, waits, prefix_mark_at, prefix_mark}
+use Rattle.nf_exprs.specs.Tokens.{Kind, name_at, name_of, literal_at, literal, plain_at, plain, open_template_at, open_template, template_text_at, template_text, infix_operator, infix_of, waits, prefix_operator_at, prefix_operator}
 use Rattle.nf_exprs.specs.Rules.{with_prefix, filled, joined}
 use Rattle.fmt_tokens.specs.Fits.{Fits, IsPiece, IsNameTree}
 use Rattle.fmt_trees.specs.Shape as shape
@@ -90,7 +90,7 @@ waiting p None v e = absurd cc
 pub data Precedes : Tree → Type 0 where
   precedes : {p : Place} {x : PrefixOperator} → Precedes (tree.prefix p x empty)
 
-preceding : (x : Token) (p : Place) (v : Tree) → prefix_mark_at x p ≡ Some v → Precedes v
+preceding : (x : Token) (p : Place) (v : Tree) → prefix_operator_at x p ≡ Some v → Precedes v
 preceding (t.Mark m.Not) p v e = by_some Precedes e (precedes)
 preceding (t.Mark m.Minus) p v e = by_some Precedes e (precedes)
 preceding _ p v e = absurd cc
@@ -117,9 +117,9 @@ module _ {n : ℕ} {b : Bool} where
   text_good = one (λ x ts v e c. text_made x.token x.place v e c.0)
 
   pub infix_good : (w : Band) → Good n (token b (infix_of w)) Waits
-  infix_good w = one (λ x ts v e c. waiting x.place (infix_mark w x.token) v e)
+  infix_good w = one (λ x ts v e c. waiting x.place (infix_operator w x.token) v e)
 
-  pub prefix_good : Good n (token b prefix_mark) Precedes
+  pub prefix_good : Good n (token b prefix_operator) Precedes
   prefix_good = one (λ x ts v e c. preceding x.token x.place v e)
 
 -- ---- what is made of what waited

@@ -13,7 +13,7 @@ use Rattle.nf_grammar.specs.Parts.{no_next, none_of}
 use Rattle.nf_ast.specs.declared.marks.InfixOperator.{InfixOperator}
 use Rattle.nf_ast.specs.Tree.{Tree}
 use Rattle.nf_exprs.specs.declared.band.Band.{Band}
-use Rattle.nf_exprs.specs.Tokens.{Kind, mark_at, mark_of, keyword_at, keyword_of, name_at, name_of, word_at, word_of, separator_at, literal_at, plain_at, two_at, open_template_at, close_template_at, template_text_at, template_text, open_hole_at, open_hole, close_hole_at, same_mark, same_keyword, is_two, infix_mark, waits, infix_of, prefix_mark_at, on_first, starts, no_start, is_next, after, labels, body_ends, directives_end, no_post, items_end, outputs_end, no_option, params_from, no_params, at_end, prints, logs, at_place, separator}
+use Rattle.nf_exprs.specs.Tokens.{Kind, mark_at, mark_of, keyword_at, keyword_of, name_at, name_of, word_at, word_of, separator_at, literal_at, plain_at, two_at, open_template_at, close_template_at, template_text_at, template_text, open_hole_at, open_hole, close_hole_at, same_mark, same_keyword, is_two, infix_operator, waits, infix_of, prefix_operator_at, on_first, starts, no_start, is_next, after, labels, body_ends, directives_end, no_post, items_end, outputs_end, no_option, params_from, no_params, at_end, prints, logs, at_place, separator}
 use Rattle.nf_exprs.specs.Rules.{no_comma, no_word, no_top, no_question, no_part, top_words, question, elvis}
 use Rattle.fmt_trees.specs.Bare.{bare, nowhere}
 use Rattle.fmt_trees.proofs.Erasing.{erased, KindErases, Blind}
@@ -132,15 +132,15 @@ waits_erases None p = refl
 waits_erases (Some x) p = refl
 
 pub infix_erases : (b : Band) → KindErases (infix_of b)
-infix_erases b x = waits_erases (infix_mark b x.token) x.place
+infix_erases b x = waits_erases (infix_operator b x.token) x.place
 
-prefix_erases_at : AtErases prefix_mark_at
+prefix_erases_at : AtErases prefix_operator_at
 prefix_erases_at (t.Mark m.Not) p = refl
 prefix_erases_at (t.Mark m.Minus) p = refl
 prefix_erases_at _ p = refl
 
-pub prefix_erases : KindErases (at_place prefix_mark_at)
-prefix_erases = at_erases prefix_mark_at prefix_erases_at
+pub prefix_erases : KindErases (at_place prefix_operator_at)
+prefix_erases = at_erases prefix_operator_at prefix_erases_at
 
 -- ---- tests
 

@@ -10,7 +10,7 @@ use Rattle.nf_ast.specs.declared.marks.PrefixOperator.{PrefixOperator}
 use Rattle.nf_ast.specs.declared.expr.Prefix.{Prefix}
 use Rattle.nf_ast.specs.Tree.{Tree, empty, prefix}
 use Rattle.nf_exprs.specs.Level.{Pre, Post, Gram}
-use Rattle.nf_exprs.specs.Tokens.{prefix_mark}
+use Rattle.nf_exprs.specs.Tokens.{prefix_operator}
 use Rattle.nf_ast.specs.View.{prefixes}
 use Rattle.nf_exprs.specs.Rules.{rules, prefixed}
 use Rattle.nf_exprs.specs.Parses.{Outcome, Takes}
@@ -25,7 +25,7 @@ prefixes_push (y ∷ ms) x e = ap (prefix y.place y.mark) (prefixes_push ms x e)
 pub same_leads : (g : Gram) (ts : List Lexeme) → Leads g ts (λ v. v) g ts
 same_leads g ts = record { goes = λ v rest p. p; stops = λ o s p. p }
 
-module _ (d n : ℕ) (ts after : List Lexeme) (p : Place) (mark : PrefixOperator) (takes_it : Takes prefix_mark ts (prefix p mark empty) after) where
+module _ (d n : ℕ) (ts after : List Lexeme) (p : Place) (mark : PrefixOperator) (takes_it : Takes prefix_operator ts (prefix p mark empty) after) where
   no_post_here : Outcome (rule (Post d)) (takes_it.0 ∷ after) (unexpected (suc (length after)))
   no_post_here = post_at_prefix d takes_it.0 after (prefix p mark empty) takes_it.1
 
@@ -66,10 +66,10 @@ pub first_leads : (g : Gram) (ts : List Lexeme) (ms : List Prefix) → ms ≡ []
 first_leads g ts ms e = subst (λ l. Leads g ts (prefixes l) g ts) (sym e) (same_leads g ts)
 
 -- no mark stands here
-pub prefix_none : (d n : ℕ) (ts : List Lexeme) (o : Out Lexeme Tree) → no_next prefix_mark ts ≡ true → Outcome (rule (Post d)) ts o → Outcome (rule (Pre d n)) ts o
+pub prefix_none : (d n : ℕ) (ts : List Lexeme) (o : Out Lexeme Tree) → no_next prefix_operator ts ≡ true → Outcome (rule (Post d)) ts o → Outcome (rule (Pre d n)) ts o
 unfolding rules
 prefix_none d n ts o e p = ruled (second_arm (off e) p)
 
 -- the chain after the marks
-pub prefix_ends : (d n : ℕ) (ts us rest : List Lexeme) (ms : List Prefix) (v e : Tree) → no_next prefix_mark ts ≡ true → Leads (rule (Pre d n)) ts (prefixes ms) (rule (Pre d 0)) us → e ≡ prefixes ms v → Outcome (rule (Post d)) ts (got v rest (length rest)) → Outcome (rule (Pre d 0)) us (got e rest (length rest))
+pub prefix_ends : (d n : ℕ) (ts us rest : List Lexeme) (ms : List Prefix) (v e : Tree) → no_next prefix_operator ts ≡ true → Leads (rule (Pre d n)) ts (prefixes ms) (rule (Pre d 0)) us → e ≡ prefixes ms v → Outcome (rule (Post d)) ts (got v rest (length rest)) → Outcome (rule (Pre d 0)) us (got e rest (length rest))
 prefix_ends d n ts us rest ms v e none before is q = subst (λ x. Outcome (rule (Pre d 0)) us (got x rest (length rest))) (sym is) (before.goes v rest (prefix_none d n ts (got v rest (length rest)) none q))

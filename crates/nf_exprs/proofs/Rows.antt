@@ -15,7 +15,7 @@ use Rattle.nf_exprs.specs.declared.band.Band.{Band}
 use Rattle.nf_exprs.specs.declared.band.Band.TheVariants as band
 use Rattle.nf_ast.specs.Tree.{Tree}
 use Rattle.nf_exprs.specs.Level.{Expr, Operands, Pre, Post, Prim}
-use Rattle.nf_exprs.specs.Tokens.{name_at, name_of, literal_at, literal, open_template_at, open_template, mark_at, mark_of, prefix_mark_at, prefix_mark, starts_at, no_start, separator_at, separator, at_end}
+use Rattle.nf_exprs.specs.Tokens.{name_at, name_of, literal_at, literal, open_template_at, open_template, mark_at, mark_of, prefix_operator_at, prefix_operator, starts_at, no_start, separator_at, separator, at_end}
 use Rattle.nf_exprs.specs.Rules.{rules}
 use Rattle.nf_exprs.specs.Parses.{Outcome, Takes}
 
@@ -27,7 +27,7 @@ record IsNoStart (x : Token) (p : Place) : Type 0 where
   round : mark_at m.OpenRound x p ≡ None
   square : mark_at m.OpenSquare x p ≡ None
   brace : mark_at m.OpenBrace x p ≡ None
-  prefix : prefix_mark_at x p ≡ None
+  prefix : prefix_operator_at x p ≡ None
   name : name_at x p ≡ None
 
 start_facts : (x : Token) (p : Place) → starts_at x ≡ false → IsNoStart x p
@@ -86,7 +86,7 @@ pub record NoStart (ts : List Lexeme) : Type 0 where
   pub round : no_next (mark_of m.OpenRound) ts ≡ true
   pub square : no_next (mark_of m.OpenSquare) ts ≡ true
   pub brace : no_next (mark_of m.OpenBrace) ts ≡ true
-  pub prefix : no_next prefix_mark ts ≡ true
+  pub prefix : no_next prefix_operator ts ≡ true
   pub name : no_next name_of ts ≡ true
 
 not_false : (b : Bool) → not b ≡ true → b ≡ false
@@ -115,7 +115,7 @@ record IsNoPrim (x : Token) (p : Place) : Type 0 where
   square : mark_at m.OpenSquare x p ≡ None
   brace : mark_at m.OpenBrace x p ≡ None
 
-no_prim : (x : Token) (p : Place) (v : Tree) → prefix_mark_at x p ≡ Some v → IsNoPrim x p
+no_prim : (x : Token) (p : Place) (v : Tree) → prefix_operator_at x p ≡ Some v → IsNoPrim x p
 no_prim (t.Name n) p v e = absurd (let f : None ≡ Some v = e in cc)
 no_prim (t.Keyword k.Def) p v e = absurd (let f : None ≡ Some v = e in cc)
 no_prim (t.Keyword k.Else) p v e = absurd (let f : None ≡ Some v = e in cc)
@@ -165,7 +165,7 @@ no_prim (t.Mark m.Question) p v e = absurd (let f : None ≡ Some v = e in cc)
 no_prim (t.Mark m.Elvis) p v e = absurd (let f : None ≡ Some v = e in cc)
 no_prim t.Separator p v e = absurd (let f : None ≡ Some v = e in cc)
 
-pub post_at_prefix : (d : ℕ) (x : Lexeme) (ts : List Lexeme) (v : Tree) → prefix_mark x ≡ Some v → Outcome (rule (Post d)) (x ∷ ts) (unexpected (suc (length ts)))
+pub post_at_prefix : (d : ℕ) (x : Lexeme) (ts : List Lexeme) (v : Tree) → prefix_operator x ≡ Some v → Outcome (rule (Post d)) (x ∷ ts) (unexpected (suc (length ts)))
 unfolding rules
 post_at_prefix d x ts v e =
     let f = no_prim x.token x.place v e in

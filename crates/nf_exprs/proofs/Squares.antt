@@ -20,7 +20,7 @@ use Rattle.nf_grammar.proofs.Short.{ret, takes, misses, seq, fails, off, first_a
 use Rattle.nf_ast.specs.Tree as tree
 use Rattle.nf_ast.specs.Tree.{Tree, empty, cons, point, snoc}
 use Rattle.nf_exprs.specs.Level.{Pair, Prim}
-use Rattle.nf_exprs.specs.Tokens.{Kind, same_mark, mark_at, mark_of, name_of, plain, open_template, close_template_at, close_template, template_text_at, template_text, colon, no_start, is_next, after, pair_next, closes_template, prefix_mark}
+use Rattle.nf_exprs.specs.Tokens.{Kind, same_mark, mark_at, mark_of, name_of, plain, open_template, close_template_at, close_template, template_text_at, template_text, colon, no_start, is_next, after, pair_next, closes_template, prefix_operator}
 use Rattle.nf_exprs.specs.Rules.{squared, items, pairs, no_pairs, key, template_of, plain_template, pieces, ended_by_comma}
 use Rattle.nf_exprs.specs.Rules as row
 use Rattle.nf_exprs.specs.Parses.{Outcome}
@@ -130,7 +130,7 @@ record KeyAt (d : ℕ) (ts : List Lexeme) : Type 0 where
   prim : Outcome (rule (Prim d)) ts (got expr rest (length rest))
   name : Tree
   key : Outcome row.key ts (got name rest (length rest))
-  prefix : no_next prefix_mark ts ≡ true
+  prefix : no_next prefix_operator ts ≡ true
   colon : no_next colon ts ≡ true
   start : no_start ts ≡ false
 

@@ -15,7 +15,7 @@ use Rattle.nf_ast.specs.Tree.{Tree}
 use Rattle.nf_exprs.specs.declared.band.Band.{Band}
 use Rattle.nf_exprs.specs.declared.band.Band.TheVariants as band
 use Rattle.nf_exprs.specs.Level.{Expr, Operands, Pre, Post, Prim, Gram}
-use Rattle.nf_exprs.specs.Tokens.{infix_of, prefix_mark, no_post}
+use Rattle.nf_exprs.specs.Tokens.{infix_of, prefix_operator, no_post}
 use Rattle.nf_exprs.specs.Rules.{rules, operand, after_operand, question, elvis}
 use Rattle.nf_exprs.specs.Parses.{Outcome}
 use Rattle.nf_exprs.proofs.Chains.{no_part}
@@ -77,7 +77,7 @@ ends_after d band.Range a ts e = maybe_not e (off e)
 ends_after d band.Sum a ts e = stops e (off e)
 ends_after d band.Term a ts e = stops e (off e)
 
-module _ (d : ℕ) (ts us : List Lexeme) (v : Tree) (none : no_next prefix_mark ts ≡ true) (silent : Silent us) (prim : Outcome (rule (Prim d)) ts (got v us (length us))) where
+module _ (d : ℕ) (ts us : List Lexeme) (v : Tree) (none : no_next prefix_operator ts ≡ true) (silent : Silent us) (prim : Outcome (rule (Prim d)) ts (got v us (length us))) where
   one_of : (b : Band) → Outcome (operand d b) ts (got v us (length us)) → Outcome (rule (Operands d b)) ts (got v us (length us))
   unfolding rules
   one_of b p = ruled (seq p (ends_after d b v us (silent.bands b)))

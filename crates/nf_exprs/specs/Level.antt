@@ -7,9 +7,9 @@ use Rattle.nf_exprs.specs.declared.band.Band.{Band}
 use Rattle.nf_ast.specs.Tree.{Tree}
 
 pub data Level : Type 0 where
-  -- expressions: how many `?` and `?:` stand round them, or prefix marks before them
+  -- expressions: how many `?` and `?:` stand round them, or prefix operators before them
   Expr : ℕ → ℕ → Level
-  -- operands of one band with their marks
+  -- operands of one band with their operators
   Operands : ℕ → Band → Level
   Pre : ℕ → ℕ → Level
   Post : ℕ → Level

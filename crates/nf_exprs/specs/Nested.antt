@@ -12,30 +12,30 @@ use Rattle.nf_exprs.specs.Tokens.{infix_of, operator}
 use Rattle.nf_exprs.specs.Rules.{past_chain, is_single}
 use Rattle.nf_exprs.specs.Parses.{Takes, TakesBranch, NoBranch}
 
--- a mark that passes the limit where so many stand round it
+-- an operator that passes the limit where so many stand round it
 abbrev pub past_branch : BranchOperator → ℕ → Bool
 past_branch Then n = past_chain n
 past_branch Else n = false
 past_branch Elvis n = past_chain n
 
--- for each `?` whose `:` is to come, how many stand round what a true condition gives, before the mark and after it; how many round
--- the operand before the mark, and round the one after it
+-- Two things before the operator and after it: for each `?` whose `:` is to come, how many `?` and `?:` stand round what a true condition
+-- gives; and how many stand round the operand there.
 abbrev pub Nests : BranchOperator → List ℕ → ℕ → List ℕ → ℕ → Type 0
 Nests Then before n after next = (after ≡ before ++ suc n ∷ []) × (next ≡ suc n)
 Nests Elvis before n after next = (after ≡ before) × (next ≡ suc n)
 Nests Else [] n after next = Unit {0}
 Nests Else (x ∷ xs) n after next = x ∷ xs ≡ after ++ next ∷ []
 
--- the mark of the band that comes, where so many operands were read: a band of one mark takes no second
-abbrev pub NextMark : List Lexeme → Band → ℕ → Option (Place × InfixOperator × Bor (List Lexeme)) → Type 0
-NextMark ts b n None = (is_single b ≡ false → no_next (infix_of b) ts ≡ true) × (n ≤ 1 → no_next (infix_of b) ts ≡ true)
-NextMark ts b n (Some x) = Takes (infix_of b) ts (operator x.0 x.1) x.2.now × (is_single b ≡ true → n ≤ 1)
+-- the operator of the band that comes after so many operands; a band of one operator takes no second
+abbrev pub NextOperator : List Lexeme → Band → ℕ → Option (Place × InfixOperator × Bor (List Lexeme)) → Type 0
+NextOperator ts b n None = (is_single b ≡ false → no_next (infix_of b) ts ≡ true) × (n ≤ 1 → no_next (infix_of b) ts ≡ true)
+NextOperator ts b n (Some x) = Takes (infix_of b) ts (operator x.0 x.1) x.2.now × (is_single b ≡ true → n ≤ 1)
 
--- a mark comes, a `:` only where one of these is to come; or none
-pub record BranchComes (ts : List Lexeme) (asked : List ℕ) (p : Place) (mark : BranchOperator) (rest : List Lexeme) : Type 0 where
+-- an operator comes, a `:` only where one of these is to come; or none
+pub record BranchComes (ts : List Lexeme) (asked : List ℕ) (p : Place) (x : BranchOperator) (rest : List Lexeme) : Type 0 where
   pub due : Bool
   pub some : due ≡ true → asked ≡ [] → ⊥
-  pub takes : TakesBranch due mark ts p rest
+  pub takes : TakesBranch due x ts p rest
 
 pub record NoneComes (ts : List Lexeme) (asked : List ℕ) : Type 0 where
   pub due : Bool

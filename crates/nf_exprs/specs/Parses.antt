@@ -65,18 +65,19 @@ TakesTwo p q ts v rest = (x : Lexeme) × (y : Lexeme) × (w : Tree) × (p x ≡ 
 abbrev pub LabelAt : List Lexeme → ℕ → Type 0
 LabelAt ts n = (labels ts ≡ true) × (n ≡ length (after ts))
 
-abbrev pub branch_mark : BranchOperator → Kind
-branch_mark branch.Then = mark_of m.Question
-branch_mark branch.Else = mark_of m.Colon
-branch_mark branch.Elvis = mark_of m.Elvis
+-- the token of an operator
+abbrev pub branch_kind : BranchOperator → Kind
+branch_kind branch.Then = mark_of m.Question
+branch_kind branch.Else = mark_of m.Colon
+branch_kind branch.Elvis = mark_of m.Elvis
 
 abbrev pub IsDue : BranchOperator → Bool → Type 0
 IsDue branch.Else due = due ≡ true
 IsDue _ due = Unit {0}
 
--- a mark of a conditional expression, a `:` only where one is due
+-- an operator of a conditional expression, a `:` only where one is due
 abbrev pub TakesBranch : Bool → BranchOperator → List Lexeme → Place → List Lexeme → Type 0
-TakesBranch due mark ts p rest = Takes (branch_mark mark) ts (point p) rest × IsDue mark due
+TakesBranch due x ts p rest = Takes (branch_kind x) ts (point p) rest × IsDue x due
 
 abbrev pub NoBranch : Bool → List Lexeme → Type 0
 NoBranch due ts = (no_next (mark_of m.Question) ts ≡ true) × (no_next (mark_of m.Elvis) ts ≡ true) × (due ≡ true → no_next (mark_of m.Colon) ts ≡ true)

@@ -12,7 +12,7 @@ use Rattle.nf_ast.specs.Tree.{Tree, empty, cons, point, name, template, snoc, pl
 use Rattle.nf_exprs.specs.declared.band.Band.{Band}
 use Rattle.nf_exprs.specs.declared.band.Band.TheVariants as band
 use Rattle.nf_exprs.specs.Level.{Level, Expr, Operands, Pre, Post, Prim, Args, Arg, Pair, Closure, Body, Stmt, Choice, Script, Top, Process, Directive, Input, Inputs, Output, Outputs, Task, Workflow, Parts, Function, Gram}
-use Rattle.nf_exprs.specs.Tokens.{Kind, mark_of, keyword_of, name_of, word_of, separator, literal, plain, two, open_template, close_template, template_text, open_hole, close_hole, infix_of, prefix_mark, no_start, labels, body_ends, directives_end, no_post, items_end, outputs_end, no_option, no_params, at_end, prints, logs}
+use Rattle.nf_exprs.specs.Tokens.{Kind, mark_of, keyword_of, name_of, word_of, separator, literal, plain, two, open_template, close_template, template_text, open_hole, close_hole, infix_of, prefix_operator, no_start, labels, body_ends, directives_end, no_post, items_end, outputs_end, no_option, no_params, at_end, prints, logs}
 
 -- ---- limits
 
@@ -162,11 +162,11 @@ is_single band.Compare = true
 is_single band.Range = true
 is_single _ = false
 
--- mark operand, after what was read
+-- operator operand, after what was read
 abbrev pub operand_next : ℕ → Band → ℕ → Tree → Gram
 operand_next d b n acc = token (past_chain n) (infix_of b) >>= λ o. operand d b >>= λ x. gives (joined o acc x)
 
--- operand { mark operand }, or operand [ mark operand ], from the left
+-- operand { operator operand }, or operand [ operator operand ], from the left
 abbrev pub after_operand : ℕ → Band → Tree → Gram
 after_operand d b a = if is_single b then either (operand_next d b 1 a) (only_where (no_next (infix_of b)) (gives a)) else many (no_next (infix_of b)) (operand_next d b) 1 a
 
@@ -202,7 +202,7 @@ or_more d n a = either (conditional d n a) (either (otherwise d n a) (only_where
 
 abbrev pub prefixed : ℕ → ℕ → Gram
 prefixed d n = do
-  o ← token (past_chain n) prefix_mark
+  o ← token (past_chain n) prefix_operator
   e ← rule (Pre d (suc n))
   gives (with_prefix o e)
 

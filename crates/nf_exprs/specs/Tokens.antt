@@ -144,47 +144,47 @@ close_hole_at _ p = None
 abbrev pub close_hole : Kind
 close_hole = at_place close_hole_at
 
--- ---- marks of each level
+-- ---- operators
 
--- a mark that waits for its operands
+-- an operator that waits for its operands
 abbrev pub operator : Place → InfixOperator → Tree
-operator p mark = binary p mark empty empty
+operator p x = binary p x empty empty
 
--- the mark of a band that a token is
-abbrev pub infix_mark : Band → Token → Option InfixOperator
-infix_mark band.Or (t.Mark m.Or) = Some i.Or
-infix_mark band.And (t.Mark m.And) = Some i.And
-infix_mark band.Pipe (t.Mark m.Pipe) = Some i.Pipe
-infix_mark band.Same (t.Mark m.Same) = Some i.Same
-infix_mark band.Same (t.Mark m.Differs) = Some i.Differs
-infix_mark band.Same (t.Mark m.Matches) = Some i.Matches
-infix_mark band.Compare (t.Mark m.Less) = Some i.Less
-infix_mark band.Compare (t.Mark m.AtMost) = Some i.AtMost
-infix_mark band.Compare (t.Mark m.Greater) = Some i.Greater
-infix_mark band.Compare (t.Mark m.AtLeast) = Some i.AtLeast
-infix_mark band.Compare (t.Keyword k.In) = Some i.In
-infix_mark band.Range (t.Mark m.DotDot) = Some i.Range
-infix_mark band.Sum (t.Mark m.Plus) = Some i.Plus
-infix_mark band.Sum (t.Mark m.Minus) = Some i.Minus
-infix_mark band.Term (t.Mark m.Times) = Some i.Times
-infix_mark band.Term (t.Mark m.Percent) = Some i.Remainder
-infix_mark _ _ = None
+-- the operator of a band that a token is
+abbrev pub infix_operator : Band → Token → Option InfixOperator
+infix_operator band.Or (t.Mark m.Or) = Some i.Or
+infix_operator band.And (t.Mark m.And) = Some i.And
+infix_operator band.Pipe (t.Mark m.Pipe) = Some i.Pipe
+infix_operator band.Same (t.Mark m.Same) = Some i.Same
+infix_operator band.Same (t.Mark m.Differs) = Some i.Differs
+infix_operator band.Same (t.Mark m.Matches) = Some i.Matches
+infix_operator band.Compare (t.Mark m.Less) = Some i.Less
+infix_operator band.Compare (t.Mark m.AtMost) = Some i.AtMost
+infix_operator band.Compare (t.Mark m.Greater) = Some i.Greater
+infix_operator band.Compare (t.Mark m.AtLeast) = Some i.AtLeast
+infix_operator band.Compare (t.Keyword k.In) = Some i.In
+infix_operator band.Range (t.Mark m.DotDot) = Some i.Range
+infix_operator band.Sum (t.Mark m.Plus) = Some i.Plus
+infix_operator band.Sum (t.Mark m.Minus) = Some i.Minus
+infix_operator band.Term (t.Mark m.Times) = Some i.Times
+infix_operator band.Term (t.Mark m.Percent) = Some i.Remainder
+infix_operator _ _ = None
 
 abbrev pub waits : Place → Option InfixOperator → Option Tree
 waits p None = None
-waits p (Some mark) = Some (operator p mark)
+waits p (Some x) = Some (operator p x)
 
--- a mark of the band
+-- an operator of the band
 abbrev pub infix_of : Band → Kind
-infix_of b x = waits x.place (infix_mark b x.token)
+infix_of b x = waits x.place (infix_operator b x.token)
 
-abbrev pub prefix_mark_at : Token → Place → Option Tree
-prefix_mark_at (t.Mark m.Not) p = Some (prefix p f.Not empty)
-prefix_mark_at (t.Mark m.Minus) p = Some (prefix p f.Minus empty)
-prefix_mark_at _ p = None
+abbrev pub prefix_operator_at : Token → Place → Option Tree
+prefix_operator_at (t.Mark m.Not) p = Some (prefix p f.Not empty)
+prefix_operator_at (t.Mark m.Minus) p = Some (prefix p f.Minus empty)
+prefix_operator_at _ p = None
 
-abbrev pub prefix_mark : Kind
-prefix_mark = at_place prefix_mark_at
+abbrev pub prefix_operator : Kind
+prefix_operator = at_place prefix_operator_at
 
 -- ---- tests on what comes
 
@@ -300,7 +300,7 @@ begins_params ts = is_next (mark_of m.Arrow) ts || (is_next name_of ts && (is_ne
 abbrev pub assigns : List Lexeme → Bool
 assigns ts = is_next name_of ts && is_next (mark_of m.Equals) (after ts)
 
--- what may stand between the marks of a template without a hole, and its end
+-- what may stand between the quotes of a template without a hole, and its end
 abbrev pub closes_template : List Lexeme → Bool
 closes_template ts = is_next close_template ts && is_next colon (after ts)
 

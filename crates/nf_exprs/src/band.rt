@@ -1,6 +1,6 @@
-//! The bands of marks that bind equally.
+//! The bands of operators that bind equally.
 
-/// The marks that bind equally, from the loosest on (Nextflow reference documentation, "Syntax", "Precedence"; the order is this
+/// The operators that bind equally, from the loosest band on (Nextflow reference documentation, "Syntax", "Precedence"; the order is this
 /// project's own).
 #[derive(Debug, Clone, Copy, PartialEq, Eq)]
 pub enum Band {

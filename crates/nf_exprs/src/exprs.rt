@@ -1,11 +1,11 @@
-//! Reading expressions: conditionals, operands and the marks before them.
+//! Reading expressions: conditionals, operands and the operators before them.
 
 ghost use Rattle.std.specs.Prelude.{◌≡◌, ◌≤◌, ◌<◌, true, false, length, map, IfOk, []};
 ghost use Rattle.nf_grammar.specs.Gram.{rule};
 ghost use Rattle.nf_ast.specs.View.{view, prefixes, operands as operands_of, view_operand, conditional as conditional_of, view_branch};
 ghost use Rattle.nf_exprs.specs.Level as level;
 ghost use Rattle.nf_exprs.specs.Rules as row;
-ghost use Rattle.nf_exprs.specs.Nested.{Nests, NextMark, NextBranch, past_branch};
+ghost use Rattle.nf_exprs.specs.Nested.{Nests, NextOperator, NextBranch, past_branch};
 ghost use Rattle.nf_exprs.specs.Parses.{Parses};
 
 use crate::band::Band;
@@ -27,13 +27,13 @@ pub fn expr(alloc: Global, depth: u32, tokens: &[Lexeme]) -> Result<(Expr, &[Lex
     let mut branches = Vec::new(alloc);
     let mut asked = Vec::new(alloc);
     let mut nested: u32 = 0;
-    while let Some((place, mark, after)) = next_branch(rest, &asked) {
-        if is_past(mark, nested) {
+    while let Some((place, operator, after)) = next_branch(rest, &asked) {
+        if is_past(operator, nested) {
             return Err(Fault::TooDeep(rest.len()));
         }
-        let next = nests(&mut asked, nested, mark)?;
+        let next = nests(&mut asked, nested, operator)?;
         let (operand, after) = operands(alloc, depth, Band::Or, after)?;
-        let branch = Branch::new(place, mark, operand);
+        let branch = Branch::new(place, operator, operand);
         branches.push(branch)?;
         rest = after;
         nested = next;
@@ -53,7 +53,7 @@ fn is_asked(asked: &Vec<u32>) -> bool
     !asked.is_empty()
 }
 
-/// The mark that comes, a `:` only where one is to come.
+/// The operator of a conditional that comes next; a `:` only where one is to come.
 fn next_branch<'a>(
     tokens: &'a [Lexeme],
     asked: &Vec<u32>,
@@ -64,22 +64,22 @@ fn next_branch<'a>(
 }
 
 /// Whether one `?` or `?:` more, round which so many stand, passes the limit.
-fn is_past(mark: BranchOperator, nested: u32) -> bool
-    ensures { result ≡ past_branch mark nested }
+fn is_past(operator: BranchOperator, nested: u32) -> bool
+    ensures { result ≡ past_branch operator nested }
 {
-    match mark {
+    match operator {
         BranchOperator::Then | BranchOperator::Elvis => nested >= MOST_PARTS,
         BranchOperator::Else => false,
     }
 }
 
-/// How many `?` and `?:` stand round what comes after the mark, the mark's own among them. Of each `?` whose `:` is still to come,
-/// `asked` has how many stand round what is on both sides of that `:`.
-fn nests(asked: &mut Vec<u32>, nested: u32, mark: BranchOperator) -> Result<u32, Mem>
+/// How many `?` and `?:` stand round the operand after this operator, the operator itself among them. For each `?` whose `:` is still
+/// to come, `asked` has how many stand round the operands on both sides of that `:`.
+fn nests(asked: &mut Vec<u32>, nested: u32, operator: BranchOperator) -> Result<u32, Mem>
     requires { nested ≤ 256 }
-    ensures { IfOk result (λ next. Nests mark asked.old.items nested asked.new.items next) }
+    ensures { IfOk result (λ next. Nests operator asked.old.items nested asked.new.items next) }
 {
-    match mark {
+    match operator {
         BranchOperator::Then => {
             asked.push(nested + 1)?;
             Ok(nested + 1)
@@ -99,7 +99,7 @@ fn with_branches(alloc: Global, first: Expr, branches: Vec<Branch>) -> Result<Ex
     Expr::conditional(alloc, first, branches)
 }
 
-/// Operands of one band with the marks between them.
+/// Operands of one band with the operators between them.
 #[cycle(parser)]
 pub fn operands(
     alloc: Global,
@@ -113,12 +113,12 @@ pub fn operands(
     let (first, mut rest) = operand(alloc, depth, band, tokens)?;
     let mut others = Vec::new(alloc);
     let mut parts: u32 = 1;
-    while let Some((place, mark, after)) = next_mark(rest, band, parts) {
+    while let Some((place, operator, after)) = next_operator(rest, band, parts) {
         if parts >= MOST_PARTS {
             return Err(Fault::TooDeep(rest.len()));
         }
         let (right, after) = operand(alloc, depth, band, after)?;
-        let other = Operand::new(place, mark, right);
+        let other = Operand::new(place, operator, right);
         others.push(other)?;
         rest = after;
         parts += 1;
@@ -127,9 +127,13 @@ pub fn operands(
     Ok((whole, rest))
 }
 
-/// The mark of the band that comes, where so many operands may still have one after them.
-fn next_mark(tokens: &[Lexeme], band: Band, parts: u32) -> Option<(Place, InfixOperator, &[Lexeme])>
-    ensures { NextMark tokens.now band parts result }
+/// The operator of the band that comes next, unless the band takes one at most and has had it.
+fn next_operator(
+    tokens: &[Lexeme],
+    band: Band,
+    parts: u32,
+) -> Option<(Place, InfixOperator, &[Lexeme])>
+    ensures { NextOperator tokens.now band parts result }
 {
     if parts > 1 && is_single(band) {
         return None;
@@ -147,7 +151,7 @@ fn with_operands(alloc: Global, first: Expr, others: Vec<Operand>) -> Result<Exp
     Expr::infix(alloc, first, others)
 }
 
-/// Whether the band has one mark at most.
+/// Whether the band has one operator at most.
 fn is_single(band: Band) -> bool
     ensures { result ≡ row.is_single band }
 {
@@ -177,34 +181,37 @@ fn operand(
     }
 }
 
-/// Marks before a postfix chain, and the chain.
+/// Operators before a postfix chain, and the chain.
 #[cycle(parser)]
 fn prefixed(alloc: Global, depth: u32, tokens: &[Lexeme]) -> Result<(Expr, &[Lexeme]), Fault>
     ensures parses { Parses (λ x. view x.0) (λ x. x.1.now) (rule (level.Pre depth 0)) tokens.now result }
     ensures shorter { IfOk result (λ x. length x.1.now < length tokens.now) }
 {
-    let mut marks = Vec::new(alloc);
+    let mut operators = Vec::new(alloc);
     let mut rest = tokens;
     let mut parts: u32 = 0;
-    while let Some((place, mark, after)) = peek::prefix(rest) {
+    while let Some((place, operator, after)) = peek::prefix(rest) {
         if parts >= MOST_PARTS {
             return Err(Fault::TooDeep(rest.len()));
         }
-        marks.push(Prefix { place, mark })?;
+        operators.push(Prefix {
+            place,
+            mark: operator,
+        })?;
         rest = after;
         parts += 1;
     }
     let (of, rest) = posts::post(alloc, depth, rest)?;
-    let whole = with_marks(alloc, marks, of)?;
+    let whole = with_prefixes(alloc, operators, of)?;
     Ok((whole, rest))
 }
 
-/// An operand with the marks before it.
-fn with_marks(alloc: Global, marks: Vec<Prefix>, of: Expr) -> Result<Expr, Mem>
-    ensures { IfOk result (λ e. view e ≡ prefixes marks.items (view of)) }
+/// An operand with the operators before it.
+fn with_prefixes(alloc: Global, operators: Vec<Prefix>, of: Expr) -> Result<Expr, Mem>
+    ensures { IfOk result (λ e. view e ≡ prefixes operators.items (view of)) }
 {
-    if marks.is_empty() {
+    if operators.is_empty() {
         return Ok(of);
     }
-    Expr::prefix(alloc, marks, of)
+    Expr::prefix(alloc, operators, of)
 }

@@ -191,18 +191,18 @@ pub fn close_hole(tokens: &[Lexeme]) -> Option<(Place, &[Lexeme])>
     }
 }
 
-/// A mark of the band, with its place, and what stands after it.
+/// An operator of the band, with its place, and what stands after it.
 pub fn infix(tokens: &[Lexeme], band: Band) -> Option<(Place, InfixOperator, &[Lexeme])>
     ensures { MatchOption result (no_next (kind.infix_of band) tokens.now ≡ true) (λ x. Takes (kind.infix_of band) tokens.now (operator x.0 x.1) x.2.now) }
 {
     let (first, rest) = tokens.split_first()?;
-    let mark = infix_mark(band, &first.token)?;
-    Some((first.place, mark, rest))
+    let found = infix_operator(band, &first.token)?;
+    Some((first.place, found, rest))
 }
 
-/// The mark of a band that a token is.
-fn infix_mark(band: Band, token: &Token) -> Option<InfixOperator>
-    ensures { result ≡ kind.infix_mark band token.now }
+/// The operator of a band that a token is.
+fn infix_operator(band: Band, token: &Token) -> Option<InfixOperator>
+    ensures { result ≡ kind.infix_operator band token.now }
 {
     match (band, token) {
         (Band::Or, Token::Mark(Mark::Or)) => Some(InfixOperator::Or),
@@ -225,9 +225,9 @@ fn infix_mark(band: Band, token: &Token) -> Option<InfixOperator>
     }
 }
 
-/// A mark before an operand, with its place, and what stands after it.
+/// An operator before an operand, with its place, and what stands after it.
 pub fn prefix(tokens: &[Lexeme]) -> Option<(Place, PrefixOperator, &[Lexeme])>
-    ensures { MatchOption result (no_next kind.prefix_mark tokens.now ≡ true) (λ x. Takes kind.prefix_mark tokens.now (tree.prefix x.0 x.1 tree.empty) x.2.now) }
+    ensures { MatchOption result (no_next kind.prefix_operator tokens.now ≡ true) (λ x. Takes kind.prefix_operator tokens.now (tree.prefix x.0 x.1 tree.empty) x.2.now) }
 {
     match tokens {
         [
@@ -364,7 +364,7 @@ pub fn starts_piece(tokens: &[Lexeme]) -> bool
     template_text(tokens).is_some() || open_hole(tokens).is_some()
 }
 
-/// A mark of a conditional expression: a `:` only where one is due.
+/// An operator of a conditional expression; a `:` only where one is due.
 pub fn branch(tokens: &[Lexeme], due: bool) -> Option<(Place, BranchOperator, &[Lexeme])>
     ensures { MatchOption result (NoBranch due tokens.now) (λ x. TakesBranch due x.1 tokens.now x.0 x.2.now) }
 {

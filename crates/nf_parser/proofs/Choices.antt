@@ -15,7 +15,7 @@ use Rattle.nf_ast.specs.Tree.{Tree, empty, cons, list}
 use Rattle.nf_exprs.specs.declared.band.Band.{Band}
 use Rattle.nf_exprs.specs.declared.band.Band.TheVariants as band
 use Rattle.nf_exprs.specs.Level.{Expr, Post, Prim, Args, Pair, Gram}
-use Rattle.nf_exprs.specs.Tokens.{Kind, mark_of, name_of, literal_at, literal, plain_at, plain, open_template, template_text_at, template_text, open_hole_at, open_hole, close_template_at, close_template, prefix_mark, infix_of, colon, labels, is_next, no_start, no_post, items_end}
+use Rattle.nf_exprs.specs.Tokens.{Kind, mark_of, name_of, literal_at, literal, plain_at, plain, open_template, template_text_at, template_text, open_hole_at, open_hole, close_template_at, close_template, prefix_operator, infix_of, colon, labels, is_next, no_start, no_post, items_end}
 use Rattle.nf_exprs.specs.Rules as row
 use Rattle.nf_exprs.specs.Rules.{rules}
 use Rattle.nf_exprs.specs.Parses.{Outcome, Takes}
@@ -239,7 +239,7 @@ module _ (d : ℕ) (p : Place) where
   plain_item : (ts us : List Lexeme) (w : Tree) → Reads rules (row.kind plain) ts w us → Came colon us → (v : Tree) (r : List Lexeme) → Reads rules (row.items d p) ts v r → is_next (mark_of m.CloseSquare) r ≡ true → ⊥
   plain_item ts us w (reads_token {t = y} e) c v r x h =
       let n = plain_front (record { v = w; rest = us; takes = (y, e, refl) }) in
-      items_never d p ts us w c (by_front (λ z. no_start z ≡ false) n.2 (λ q s. refl)) (expr_prim d ts us w (plain_prim ts us w (y, e, refl)) (miss prefix_mark n.2 (λ q. refl)) (before_colon c.takes) 0) v r x h
+      items_never d p ts us w c (by_front (λ z. no_start z ≡ false) n.2 (λ q s. refl)) (expr_prim d ts us w (plain_prim ts us w (y, e, refl)) (miss prefix_operator n.2 (λ q. refl)) (before_colon c.takes) 0) v r x h
 
   -- the text of a template without a hole, if it has one, is its only piece
   text_pieces : (ts us : List Lexeme) (w z : Tree) (c : Came close_template us) → Reads rules row.maybe_text ts w us → Outcome (row.pieces d) ts (got w us (length us))
@@ -265,7 +265,7 @@ module _ (d : ℕ) (p : Place) where
   template_item : (ts us : List Lexeme) (w : Tree) → Reads rules row.plain_template ts w us → Came colon us → (v : Tree) (r : List Lexeme) → Reads rules (row.items d p) ts v r → is_next (mark_of m.CloseSquare) r ≡ true → ⊥
   template_item ts us w y c v r x h =
       let n = template_front (first_came y) in
-      items_never d p ts us w c (by_front (λ z. no_start z ≡ false) n.1 (λ q s. refl)) (expr_prim d ts us w (template_prim ts us w y) (miss prefix_mark n.1 (λ q. refl)) (before_colon c.takes) 0) v r x h
+      items_never d p ts us w c (by_front (λ z. no_start z ≡ false) n.1 (λ q s. refl)) (expr_prim d ts us w (template_prim ts us w y) (miss prefix_operator n.1 (λ q. refl)) (before_colon c.takes) 0) v r x h
 
   key_item : (ts us : List Lexeme) (w : Tree) → Reads rules row.key ts w us → Came colon us → (v : Tree) (r : List Lexeme) → Reads rules (row.items d p) ts v r → is_next (mark_of m.CloseSquare) r ≡ true → ⊥
   key_item ts us w (reads_left y) c v r x h = name_item ts us w y c v r x h

@@ -16,7 +16,7 @@ use Rattle.nf_ast.specs.Tree.{Tree, empty}
 use Rattle.nf_exprs.specs.declared.band.Band.{Band}
 use Rattle.nf_exprs.specs.declared.band.Band.TheVariants as band
 use Rattle.nf_exprs.specs.Level.{Expr, Operands, Pre, Post, Prim, Body, Stmt, Choice}
-use Rattle.nf_exprs.specs.Tokens.{Kind, mark_at, mark_of, name_at, name_of, literal_at, infix_mark, infix_of, waits, post_at, no_post, labels, after, is_next, colon, separator_at, separator, at_end, starts_at, starts, prints, logs, literal, open_template, prefix_mark, word_of, body_ends}
+use Rattle.nf_exprs.specs.Tokens.{Kind, mark_at, mark_of, name_at, name_of, literal_at, infix_operator, infix_of, waits, post_at, no_post, labels, after, is_next, colon, separator_at, separator, at_end, starts_at, starts, prints, logs, literal, open_template, prefix_operator, word_of, body_ends}
 use Rattle.nf_exprs.specs.Rules.{rules, question, elvis, sep, separated, no_question, assigned, returned, printed, logged, alone, with_sep}
 use Rattle.nf_exprs.specs.Parses.{Outcome, Takes}
 use Rattle.nf_exprs.proofs.Steps.{comes}
@@ -27,7 +27,7 @@ use Rattle.nf_parser.proofs.Parts.{after_le}
 
 record IsPlainAt (x : Token) (p : Place) : Type 0 where
   post : post_at x ≡ false
-  operators : (b : Band) → infix_mark b x ≡ None
+  operators : (b : Band) → infix_operator b x ≡ None
   question : mark_at m.Question x p ≡ None
   elvis : mark_at m.Elvis x p ≡ None
   start : starts_at x ≡ false
@@ -41,7 +41,7 @@ record IsPlainAt (x : Token) (p : Place) : Type 0 where
   comma : mark_at m.Comma x p ≡ None
   name : name_at x p ≡ None
 
-no_infix_colon : (b : Band) → infix_mark b (t.Mark m.Colon) ≡ None
+no_infix_colon : (b : Band) → infix_operator b (t.Mark m.Colon) ≡ None
 no_infix_colon band.Or = refl
 no_infix_colon band.And = refl
 no_infix_colon band.Pipe = refl
@@ -94,7 +94,7 @@ plain_colon (t.Mark m.Not) p v e = absurd (let f : None ≡ Some v = e in cc)
 plain_colon (t.Mark m.Question) p v e = absurd (let f : None ≡ Some v = e in cc)
 plain_colon (t.Mark m.Elvis) p v e = absurd (let f : None ≡ Some v = e in cc)
 
-no_infix_equals : (b : Band) → infix_mark b (t.Mark m.Equals) ≡ None
+no_infix_equals : (b : Band) → infix_operator b (t.Mark m.Equals) ≡ None
 no_infix_equals band.Or = refl
 no_infix_equals band.And = refl
 no_infix_equals band.Pipe = refl
@@ -236,7 +236,7 @@ before_equals {ts} {rest} {v} e = subst Plain (sym e.2) (plain_next e.0 rest (pl
 
 -- ---- an operand alone
 
-module _ (d : ℕ) (ts rest : List Lexeme) (v : Tree) (prim : Outcome (rule (Prim d)) ts (got v rest (length rest))) (prefix : no_next prefix_mark ts ≡ true) (f : Plain rest) where
+module _ (d : ℕ) (ts rest : List Lexeme) (v : Tree) (prim : Outcome (rule (Prim d)) ts (got v rest (length rest))) (prefix : no_next prefix_operator ts ≡ true) (f : Plain rest) where
   post_prim : Outcome (rule (Post d)) ts (got v rest (length rest))
   unfolding rules
   post_prim = ruled (seq prim (stops f.post (second_arm (off f.dot) (second_arm (off f.safe) (second_arm (off f.square) (second_arm (off f.round) (off f.brace)))))))
@@ -278,8 +278,8 @@ module _ (d : ℕ) (ts rest : List Lexeme) (v : Tree) (e : Takes name_of ts v re
   no_template : no_next open_template ts ≡ true
   no_template = by_name (λ us. no_next open_template us ≡ true) (named e) (λ n p r. refl)
 
-  no_prefix : no_next prefix_mark ts ≡ true
-  no_prefix = by_name (λ us. no_next prefix_mark us ≡ true) (named e) (λ n p r. refl)
+  no_prefix : no_next prefix_operator ts ≡ true
+  no_prefix = by_name (λ us. no_next prefix_operator us ≡ true) (named e) (λ n p r. refl)
 
   prim_name : Outcome (rule (Prim d)) ts (got v rest (length rest))
   unfolding rules

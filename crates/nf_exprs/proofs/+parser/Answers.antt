@@ -41,21 +41,21 @@ exprs::expr-returns-in_err-first-clause-parses t c =
     rw (p.1, p.2) (lift_fault (rule (Operands c.args.depth band.Or)) (rule (Expr c.args.depth 0)) _ _ c.in_err-first.field-0.0 (λ o s q. begins_not c.args.depth c.args.tokens.now o s q) (c.in_err-first.ensures.parses))
 
 pub exprs::expr-returns-then-is_past-clause-parses : goal.exprs::expr-returns-then-is_past-clause-parses
-exprs::expr-returns-then-is_past-clause-parses t c = seen_dives c.args.depth _ c.loop-place.branches.items c.loop-place.nested c.loop-place.asked.items c.loop-place.rest.now c.in-Some.after.now c.args.tokens.now c.in-Some.place c.in-Some.mark c.in-Some.ensures.due (sym c.is_past.ensures ∙ c.if-is_past.true) c.in-Some.ensures.takes c.loop-place.invariant.2
+exprs::expr-returns-then-is_past-clause-parses t c = seen_dives c.args.depth _ c.loop-place.branches.items c.loop-place.nested c.loop-place.asked.items c.loop-place.rest.now c.in-Some.after.now c.args.tokens.now c.in-Some.place c.in-Some.operator c.in-Some.ensures.due (sym c.is_past.ensures ∙ c.if-is_past.true) c.in-Some.ensures.takes c.loop-place.invariant.2
 
 pub exprs::expr-returns-in_err-operand-clause-parses : goal.exprs::expr-returns-in_err-operand-clause-parses
 exprs::expr-returns-in_err-operand-clause-parses t c =
     let p = err_from_is_err_and c.from_residual-in_err-operand.result c.from_residual-in_err-operand.ensures.1 in
-    rw (p.1, p.2) (lift_fault (rule (Operands c.args.depth band.Or)) (rule (Expr c.args.depth 0)) _ _ c.in_err-operand.field-0.0 (λ o s q. seen_goes c.args.depth _ c.loop-place.branches.items c.loop-place.nested c.in_ok-next.next c.loop-place.asked.items c.nests.new.asked.items c.loop-place.rest.now c.in-Some.after.now c.args.tokens.now c.in-Some.place c.in-Some.mark c.in-Some.ensures.due (sym c.is_past.ensures ∙ c.if-is_past.false) c.in-Some.ensures.some c.in-Some.ensures.takes c.in_ok-next.ensures c.loop-place.invariant.2 o s q) (c.in_err-operand.ensures.parses))
+    rw (p.1, p.2) (lift_fault (rule (Operands c.args.depth band.Or)) (rule (Expr c.args.depth 0)) _ _ c.in_err-operand.field-0.0 (λ o s q. seen_goes c.args.depth _ c.loop-place.branches.items c.loop-place.nested c.in_ok-next.next c.loop-place.asked.items c.nests.new.asked.items c.loop-place.rest.now c.in-Some.after.now c.args.tokens.now c.in-Some.place c.in-Some.operator c.in-Some.ensures.due (sym c.is_past.ensures ∙ c.if-is_past.false) c.in-Some.ensures.some c.in-Some.ensures.takes c.in_ok-next.ensures c.loop-place.invariant.2 o s q) (c.in_err-operand.ensures.parses))
 
 pub exprs::expr-loop-place-smaller : goal.exprs::expr-loop-place-smaller
-exprs::expr-loop-place-smaller t c = let shorter = branch_shorter c.in-Some.ensures.due c.in-Some.mark c.loop-place.rest.now c.in-Some.after.now c.in-Some.place c.in-Some.ensures.takes in omega (arith, shorter, c.in_ok-operand.ensures.shorter)
+exprs::expr-loop-place-smaller t c = let shorter = branch_shorter c.in-Some.ensures.due c.in-Some.operator c.loop-place.rest.now c.in-Some.after.now c.in-Some.place c.in-Some.ensures.takes in omega (arith, shorter, c.in_ok-operand.ensures.shorter)
 
 pub exprs::expr-loop-place-preserved : goal.exprs::expr-loop-place-preserved
 exprs::expr-loop-place-preserved t c =
-    let shorter = branch_shorter c.in-Some.ensures.due c.in-Some.mark c.loop-place.rest.now c.in-Some.after.now c.in-Some.place c.in-Some.ensures.takes in
-    let next = seen_next c.args.depth _ c.loop-place.branches.items c.push.new.self.items c.new-branch.result c.loop-place.nested c.in_ok-next.next c.loop-place.asked.items c.nests.new.asked.items c.loop-place.rest.now c.in-Some.after.now c.in_ok-operand.after.now c.args.tokens.now c.in-Some.place c.in-Some.mark c.in-Some.ensures.due (view.view c.in_ok-operand.operand) (sym c.is_past.ensures ∙ c.if-is_past.false) c.in-Some.ensures.some c.in-Some.ensures.takes c.in_ok-next.ensures c.in_ok-push.ensures.items c.new-branch.ensures c.in_ok-operand.ensures.parses c.loop-place.invariant.2 in
-    (omega (arith, shorter, c.in_ok-operand.ensures.shorter, c.loop-place.invariant.0), next_within c.args.depth _ c.loop-place.branches.items c.push.new.self.items c.new-branch.result c.loop-place.nested c.in_ok-next.next c.loop-place.asked.items c.nests.new.asked.items c.loop-place.rest.now c.in_ok-operand.after.now c.args.tokens.now c.in-Some.place c.in-Some.mark (view.view c.in_ok-operand.operand) (sym c.is_past.ensures ∙ c.if-is_past.false) c.loop-place.invariant.1 c.in_ok-push.ensures.items c.new-branch.ensures c.loop-place.invariant.2 next, next)
+    let shorter = branch_shorter c.in-Some.ensures.due c.in-Some.operator c.loop-place.rest.now c.in-Some.after.now c.in-Some.place c.in-Some.ensures.takes in
+    let next = seen_next c.args.depth _ c.loop-place.branches.items c.push.new.self.items c.new-branch.result c.loop-place.nested c.in_ok-next.next c.loop-place.asked.items c.nests.new.asked.items c.loop-place.rest.now c.in-Some.after.now c.in_ok-operand.after.now c.args.tokens.now c.in-Some.place c.in-Some.operator c.in-Some.ensures.due (view.view c.in_ok-operand.operand) (sym c.is_past.ensures ∙ c.if-is_past.false) c.in-Some.ensures.some c.in-Some.ensures.takes c.in_ok-next.ensures c.in_ok-push.ensures.items c.new-branch.ensures c.in_ok-operand.ensures.parses c.loop-place.invariant.2 in
+    (omega (arith, shorter, c.in_ok-operand.ensures.shorter, c.loop-place.invariant.0), next_within c.args.depth _ c.loop-place.branches.items c.push.new.self.items c.new-branch.result c.loop-place.nested c.in_ok-next.next c.loop-place.asked.items c.nests.new.asked.items c.loop-place.rest.now c.in_ok-operand.after.now c.args.tokens.now c.in-Some.place c.in-Some.operator (view.view c.in_ok-operand.operand) (sym c.is_past.ensures ∙ c.if-is_past.false) c.loop-place.invariant.1 c.in_ok-push.ensures.items c.new-branch.ensures c.loop-place.invariant.2 next, next)
 
 pub exprs::expr-returns-then-is_asked-clause-parses : goal.exprs::expr-returns-then-is_asked-clause-parses
 exprs::expr-returns-then-is_asked-clause-parses t c = missing_at c.args.depth _ c.loop-place.branches.items c.loop-place.nested c.loop-place.asked.items c.loop-place.rest.now c.args.tokens.now c.in_default.ensures.due c.in_default.ensures.none (c.is_asked.ensures.yes c.if-is_asked.true) c.in_default.ensures.off c.loop-place.invariant.2
@@ -72,17 +72,17 @@ exprs::operands-returns-in_err-first-clause-parses t c =
     rw (p.1, p.2) (lift_fault (row.operand c.args.depth c.args.band) (rule (Operands c.args.depth c.args.band)) _ _ c.in_err-first.field-0.0 (λ o s q. band_not c.args.depth c.args.band c.args.tokens.now o s q) (c.in_err-first.ensures.parses))
 
 pub exprs::operands-returns-then-parts-ge-MOST_PARTS-clause-parses : goal.exprs::operands-returns-then-parts-ge-MOST_PARTS-clause-parses
-exprs::operands-returns-then-parts-ge-MOST_PARTS-clause-parses t c = band_dives c.args.depth c.loop-place.parts c.args.band _ c.loop-place.others.items c.loop-place.rest.now c.in-Some.after.now c.args.tokens.now c.in-Some.place c.in-Some.mark c.in-Some.ensures.0 c.in-Some.ensures.1 c.loop-place.invariant.1 c.loop-place.invariant.3 (omega arith)
+exprs::operands-returns-then-parts-ge-MOST_PARTS-clause-parses t c = band_dives c.args.depth c.loop-place.parts c.args.band _ c.loop-place.others.items c.loop-place.rest.now c.in-Some.after.now c.args.tokens.now c.in-Some.place c.in-Some.operator c.in-Some.ensures.0 c.in-Some.ensures.1 c.loop-place.invariant.1 c.loop-place.invariant.3 (omega arith)
 
 pub exprs::operands-returns-in_err-right-clause-parses : goal.exprs::operands-returns-in_err-right-clause-parses
 exprs::operands-returns-in_err-right-clause-parses t c =
     let p = err_from_is_err_and c.from_residual-in_err-right.result c.from_residual-in_err-right.ensures.1 in
-    rw (p.1, p.2) (lift_fault (row.operand c.args.depth c.args.band) (rule (Operands c.args.depth c.args.band)) _ _ c.in_err-right.field-0.0 (λ o s q. band_stops c.args.depth c.loop-place.parts c.args.band _ c.loop-place.others.items c.loop-place.rest.now c.in-Some.after.now c.args.tokens.now c.in-Some.place c.in-Some.mark c.in-Some.ensures.0 c.in-Some.ensures.1 c.loop-place.invariant.1 c.loop-place.invariant.3 (omega arith) o s q) (c.in_err-right.ensures.parses))
+    rw (p.1, p.2) (lift_fault (row.operand c.args.depth c.args.band) (rule (Operands c.args.depth c.args.band)) _ _ c.in_err-right.field-0.0 (λ o s q. band_stops c.args.depth c.loop-place.parts c.args.band _ c.loop-place.others.items c.loop-place.rest.now c.in-Some.after.now c.args.tokens.now c.in-Some.place c.in-Some.operator c.in-Some.ensures.0 c.in-Some.ensures.1 c.loop-place.invariant.1 c.loop-place.invariant.3 (omega arith) o s q) (c.in_err-right.ensures.parses))
 
 pub exprs::operands-loop-place-preserved : goal.exprs::operands-loop-place-preserved
 exprs::operands-loop-place-preserved t c =
     let shorter = ap length c.in-Some.ensures.0.2 in
-    (omega (arith, shorter, c.in_ok-right.ensures.shorter, c.loop-place.invariant.0), omega arith, omega arith, band_goes c.args.depth c.loop-place.parts c.args.band _ c.loop-place.others.items c.loop-place.rest.now c.in-Some.after.now c.args.tokens.now c.in-Some.place c.in-Some.mark c.in-Some.ensures.0 c.in-Some.ensures.1 c.loop-place.invariant.1 c.loop-place.invariant.3 (c.loop-place.parts + 1) c.push.new.self.items c.new-other.result (view.view c.in_ok-right.right) c.in_ok-right.after.now (omega arith) (omega arith) c.in_ok-push.ensures.items c.new-other.ensures c.in_ok-right.ensures.parses)
+    (omega (arith, shorter, c.in_ok-right.ensures.shorter, c.loop-place.invariant.0), omega arith, omega arith, band_goes c.args.depth c.loop-place.parts c.args.band _ c.loop-place.others.items c.loop-place.rest.now c.in-Some.after.now c.args.tokens.now c.in-Some.place c.in-Some.operator c.in-Some.ensures.0 c.in-Some.ensures.1 c.loop-place.invariant.1 c.loop-place.invariant.3 (c.loop-place.parts + 1) c.push.new.self.items c.new-other.result (view.view c.in_ok-right.right) c.in_ok-right.after.now (omega arith) (omega arith) c.in_ok-push.ensures.items c.new-other.ensures c.in_ok-right.ensures.parses)
 
 pub exprs::operands-loop-place-smaller : goal.exprs::operands-loop-place-smaller
 exprs::operands-loop-place-smaller t c =
@@ -93,18 +93,18 @@ pub exprs::operands-returns-clause-parses : goal.exprs::operands-returns-clause-
 exprs::operands-returns-clause-parses t c = sees c.in_ok-whole.ensures (ends_as c.args.depth c.loop-place.parts c.args.band _ c.loop-place.rest.now c.args.tokens.now (row.is_single c.args.band) c.loop-place.invariant.1 c.in_default.ensures.0 c.in_default.ensures.1 c.loop-place.invariant.3)
 
 pub exprs::prefixed-loop-place-init : goal.exprs::prefixed-loop-place-init
-exprs::prefixed-loop-place-init t c = (omega arith, omega arith, first_leads (rule (Pre c.args.depth 0)) c.args.tokens.now c.new-marks.result.items c.new-marks.ensures.items)
+exprs::prefixed-loop-place-init t c = (omega arith, omega arith, first_leads (rule (Pre c.args.depth 0)) c.args.tokens.now c.new-operators.result.items c.new-operators.ensures.items)
 
 pub exprs::prefixed-loop-place-preserved : goal.exprs::prefixed-loop-place-preserved
 exprs::prefixed-loop-place-preserved t c =
     let shorter = ap length c.in-Some.ensures.2 in
-    (omega (arith, shorter, c.loop-place.invariant.0), omega arith, prefix_pushed c.args.depth c.loop-place.parts c.loop-place.rest.now c.in-Some.after.now c.in-Some.place c.in-Some.mark c.in-Some.ensures (c.loop-place.parts + 1) c.loop-place.marks.items c.push.new.self.items c.args.tokens.now (omega arith) (omega arith) c.in_ok-push.ensures.items c.loop-place.invariant.2)
+    (omega (arith, shorter, c.loop-place.invariant.0), omega arith, prefix_pushed c.args.depth c.loop-place.parts c.loop-place.rest.now c.in-Some.after.now c.in-Some.place c.in-Some.operator c.in-Some.ensures (c.loop-place.parts + 1) c.loop-place.operators.items c.push.new.self.items c.args.tokens.now (omega arith) (omega arith) c.in_ok-push.ensures.items c.loop-place.invariant.2)
 
 pub exprs::prefixed-loop-place-smaller : goal.exprs::prefixed-loop-place-smaller
 exprs::prefixed-loop-place-smaller t c = let shorter = ap length c.in-Some.ensures.2 in omega (arith, shorter)
 
 pub exprs::prefixed-returns-then-parts-ge-MOST_PARTS-clause-parses : goal.exprs::prefixed-returns-then-parts-ge-MOST_PARTS-clause-parses
-exprs::prefixed-returns-then-parts-ge-MOST_PARTS-clause-parses t c = c.loop-place.invariant.2.stops (too_deep (length c.loop-place.rest.now)) tt (prefix_dives c.args.depth c.loop-place.parts c.loop-place.rest.now c.in-Some.after.now c.in-Some.place c.in-Some.mark c.in-Some.ensures (omega arith))
+exprs::prefixed-returns-then-parts-ge-MOST_PARTS-clause-parses t c = c.loop-place.invariant.2.stops (too_deep (length c.loop-place.rest.now)) tt (prefix_dives c.args.depth c.loop-place.parts c.loop-place.rest.now c.in-Some.after.now c.in-Some.place c.in-Some.operator c.in-Some.ensures (omega arith))
 
 pub exprs::prefixed-returns-in_err-of-clause-parses : goal.exprs::prefixed-returns-in_err-of-clause-parses
 exprs::prefixed-returns-in_err-of-clause-parses t c =
@@ -112,7 +112,7 @@ exprs::prefixed-returns-in_err-of-clause-parses t c =
     rw (p.1, p.2) (lift_fault (rule (Post c.args.depth)) (rule (Pre c.args.depth 0)) _ _ c.in_err-of.field-0.0 (λ o s q. c.loop-place.invariant.2.stops o s (prefix_none c.args.depth c.loop-place.parts c.loop-place.rest.now o c.in_default.ensures q)) (c.in_err-of.ensures.parses))
 
 pub exprs::prefixed-returns-clause-parses : goal.exprs::prefixed-returns-clause-parses
-exprs::prefixed-returns-clause-parses t c = prefix_ends c.args.depth c.loop-place.parts c.loop-place.rest.now c.args.tokens.now c.in_ok-of.rest.now c.loop-place.marks.items (view.view c.in_ok-of.of) (view.view c.in_ok-whole.whole) c.in_default.ensures c.loop-place.invariant.2 c.in_ok-whole.ensures c.in_ok-of.ensures.parses
+exprs::prefixed-returns-clause-parses t c = prefix_ends c.args.depth c.loop-place.parts c.loop-place.rest.now c.args.tokens.now c.in_ok-of.rest.now c.loop-place.operators.items (view.view c.in_ok-of.of) (view.view c.in_ok-whole.whole) c.in_default.ensures c.loop-place.invariant.2 c.in_ok-whole.ensures c.in_ok-of.ensures.parses
 
 pub posts::post-loop-alloc-init : goal.posts::post-loop-alloc-init
 posts::post-loop-alloc-init t c = (c.in_ok-first.ensures.shorter, omega arith, chain_begins c.args.depth (view.view c.in_ok-first.first) c.new-parts.result.items c.in_ok-first.rest.now c.args.tokens.now c.new-parts.ensures.items c.in_ok-first.ensures.parses)

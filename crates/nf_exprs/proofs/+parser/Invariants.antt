@@ -166,7 +166,7 @@ abbrev pub decreases-exprs::operands-loop-place : goal.decreases-exprs::operands
 decreases-exprs::operands-loop-place l = length l.rest
 
 abbrev pub invariant-exprs::prefixed-loop-place : goal.invariant-exprs::prefixed-loop-place
-invariant-exprs::prefixed-loop-place l = (length l.rest ≤ length l.tokens) × (l.parts ≤ 256) × Leads (rule (Pre l.depth l.parts)) l.rest (prefixes l.marks.items) (rule (Pre l.depth 0)) l.tokens
+invariant-exprs::prefixed-loop-place l = (length l.rest ≤ length l.tokens) × (l.parts ≤ 256) × Leads (rule (Pre l.depth l.parts)) l.rest (prefixes l.operators.items) (rule (Pre l.depth 0)) l.tokens
 
 abbrev pub decreases-exprs::prefixed-loop-place : goal.decreases-exprs::prefixed-loop-place
 decreases-exprs::prefixed-loop-place l = length l.rest
