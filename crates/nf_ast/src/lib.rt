@@ -6,8 +6,6 @@ mod expr;
 mod list_copies;
 mod marks;
 mod name_copies;
-mod process_copies;
-mod top_copies;
 mod tops;
 
 pub use expr::{

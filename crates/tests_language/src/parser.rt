@@ -71,9 +71,9 @@ fn limits_brackets(rt: HostRuntime) -> Result<(), Fail> {
     Ok(())
 }
 
-/// As many brackets as may be open, with as much before and after each as may stand there; it is read, copied, printed and dropped.
+/// As many brackets as may be open, with as much before and after each as may stand there; it is read, printed and dropped.
 #[test]
-fn copies_the_deepest(rt: HostRuntime) -> Result<(), Fail> {
+fn reads_the_deepest(rt: HostRuntime) -> Result<(), Fail> {
     for (open, close, each, besides) in DEEPEST.iter().copied() {
         let deep = deepest(rt.alloc(), open, close, 62)?;
         let text = format!(in rt.alloc(); "workflow {{ channel.of({deep}) }}")?;
@@ -81,12 +81,9 @@ fn copies_the_deepest(rt: HostRuntime) -> Result<(), Fail> {
         let Ok(script) = script(rt.alloc(), &tokens) else {
             return Err(Fail::from("not read"));
         };
-        let copy = script.copy(rt.alloc())?;
-        assert_eq!(rt; copy.tops.len(), 1);
-        let printed = print(rt.alloc(), &copy)?;
+        let printed = print(rt.alloc(), &script)?;
         let bytes = each.saturating_mul(62).saturating_add(besides);
         assert_eq!(rt; printed.len(), bytes, "at {open:?}");
-        assert!(rt; printed == print(rt.alloc(), &script)?, "at {open:?}");
     }
     Ok(())
 }
