@@ -10,7 +10,7 @@ pub data Tree : Type 0 where
   -- no part, and a part with those after it
   empty : Tree
   cons : Tree → Tree → Tree
-  -- a mark or word of which only its place counts
+  -- a token of which only its place counts
   point : Place → Tree
   -- a name where a name stands by itself
   name : Place → List ℕ → Tree
@@ -18,7 +18,7 @@ pub data Tree : Type 0 where
   number : Place → ℤ → Tree
   text : Place → PlainKind → List ℕ → Tree
   pattern : Place → List ℕ → Tree
-  -- its parts are pieces and holes
+  -- its parts are texts (`piece`) and holes
   template : Place → TemplateKind → Tree → Tree
   piece : Place → List ℕ → Tree
   hole : Place → Tree → Tree
@@ -32,7 +32,7 @@ pub data Tree : Type 0 where
   closure : Place → Tree → Tree → Tree
   params : Tree → Tree
   label : Tree → Tree → Tree
-  -- a mark that waits for its operand, or for both
+  -- an operator with its operand, or with both; the parser has them with empty operands until these are read
   prefix : Place → PrefixOperator → Tree → Tree
   binary : Place → InfixOperator → Tree → Tree → Tree
   -- `c ? a : b`, and `a ?: b`
@@ -83,7 +83,7 @@ abbrev pub snoc : Tree → Tree → Tree
 snoc (cons a more) b = cons a (snoc more b)
 snoc _ b = cons b empty
 
--- where a mark or a word stands
+-- where a token stands
 abbrev pub place_of : Tree → Place
 place_of (point p) = p
 place_of (name p n) = p

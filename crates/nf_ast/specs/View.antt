@@ -37,7 +37,7 @@ names ns = trees (map name_tree ns)
 
 -- ---- lists of one level
 
--- each operand with the mark before it, after what was read; the marks wait for their left operand
+-- Operands of one level, joined from the left: each of the list is an operator with an empty left operand.
 abbrev pub operands : Tree → List Tree → Tree
 operands a [] = a
 operands a (tree.binary p mark x b ∷ xs) = operands (tree.binary p mark a b) xs
@@ -47,7 +47,7 @@ abbrev pub prefixes : List Prefix → Tree → Tree
 prefixes [] e = e
 prefixes (x ∷ xs) e = tree.prefix x.place x.mark (prefixes xs e)
 
--- each part that waits for what stands before it
+-- a part of a chain, which stands on `empty`, put on the expression before it
 abbrev pub applied : Tree → Tree → Tree
 applied e (tree.property x n) = tree.property e n
 applied e (tree.safe_property x n) = tree.safe_property e n
@@ -62,24 +62,24 @@ postfix e (x ∷ xs) = postfix (applied e x) xs
 
 -- ---- conditionals
 
--- what waits for the operand that is read next
+-- a conditional that isn't complete: what it has when the next operand comes
 pub data Frame : Type 0 where
-  -- a condition: what a true one gives, and then `:`
+  -- a condition, which waits for what a true one gives
   asked : Place → Tree → Frame
-  -- a condition and what a true one gives: what a false one gives
+  -- a condition and what a true one gives, which wait for what a false one gives
   answered : Place → Tree → Tree → Frame
-  -- what is given where it is true
+  -- the left operand of `?:`, which waits for the right one
   preferred : Place → Tree → Frame
 
--- all that ends with the operand
+-- the tree, where the last operand is read
 abbrev pub ended : List Frame → Tree → Tree
 ended [] e = e
 ended (asked p c ∷ fs) e = ended fs (tree.conditional p c e empty)
 ended (answered p c a ∷ fs) e = ended fs (tree.conditional p c a e)
 ended (preferred p a ∷ fs) e = ended fs (tree.elvis p a e)
 
--- all that ends before the next `:`, at this place, and the condition that waits for it; one that no condition waits for, which no text
--- spells, is read as `?:`
+-- At a `:`, all up to the condition that waits for it is complete. A `:` that no condition waits for, which no text spells, is read as
+-- `?:`.
 abbrev pub turned : Place → List Frame → Tree → List Frame
 turned q [] e = preferred q e ∷ []
 turned q (asked p c ∷ fs) e = answered p c e ∷ fs
@@ -96,7 +96,7 @@ pub record BranchTree : Type 0 where
   pub mark : BranchOperator
   pub expr : Tree
 
--- the operands with the marks between them, in the order of the text
+-- a conditional expression, from its operands in the order of the text, each with the operator before it
 abbrev pub conditional : List Frame → Tree → List BranchTree → Tree
 conditional fs e [] = ended fs e
 conditional fs e (x ∷ xs) = conditional (framed x.place x.mark fs e) x.expr xs

@@ -11,7 +11,7 @@ use crate::list_copies::{
     copy_args, copy_arms, copy_branches, copy_exprs, copy_labels, copy_operands, copy_pairs,
     copy_pieces, copy_postfixes, copy_stmts,
 };
-use crate::name_copies::{copy_marks, copy_name, copy_names, copy_params};
+use crate::name_copies::{copy_name, copy_names, copy_params, copy_prefixes};
 use nf_value::Mem;
 use std::alloc::Global;
 
@@ -57,9 +57,9 @@ impl Expr {
             Expr::List(place, items) => Ok(Expr::List(*place, copy_exprs(items, alloc)?)),
             Expr::Map(place, pairs) => Ok(Expr::Map(*place, copy_pairs(pairs, alloc)?)),
             Expr::Closure(closure) => Ok(Expr::Closure(closure.copy(alloc)?)),
-            Expr::Prefix(marks, of) => {
+            Expr::Prefix(operators, of) => {
                 let of = of.copy(alloc)?;
-                Expr::prefix(alloc, copy_marks(marks, alloc)?, of)
+                Expr::prefix(alloc, copy_prefixes(operators, alloc)?, of)
             }
             Expr::Infix(first, rest) => {
                 let first = first.copy(alloc)?;
@@ -111,7 +111,7 @@ impl Pair {
 }
 
 impl Operand {
-    /// Another operand with the same mark, of the same tree.
+    /// Another operand with the same operator, of the same tree.
     ///
     /// # Errors
     ///
@@ -126,7 +126,7 @@ impl Operand {
 }
 
 impl Branch {
-    /// Another operand with the same mark, of the same tree.
+    /// Another operand with the same operator, of the same tree.
     ///
     /// # Errors
     ///

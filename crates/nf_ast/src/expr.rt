@@ -9,19 +9,19 @@ use nf_token::{PlainKind, TemplateKind};
 use nf_value::{Mem, Place, Txt};
 use std::alloc::Global;
 
-/// An expression (Nextflow reference documentation, "Syntax", "Expressions"; the places are this project's own). What stands on one
-/// level is a list in its node, so that an expression is never deeper than its open brackets times the levels. Contracts see its
-/// `Tree`, by `view`.
+/// An expression (Nextflow reference documentation, "Syntax", "Expressions"; the places own). Operands of one level stand in one list in
+/// one node: `a + b - c` is `a` with two operands. So an expression is never deeper than its open brackets times the levels. Contracts
+/// see its `Tree`, by `view`.
 #[cycle(tree)]
 #[derive(Drop)]
 pub enum Expr {
-    /// A number of 64 signed bits, with the place of its first digit.
+    /// A signed number of 64 bits, with the place of its first digit.
     Number(Place, i64),
-    /// A plain string, with the place of its opening mark, its kind, and the text that it stands for.
+    /// A plain string, with the place of its opening quote, its kind, and the text that it stands for.
     Text(Place, PlainKind, Txt),
     /// A pattern, with the place of its `~`.
     Pattern(Place, Txt),
-    /// A template, with the place of its opening mark, its kind, and its texts and holes.
+    /// A template, with the place of its opening quote, its kind, and its texts and holes.
     Template(Place, TemplateKind, Vec<Fragment>),
     /// `true` or `false`.
     Truth(Place, bool),
@@ -35,14 +35,14 @@ pub enum Expr {
     Map(Place, Vec<Pair>),
     /// A closure.
     Closure(ClosureExpr),
-    /// Marks before an operand, the outermost first.
+    /// Operators before an operand, the outermost first.
     Prefix(Vec<Prefix>, Box<Expr>),
-    /// Operands of one level with the marks between them.
+    /// Operands of one level, each after the first with the operator before it.
     Infix(Box<Expr>, Vec<Operand>),
-    /// `c ? a : b`, `a ?: b`, and what is nested in them without brackets: the operands with the marks between them, in the order of
-    /// the text.
+    /// `c ? a : b`, `a ?: b`, and what is nested in them without brackets: all their operands in the order of the text, each after the
+    /// first with the operator before it.
     Conditional(Box<Expr>, Vec<Branch>),
-    /// What is read of an expression or called on it, one after another.
+    /// An expression with the parts after it, as `.name`, `[i]` and `(x)`, in the order of the text.
     Postfix(Box<Expr>, Vec<Postfix>),
 }
 
@@ -77,40 +77,40 @@ pub enum Key {
     Template(Place, TemplateKind, Option<(Place, Txt)>),
 }
 
-/// A mark before an operand.
+/// An operator before an operand.
 #[derive(Drop, Clone, Copy)]
 pub struct Prefix {
-    /// Where it stands.
+    /// The place of the operator.
     pub place: Place,
-    /// The mark.
+    /// The operator.
     pub mark: PrefixOperator,
 }
 
-/// An operand with the mark before it.
+/// An operand with the operator before it.
 #[cycle(tree)]
 #[derive(Drop)]
 pub struct Operand {
-    /// The place of the mark.
+    /// The place of the operator.
     pub place: Place,
-    /// The mark.
+    /// The operator.
     pub mark: InfixOperator,
     /// The operand.
     pub expr: Expr,
 }
 
-/// An operand of a conditional expression with the mark before it.
+/// An operand of a conditional expression with the operator before it.
 #[cycle(tree)]
 #[derive(Drop)]
 pub struct Branch {
-    /// The place of the mark.
+    /// The place of the operator.
     pub place: Place,
-    /// The mark.
+    /// The operator.
     pub mark: BranchOperator,
     /// The operand.
     pub expr: Expr,
 }
 
-/// A part that stands after an expression.
+/// A part after an expression: a property, an index, a call, or a closure that it is called with.
 #[cycle(tree)]
 #[derive(Drop)]
 pub enum Postfix {
@@ -122,7 +122,7 @@ pub enum Postfix {
     Index(Place, Expr),
     /// `(..)`, with the place of the bracket.
     Call(Place, Vec<Arg>),
-    /// A closure that the call before it takes, or that is the call's one argument.
+    /// A closure that the call before it takes, as in `f(x) { .. }`, or that is the one argument, as in `f { .. }`.
     With(ClosureExpr),
 }
 
@@ -142,13 +142,13 @@ pub struct Arg {
 pub struct ClosureExpr {
     /// The place of its `{`.
     pub place: Place,
-    /// The names before its `->`, with their places; `None` where there is no arrow, so that it has `it`.
+    /// The names before its `->`, with their places. `None` where it has no arrow: its parameter is then `it`.
     pub params: Option<Vec<(Place, Txt)>>,
     /// Its statements or labels.
     pub body: ClosureBody,
 }
 
-/// What a closure does.
+/// What stands in a closure.
 #[cycle(tree)]
 #[derive(Drop)]
 pub enum ClosureBody {
@@ -205,7 +205,7 @@ pub struct Arm {
 }
 
 impl Expr {
-    /// Operands of one band with the marks between them. Takes memory for one node.
+    /// Operands of one level. Takes memory for one node.
     ///
     /// # Errors
     ///
@@ -217,7 +217,7 @@ impl Expr {
         Ok(Expr::Infix(first, rest))
     }
 
-    /// A conditional expression: its operands with the marks between them, in the order of the text. Takes memory for one node.
+    /// A conditional expression, its operands in the order of the text. Takes memory for one node.
     ///
     /// # Errors
     ///
@@ -229,7 +229,7 @@ impl Expr {
         Ok(Expr::Conditional(first, rest))
     }
 
-    /// An expression and what is read of it or called on it. Takes memory for one node.
+    /// An expression with the parts after it. Takes memory for one node.
     ///
     /// # Errors
     ///
@@ -241,16 +241,16 @@ impl Expr {
         Ok(Expr::Postfix(first, rest))
     }
 
-    /// Marks before an operand, the outermost first. Takes memory for one node.
+    /// Operators before an operand, the outermost first. Takes memory for one node.
     ///
     /// # Errors
     ///
     /// `Mem` where there is no memory for the node.
-    pub fn prefix(alloc: Global, marks: Vec<Prefix>, of: Expr) -> Result<Expr, Mem>
-        ensures { IfOk result (λ e. view e ≡ prefixes marks.items (view of)) }
+    pub fn prefix(alloc: Global, operators: Vec<Prefix>, of: Expr) -> Result<Expr, Mem>
+        ensures { IfOk result (λ e. view e ≡ prefixes operators.items (view of)) }
     {
         let of = Box::new(alloc, of)?;
-        Ok(Expr::Prefix(marks, of))
+        Ok(Expr::Prefix(operators, of))
     }
 
     /// A list. Takes no memory.
@@ -262,7 +262,7 @@ impl Expr {
 }
 
 impl Operand {
-    /// An operand with the mark before it. Takes no memory.
+    /// An operand with the operator before it. Takes no memory.
     pub fn new(place: Place, mark: InfixOperator, expr: Expr) -> Operand
         ensures { view_operand result ≡ tree.binary place mark tree.empty (view expr) }
     {
@@ -287,7 +287,7 @@ impl Expr {
         Expr::Number(place, value)
     }
 
-    /// A plain string, whose opening mark stands at `place`. Takes no memory.
+    /// A plain string, whose opening quote stands at `place`. Takes no memory.
     pub fn text(place: Place, kind: PlainKind, text: Txt) -> Expr
         ensures { view result ≡ tree.text place kind text }
     {
@@ -301,7 +301,7 @@ impl Expr {
         Expr::Pattern(place, text)
     }
 
-    /// A template, whose opening mark stands at `place`. Takes no memory.
+    /// A template, whose opening quote stands at `place`. Takes no memory.
     pub fn template(place: Place, kind: TemplateKind, parts: Vec<Fragment>) -> Expr
         ensures { view result ≡ tree.template place kind (trees (map view_piece parts.items)) }
     {
@@ -370,7 +370,7 @@ impl Pair {
 }
 
 impl Branch {
-    /// An operand with the mark before it. Takes no memory.
+    /// An operand with the operator before it. Takes no memory.
     pub fn new(place: Place, mark: BranchOperator, expr: Expr) -> Branch
         ensures { view_branch result ≡ record { place = place; mark = mark; expr = view expr } }
     {

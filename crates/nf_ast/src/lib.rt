@@ -1,4 +1,4 @@
-//! The tree of a script.
+//! The tree of a script, and how contracts see it.
 #![tactic(auto)]
 
 mod copies;

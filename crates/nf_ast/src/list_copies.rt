@@ -43,7 +43,7 @@ pub(crate) fn copy_pairs(pairs: &[Pair], alloc: Global) -> Result<Vec<Pair>, Mem
     Ok(copies)
 }
 
-/// Other operands with the same marks, of the same trees.
+/// Other operands with the same operators, of the same trees.
 #[cycle(copy)]
 pub(crate) fn copy_operands(operands: &[Operand], alloc: Global) -> Result<Vec<Operand>, Mem>
     ensures { IfOk result (λ v. map view_operand v.items ≡ map view_operand operands.now) }
@@ -55,7 +55,7 @@ pub(crate) fn copy_operands(operands: &[Operand], alloc: Global) -> Result<Vec<O
     Ok(copies)
 }
 
-/// Other operands of a conditional with the same marks, of the same trees.
+/// Other operands of a conditional with the same operators, of the same trees.
 #[cycle(copy)]
 pub(crate) fn copy_branches(branches: &[Branch], alloc: Global) -> Result<Vec<Branch>, Mem>
     ensures { IfOk result (λ v. map view_branch v.items ≡ map view_branch branches.now) }

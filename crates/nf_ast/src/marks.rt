@@ -1,6 +1,6 @@
-//! The marks of expressions.
+//! The operators of expressions.
 
-/// The mark between two operands (Nextflow reference documentation, "Syntax", "Binary expressions").
+/// An operator between two operands (Nextflow reference documentation, "Syntax", "Binary expressions").
 #[derive(Debug, Clone, Copy, PartialEq, Eq)]
 pub enum InfixOperator {
     /// `||`
@@ -37,7 +37,7 @@ pub enum InfixOperator {
     Remainder,
 }
 
-/// A mark before an operand (Nextflow reference documentation, "Syntax", "Unary expressions").
+/// An operator before an operand (Nextflow reference documentation, "Syntax", "Unary expressions").
 #[derive(Debug, Clone, Copy, PartialEq, Eq)]
 pub enum PrefixOperator {
     /// `!`
@@ -46,13 +46,13 @@ pub enum PrefixOperator {
     Minus,
 }
 
-/// A mark of a conditional expression (Nextflow reference documentation, "Syntax", "Ternary expression").
+/// An operator of a conditional expression (Nextflow reference documentation, "Syntax", "Ternary expression").
 #[derive(Debug, Clone, Copy, PartialEq, Eq)]
 pub enum BranchOperator {
-    /// `?`: what follows is what a true condition gives.
+    /// `?`: before what a true condition gives.
     Then,
-    /// `:`: what follows is what a false condition gives.
+    /// `:`: before what a false condition gives.
     Else,
-    /// `?:`: what follows is given where what stands before isn't true.
+    /// `?:`: before what is given where the operand on the left isn't true.
     Elvis,
 }

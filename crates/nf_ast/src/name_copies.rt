@@ -1,4 +1,4 @@
-//! Copies of names and marks, which hold no expression.
+//! Copies of names and prefix operators, which hold no expression.
 
 ghost use Rattle.std.specs.Prelude.{◌≡◌, IfOk, option_map};
 
@@ -40,13 +40,13 @@ pub(crate) fn copy_params(
     }
 }
 
-/// Equal marks.
-pub(crate) fn copy_marks(marks: &[Prefix], alloc: Global) -> Result<Vec<Prefix>, Mem>
-    ensures { IfOk result (λ v. v.items ≡ marks.now) }
+/// The same operators.
+pub(crate) fn copy_prefixes(prefixes: &[Prefix], alloc: Global) -> Result<Vec<Prefix>, Mem>
+    ensures { IfOk result (λ v. v.items ≡ prefixes.now) }
 {
     let mut copies = Vec::new(alloc);
-    for mark in marks {
-        copies.push(*mark)?;
+    for prefix in prefixes {
+        copies.push(*prefix)?;
     }
     Ok(copies)
 }

@@ -1,4 +1,4 @@
--- The rules of the grammar, each at a number of open brackets.
+-- The names of the grammar's rules. The first number of a rule is how many brackets are open.
 use Rattle.std.specs.Prelude.{ℕ}
 use Rattle.nf_value.specs.declared.place.Place.{Place}
 use Rattle.nf_token.specs.declared.token.Lexeme.{Lexeme}
@@ -7,22 +7,24 @@ use Rattle.nf_exprs.specs.declared.band.Band.{Band}
 use Rattle.nf_ast.specs.Tree.{Tree}
 
 pub data Level : Type 0 where
-  -- expressions: how many `?` and `?:` stand round them, or prefix operators before them
+  -- expressions, and how many `?` and `?:` stand round them
   Expr : ℕ → ℕ → Level
   -- operands of one band with their operators
   Operands : ℕ → Band → Level
+  -- a chain with its prefix operators, and how many others stand before
   Pre : ℕ → ℕ → Level
+  -- a chain, and what it begins with
   Post : ℕ → Level
   Prim : ℕ → Level
   Args : ℕ → Level
   Arg : ℕ → Level
   Pair : ℕ → Level
-  -- after its `{`, which stands there
+  -- a closure after its `{`, which stands at the place
   Closure : ℕ → Place → Level
   -- statements
   Body : ℕ → Level
   Stmt : ℕ → Level
-  -- how many arms stand before
+  -- an `if`, and how many arms it has so far
   Choice : ℕ → ℕ → Level
   -- tops
   Script : Level

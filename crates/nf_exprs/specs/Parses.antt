@@ -1,4 +1,4 @@
--- What a function of the parser answers.
+-- What the functions of the parser promise.
 use Rattle.std.specs.Prelude.{◌≡◌, ℕ, Bool, true, List, ◌∷◌, length, Some, Result, Ok, Err, if◌then◌else◌}
 use Rattle.nf_token.specs.declared.token.Lexeme.{Lexeme}
 use Rattle.nf_grammar.specs.Gram.{gives, ◌>>=◌}
@@ -27,41 +27,41 @@ Fails g ts Mem = Unit {0}
 Fails g ts (Unexpected left) = Outcome g ts (unexpected left)
 Fails g ts (TooDeep left) = Outcome g ts (too_deep left)
 
--- the tree and the rest that the part spells, and how it ends otherwise; a reading stands before so many tokens, and none further on
+-- `Ok`: the part spells this tree before this rest, and the farthest reading stands where so many tokens are left. `Err`: how it ends
 abbrev pub ParsesTo : {X : Type 0} → (List Lexeme → ℕ) → (X → Tree) → (X → List Lexeme) → Gram → List Lexeme → Result X Fault → Type 0
 ParsesTo left tree rest g ts (Ok x) = Outcome g ts (got (tree x) (rest x) (left (rest x)))
 ParsesTo left tree rest g ts (Err e) = Fails g ts e
 
--- where no reading stands further on than the rest
+-- no reading stands further on than the rest
 abbrev pub Parses : {X : Type 0} → (X → Tree) → (X → List Lexeme) → Gram → List Lexeme → Result X Fault → Type 0
 Parses = ParsesTo length
 
--- where a part that ends before a name with a colon would go on with the name
+-- how many tokens are left where the farthest reading of a part stands that could go on with a name before a colon
 abbrev pub past_label : List Lexeme → ℕ
 past_label ts = if labels ts then length (after ts) else length ts
 
--- the same of a part that ends before a label
+-- the same for a part that may end before a label
 abbrev pub ParsesToLabel : {X : Type 0} → (X → Tree) → (X → List Lexeme) → Gram → List Lexeme → Result X Fault → Type 0
 ParsesToLabel = ParsesTo past_label
 
--- the same of a part that isn't whole without what must come after it
+-- the same for a part that must be followed by k: however k ends on the rest, both end so
 abbrev pub ParsesThen : {X : Type 0} → (X → Tree) → (X → List Lexeme) → Gram → Gram → List Lexeme → Result X Fault → Type 0
 ParsesThen tree rest k g ts (Ok x) = (o : Out Lexeme Tree) → Outcome (k >>= λ s. gives (tree x)) (rest x) o → Outcome (g >>= λ a. k >>= λ s. gives a) ts o
 ParsesThen tree rest k g ts (Err e) = Fails (g >>= λ a. k >>= λ s. gives a) ts e
 
--- an arm that nothing follows
+-- an arm without an `else`
 abbrev pub arm_tree : ArmTree → Tree
 arm_tree a = tree.choice a.place a.condition (tree.statements a.body) tree.empty
 
--- one token of a kind, and the rest
+-- the tokens are one of this kind, which stands for v, and the rest
 abbrev pub Takes : Kind → List Lexeme → Tree → List Lexeme → Type 0
 Takes p ts v rest = (x : Lexeme) × (p x ≡ Some v) × (ts ≡ x ∷ rest)
 
--- two tokens, of which the first stands for something, and the rest
+-- the tokens are two of these kinds, of which the first stands for v, and the rest
 abbrev pub TakesTwo : Kind → Kind → List Lexeme → Tree → List Lexeme → Type 0
 TakesTwo p q ts v rest = (x : Lexeme) × (y : Lexeme) × (w : Tree) × (p x ≡ Some v) × (q y ≡ Some w) × (ts ≡ x ∷ y ∷ rest)
 
--- a label comes, with so many tokens from its colon on
+-- a label comes next, with so many tokens from its colon on
 abbrev pub LabelAt : List Lexeme → ℕ → Type 0
 LabelAt ts n = (labels ts ≡ true) × (n ≡ length (after ts))
 

@@ -1,4 +1,4 @@
--- The expression with which tokens begin, and where they go wrong.
+-- The expression that tokens begin with, and where they go wrong.
 use Rattle.std.specs.Prelude.{◌≡◌, ◌≤◌, List, [], ◌∷◌, length}
 use Rattle.nf_value.specs.declared.place.Place.{Place}
 use Rattle.nf_token.specs.declared.token.Lexeme.{Lexeme}
@@ -14,7 +14,7 @@ use Rattle.nf_exprs.specs.Rules.{rules}
 abbrev pub Reads : List Lexeme → Tree → List Lexeme → Type 0
 Reads ts v rest = grammar.Reads rules (rule (Expr 0 0)) ts v rest
 
--- a reading of an expression has read the tokens before the rest
+-- a reading of an expression reaches the rest
 abbrev pub Stands : List Lexeme → List Lexeme → Type 0
 Stands ts rest = grammar.Stands rules (rule (Expr 0 0)) ts rest
 
@@ -22,18 +22,18 @@ Stands ts rest = grammar.Stands rules (rule (Expr 0 0)) ts rest
 abbrev pub Passes : List Lexeme → List Lexeme → Type 0
 Passes ts rest = grammar.Deep rules (rule (Expr 0 0)) ts rest
 
--- the tokens before the rest spell this expression, no other front spells one, and no reading passes a limit
+-- the tokens before the rest spell this expression, no other front of the tokens spells one, and no reading passes a limit
 pub record IsExpr (ts : List Lexeme) (v : Tree) (rest : List Lexeme) : Type 0 where
   pub reads : Reads ts v rest
   pub only : (w : Tree) (r : List Lexeme) → Reads ts w r → (w ≡ v) × (r ≡ rest)
   pub shallow : (r : List Lexeme) → Passes ts r → ⊥
 
--- the place of the first of these tokens, or of the text's end
+-- the place of the first of these tokens, or of the script's end
 abbrev pub first_place : Place → List Lexeme → Place
 first_place end [] = end
 first_place end (x ∷ xs) = x.place
 
--- no front spells an expression, no reading passes a limit, and this is the farthest place where a reading stands
+-- no front of the tokens spells an expression, no reading passes a limit, and this is the farthest place that one reaches
 pub record IsUnexpected (ts : List Lexeme) (end p : Place) : Type 0 where
   pub none : (v : Tree) (r : List Lexeme) → Reads ts v r → ⊥
   pub shallow : (r : List Lexeme) → Passes ts r → ⊥

@@ -1,4 +1,4 @@
--- The tokens that stand for something, and tests on the tokens that come.
+-- Kinds of tokens, with the tree that a token of each stands for; and tests on the next tokens.
 use Rattle.std.specs.Prelude.{ℕ, ℤ, pos, Bool, true, false, not, ◌||◌, ◌&&◌, List, [], ◌∷◌, Option, Some, None, codes, bytes_eq, if◌then◌else◌}
 use Rattle.std.specs.Ordering.{int_eq}
 use Rattle.nf_value.specs.declared.place.Place.{Place}
@@ -20,7 +20,7 @@ use Rattle.nf_exprs.specs.declared.band.Band.{Band}
 use Rattle.nf_exprs.specs.declared.band.Band.TheVariants as band
 use Rattle.nf_ast.specs.Tree.{Tree, empty, point, name, number, text, pattern, piece, truth, null, template, prefix, binary}
 
--- a kind of token: what a token of it stands for, where it stands
+-- a kind of token: the tree of a token that is of it
 abbrev pub Kind : Type 0
 Kind = Lexeme → Option Tree
 
@@ -186,7 +186,7 @@ prefix_operator_at _ p = None
 abbrev pub prefix_operator : Kind
 prefix_operator = at_place prefix_operator_at
 
--- ---- tests on what comes
+-- ---- tests on the next tokens
 
 abbrev pub starts_at : Token → Bool
 starts_at (t.Name n) = true
@@ -233,11 +233,11 @@ after (x ∷ xs) = xs
 abbrev pub colon : Kind
 colon = mark_of m.Colon
 
--- a name that a colon follows
+-- a name with a colon after it
 abbrev pub labels : List Lexeme → Bool
 labels ts = is_next name_of ts && is_next colon (after ts)
 
--- no statement begins here, or a name that a colon follows
+-- no statement begins here, or a label does
 abbrev pub body_ends : List Lexeme → Bool
 body_ends ts = not (on_first stmt_starts_at ts) || labels ts
 
@@ -269,7 +269,7 @@ outputs_end ts = no_next (mark_of m.Comma) ts || labels (after ts)
 abbrev pub no_option : List Lexeme → Bool
 no_option ts = no_next (mark_of m.Comma) ts && no_next name_of ts
 
--- names with commas between them, and then an arrow: from a name on, or from what comes after one
+-- names with commas between them, and then an arrow; `true` where a name is due, `false` after one
 abbrev pub params_from : Bool → List Lexeme → Bool
 params_from due [] = false
 params_from true (x ∷ ts) = is_next name_of (x ∷ ts) && params_from false ts
@@ -290,13 +290,13 @@ prints ts = is_next (word_of (codes "println")) ts && starts (after ts)
 abbrev pub logs : List Lexeme → Bool
 logs ts = is_next (word_of (codes "log")) ts && (is_next (mark_of m.Dot) (after ts) && (is_next name_of (after (after ts)) && starts (after (after (after ts)))))
 
--- ---- what a reader looks at before it decides
+-- ---- what the parser looks at before it decides
 
--- an arrow, or a name that an arrow or a comma follows
+-- an arrow, or a name with an arrow or a comma after it
 abbrev pub begins_params : List Lexeme → Bool
 begins_params ts = is_next (mark_of m.Arrow) ts || (is_next name_of ts && (is_next (mark_of m.Arrow) (after ts) || is_next (mark_of m.Comma) (after ts)))
 
--- a name that an equals sign follows
+-- a name with an equals sign after it
 abbrev pub assigns : List Lexeme → Bool
 assigns ts = is_next name_of ts && is_next (mark_of m.Equals) (after ts)
 
@@ -307,6 +307,6 @@ closes_template ts = is_next close_template ts && is_next colon (after ts)
 abbrev pub closes_plain : List Lexeme → Bool
 closes_plain ts = if is_next template_text ts then closes_template (after ts) else closes_template ts
 
--- a key of a pair, and a colon
+-- the key of a pair, and a colon
 abbrev pub pair_next : List Lexeme → Bool
 pair_next ts = ((is_next name_of ts || is_next plain ts) && is_next colon (after ts)) || (is_next open_template ts && closes_plain (after ts))

@@ -1,4 +1,4 @@
-//! Reading closures.
+//! Parses closures.
 
 ghost use Rattle.std.specs.Prelude.{◌≤◌, ◌<◌, length, map, IfOk, Some, option_map};
 ghost use Rattle.nf_grammar.specs.Gram.{rule};
@@ -44,7 +44,7 @@ fn params(alloc: Global, tokens: &[Lexeme]) -> Result<(Vec<(Place, Txt)>, &[Lexe
     Ok((names, rest))
 }
 
-/// Names with commas between them, or none where no name comes.
+/// Names with commas between them; none where no name comes.
 pub fn maybe_names(
     alloc: Global,
     tokens: &[Lexeme],
@@ -120,7 +120,7 @@ fn labels(alloc: Global, depth: u32, tokens: &[Lexeme]) -> Result<(Vec<Label>, &
     Ok((all, rest))
 }
 
-/// A label with its expression, and a separator.
+/// A label with its expression and a separator.
 #[cycle(parser)]
 fn separated_label(
     alloc: Global,

@@ -1,4 +1,4 @@
-//! Tokens that must come.
+//! Takes a token that must come next, or answers a fault.
 
 ghost use Rattle.std.specs.Prelude.{length, IfOk, ◌<◌, ◌≤◌, List};
 ghost use Rattle.nf_token.specs.declared.token.Lexeme as lexeme;
@@ -17,10 +17,10 @@ use crate::peek;
 use nf_token::{Keyword, Lexeme, Mark};
 use nf_value::{Place, Txt};
 
-/// How many brackets may be open at once (own).
+/// The most brackets that may be open at once (own).
 pub const MOST_OPEN: u32 = 64;
 
-/// How many parts a chain may have (own).
+/// The most parts of a chain (own).
 pub const MOST_PARTS: u32 = 256;
 
 /// The mark.
@@ -71,7 +71,7 @@ pub fn close_template(tokens: &[Lexeme]) -> Result<(Place, &[Lexeme]), Fault>
     peek::close_template(tokens).ok_or(Fault::Unexpected(tokens.len()))
 }
 
-/// A bracket, where so many are open.
+/// A bracket that opens, where `depth` are open. `TooDeep` where that is the most.
 pub fn opens(tokens: &[Lexeme], depth: u32, bracket: Mark) -> Result<(Place, &[Lexeme]), Fault>
     ensures parses { Parses (λ x. point x.0) (λ x. x.1.now) (row.opens depth bracket) tokens.now result }
     ensures shorter { IfOk result (λ x. length x.1.now < length tokens.now) }
@@ -86,7 +86,7 @@ pub fn opens(tokens: &[Lexeme], depth: u32, bracket: Mark) -> Result<(Place, &[L
     Ok((place, rest))
 }
 
-/// The opening of a hole, where so many brackets are open.
+/// The opening of a hole, where `depth` brackets are open. `TooDeep` where that is the most.
 pub fn open_hole(tokens: &[Lexeme], depth: u32) -> Result<(Place, &[Lexeme]), Fault>
     ensures parses { Parses (λ x. point x.0) (λ x. x.1.now) (row.opens_hole depth) tokens.now result }
     ensures shorter { IfOk result (λ x. length x.1.now < length tokens.now) }
@@ -101,7 +101,7 @@ pub fn open_hole(tokens: &[Lexeme], depth: u32) -> Result<(Place, &[Lexeme]), Fa
     Ok((place, rest))
 }
 
-/// What stands after a separator, or here where none comes.
+/// The tokens after a separator that may come.
 pub fn past_separator(tokens: &[Lexeme]) -> &[Lexeme]
     ensures parses { Outcome row.past_separator tokens.now (got empty result.now (length result.now)) }
     ensures shorter { length result.now ≤ length tokens.now }
@@ -112,7 +112,7 @@ pub fn past_separator(tokens: &[Lexeme]) -> &[Lexeme]
     }
 }
 
-/// A separator, or nothing before `}` or at the end.
+/// A separator; none before `}` or at the end.
 pub fn sep(tokens: &[Lexeme]) -> Result<&[Lexeme], Fault>
     ensures parses { Parses (λ x. empty) (λ x. x.now) row.sep tokens.now result }
     ensures shorter { IfOk result (λ x. length x.now ≤ length tokens.now) }
@@ -136,7 +136,7 @@ pub fn closes(tokens: &[Lexeme]) -> Result<&[Lexeme], Fault>
     Ok(rest)
 }
 
-/// The `}` after statements: a name that a colon follows would begin one, which ends at the colon.
+/// The `}` after statements. A name with a colon after it goes wrong at the colon, since the name alone could begin a statement.
 pub fn closes_body(tokens: &[Lexeme]) -> Result<&[Lexeme], Fault>
     ensures parses { (g : Gram) → (us : List lexeme.Lexeme) → (v : Tree) → Outcome g us (got v tokens.now (past_label tokens.now)) → Parses (λ x. v) (λ x. x.now) (bind g (λ a. bind row.closes (λ c. gives a))) us result }
     ensures shorter { IfOk result (λ x. length x.now < length tokens.now) }

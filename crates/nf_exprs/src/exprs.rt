@@ -1,4 +1,4 @@
-//! Reading expressions: conditionals, operands and the operators before them.
+//! Parses expressions by their operators: conditionals, then each band from the loosest on, then prefixes.
 
 ghost use Rattle.std.specs.Prelude.{◌≡◌, ◌≤◌, ◌<◌, true, false, length, map, IfOk, []};
 ghost use Rattle.nf_grammar.specs.Gram.{rule};

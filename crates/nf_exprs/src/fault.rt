@@ -1,4 +1,4 @@
-//! Why a script can't be read.
+//! Why tokens can't be parsed.
 
 ghost use Rattle.nf_exprs.specs.declared.fault.Fault.TheVariants.{Mem};
 ghost use Rattle.std.specs.Prelude.{◌≡◌};
@@ -6,14 +6,14 @@ ghost use Rattle.std.specs.Prelude.{◌≡◌};
 use nf_value::Place;
 use std::alloc::{AllocError, AllocFailed};
 
-/// Why a part can't be read: so many tokens are left where it goes wrong or passes a limit, or want of memory.
+/// Why a part can't be parsed. A place is told by the number of tokens that are left there.
 #[derive(Debug, Clone, Copy, PartialEq, Eq)]
 pub enum Fault {
-    /// So many tokens are left at the farthest place where a reading stands.
+    /// The farthest place that a reading reaches: the next token can't follow.
     Unexpected(usize),
-    /// So many tokens are left at the first place where a reading passes a limit.
+    /// The first place where a reading passes a limit.
     TooDeep(usize),
-    /// Memory that was asked for wasn't there.
+    /// There was no memory for the tree.
     Mem,
 }
 
@@ -41,19 +41,19 @@ impl<T: Drop> From<AllocFailed<T>> for Fault {
     }
 }
 
-/// Why tokens can't be read (own).
+/// Why tokens can't be parsed (own).
 #[derive(Debug, Clone, Copy, PartialEq, Eq)]
 pub enum ParseFault {
-    /// The farthest place up to which the tokens can be read: that of the first token that can't follow, or of the text's end.
+    /// The tokens can be read up to here, and no further.
     Unexpected {
-        /// The place of that token, or of the text's end.
+        /// The place of the first token that can't follow, or of the script's end.
         place: Place,
     },
-    /// The earliest place at which a reading passes a limit.
+    /// A reading passes a limit, and none does before.
     TooDeep {
         /// The place of the first token past the limit.
         place: Place,
     },
-    /// Memory that was asked for wasn't there.
+    /// There was no memory for the tree.
     Mem,
 }

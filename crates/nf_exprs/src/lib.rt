@@ -1,4 +1,4 @@
-//! Reading expressions, closures and statements: the tree that tokens spell, or the one place where they spell none.
+//! Parses expressions, closures and statements: gives the tree that tokens spell, or the one place where they go wrong.
 #![tactic(auto)]
 
 mod band;

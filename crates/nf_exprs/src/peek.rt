@@ -1,4 +1,4 @@
-//! The token that comes, and the tokens after it.
+//! Looks at the next tokens: what they are, and the tokens after them.
 
 ghost use Rattle.std.specs.Prelude.{◌≡◌, true, false, not, length, MatchOption, Some, IfOk, option_map};
 ghost use Rattle.nf_grammar.specs.Parts.{no_next};
@@ -248,7 +248,7 @@ pub fn prefix(tokens: &[Lexeme]) -> Option<(Place, PrefixOperator, &[Lexeme])>
     }
 }
 
-/// Whether an expression begins here.
+/// Whether the next token begins an expression.
 pub fn starts(tokens: &[Lexeme]) -> bool
     ensures { result ≡ kind.starts tokens.now }
 {
@@ -275,14 +275,14 @@ fn starts_at(token: &Token) -> bool
     }
 }
 
-/// Whether a `}` comes, or no token.
+/// Whether a `}` comes next, or no token is left.
 pub fn at_end(tokens: &[Lexeme]) -> bool
     ensures { result ≡ kind.at_end tokens.now }
 {
     tokens.is_empty() || mark(tokens, Mark::CloseBrace).is_some()
 }
 
-/// A name that a colon follows, and what stands after the colon.
+/// A name with a colon after it, and what stands after the colon.
 pub fn label(tokens: &[Lexeme]) -> Option<(Place, &Txt, &[Lexeme])>
     ensures { MatchOption result (kind.labels tokens.now ≡ false) (λ x. TakesTwo kind.name_of kind.colon tokens.now (tree.name x.0 x.1.now) x.2.now) }
 {
@@ -291,7 +291,7 @@ pub fn label(tokens: &[Lexeme]) -> Option<(Place, &Txt, &[Lexeme])>
     Some((place, name, rest))
 }
 
-/// How many tokens are left at the colon of a label that comes.
+/// Where a name and a colon come next: the number of tokens from the colon on.
 pub fn past_label(tokens: &[Lexeme]) -> Option<usize>
     ensures { MatchOption result (kind.labels tokens.now ≡ false) (λ n. LabelAt tokens.now n) }
 {
@@ -301,7 +301,7 @@ pub fn past_label(tokens: &[Lexeme]) -> Option<usize>
     Some(left)
 }
 
-/// A name that an equals sign follows, and what stands after the sign.
+/// A name with an equals sign after it, and what stands after the sign.
 pub fn assigned(tokens: &[Lexeme]) -> Option<(Place, &Txt, &[Lexeme])>
     ensures { MatchOption result (kind.assigns tokens.now ≡ false) (λ x. TakesTwo kind.name_of (kind.mark_of m.Equals) tokens.now (tree.name x.0 x.1.now) x.2.now) }
 {
@@ -310,14 +310,14 @@ pub fn assigned(tokens: &[Lexeme]) -> Option<(Place, &Txt, &[Lexeme])>
     Some((place, name, rest))
 }
 
-/// Whether a name comes.
+/// Whether a name comes next.
 pub fn is_name(tokens: &[Lexeme]) -> bool
     ensures { result ≡ kind.is_next kind.name_of tokens.now }
 {
     name(tokens).is_some()
 }
 
-/// Whether a part of a postfix chain begins here.
+/// Whether the next token begins a part of a postfix chain.
 pub fn starts_part(tokens: &[Lexeme]) -> bool
     ensures { result ≡ not (kind.no_post tokens.now) }
 {
@@ -338,7 +338,7 @@ fn starts_part_at(token: &Token) -> bool
     )
 }
 
-/// Whether a statement begins here, and no label.
+/// Whether a statement comes next, and no label.
 pub fn starts_stmt(tokens: &[Lexeme]) -> bool
     ensures { result ≡ not (kind.body_ends tokens.now) }
 {
@@ -357,7 +357,7 @@ fn starts_stmt_at(token: &Token) -> bool
     }
 }
 
-/// Whether a text or a hole of a template comes.
+/// Whether a text or a hole of a template comes next.
 pub fn starts_piece(tokens: &[Lexeme]) -> bool
     ensures { result ≡ not (row.no_part tokens.now) }
 {
@@ -381,7 +381,7 @@ pub fn branch(tokens: &[Lexeme], due: bool) -> Option<(Place, BranchOperator, &[
     Some((place, BranchOperator::Else, rest))
 }
 
-/// Whether a closure's parameters begin here: an arrow, or a name that an arrow or a comma follows.
+/// Whether a closure's parameters come next: an arrow, or a name with an arrow or a comma after it.
 pub fn begins_params(tokens: &[Lexeme]) -> bool
     ensures { result ≡ kind.begins_params tokens.now }
 {
@@ -396,7 +396,7 @@ pub fn begins_params(tokens: &[Lexeme]) -> bool
     }
 }
 
-/// Whether a `println` comes, and an expression begins after it.
+/// Whether a `println` comes next, and an expression begins after it.
 pub fn prints(tokens: &[Lexeme]) -> bool
     ensures { result ≡ kind.prints tokens.now }
 {
@@ -406,7 +406,7 @@ pub fn prints(tokens: &[Lexeme]) -> bool
     }
 }
 
-/// Whether a `log.name` comes, and an expression begins after it.
+/// Whether a `log.name` comes next, and an expression begins after it.
 pub fn logs(tokens: &[Lexeme]) -> bool
     ensures { result ≡ kind.logs tokens.now }
 {
@@ -422,7 +422,7 @@ pub fn logs(tokens: &[Lexeme]) -> bool
     }
 }
 
-/// Whether a pair of a map begins here: its key and a colon.
+/// Whether a pair of a map comes next: its key and a colon.
 pub fn starts_pair(tokens: &[Lexeme]) -> bool
     ensures { result ≡ kind.pair_next tokens.now }
 {
@@ -436,7 +436,7 @@ pub fn starts_pair(tokens: &[Lexeme]) -> bool
     }
 }
 
-/// Whether the rest of a template without a hole comes, and a colon.
+/// Whether the rest of a template without a hole comes next, and a colon.
 fn closes_plain(tokens: &[Lexeme]) -> bool
     ensures { result ≡ kind.closes_plain tokens.now }
 {
@@ -446,7 +446,7 @@ fn closes_plain(tokens: &[Lexeme]) -> bool
     }
 }
 
-/// Whether the closing of a template comes, and a colon.
+/// Whether the closing of a template comes next, and a colon.
 fn closes_template(tokens: &[Lexeme]) -> bool
     ensures { result ≡ kind.closes_template tokens.now }
 {

@@ -1,4 +1,4 @@
-//! Reading postfix chains and arguments.
+//! Parses postfix chains and arguments.
 
 ghost use Rattle.std.specs.Prelude.{◌≡◌, ℕ, ◌≤◌, ◌<◌, length, map, IfOk};
 ghost use Rattle.nf_grammar.specs.Gram.{rule};
@@ -17,7 +17,7 @@ use nf_token::{Lexeme, Mark};
 use nf_value::Mem;
 use std::alloc::Global;
 
-/// An expression and what is read of it or called on it.
+/// An expression with the parts after it, as `.name`, `[i]` and `(x)`.
 #[cycle(parser)]
 pub fn post(alloc: Global, depth: u32, tokens: &[Lexeme]) -> Result<(Expr, &[Lexeme]), Fault>
     ensures parses { Parses (λ x. view x.0) (λ x. x.1.now) (rule (level.Post depth)) tokens.now result }
@@ -120,7 +120,7 @@ fn call(alloc: Global, depth: u32, tokens: &[Lexeme]) -> Result<(Postfix, &[Lexe
     Ok((part, rest))
 }
 
-/// A closure after what it is given to.
+/// A closure after the expression that is called with it.
 #[cycle(parser)]
 fn call_with(alloc: Global, depth: u32, tokens: &[Lexeme]) -> Result<(Postfix, &[Lexeme]), Fault>
     ensures parses { (n : ℕ) → (e : Tree) → n < 256 → Parses (λ x. applied e (view_postfix x.0)) (λ x. x.1.now) (row.call_with depth n e) tokens.now result }
@@ -132,7 +132,7 @@ fn call_with(alloc: Global, depth: u32, tokens: &[Lexeme]) -> Result<(Postfix, &
     Ok((part, rest))
 }
 
-/// Arguments, or none where no expression begins.
+/// Arguments; none where no expression begins.
 #[cycle(parser)]
 pub fn maybe_args(
     alloc: Global,

@@ -1,4 +1,4 @@
-//! Reading literals, templates, lists and maps.
+//! Parses literals, templates, lists and maps.
 
 ghost use Rattle.std.specs.Prelude.{suc, ◌≤◌, ◌<◌, length, map, IfOk};
 ghost use Rattle.nf_grammar.specs.Gram.{rule};
@@ -15,7 +15,7 @@ use nf_token::{Lexeme, Mark};
 use nf_value::{Place, Txt};
 use std::alloc::Global;
 
-/// An expression that no mark ends: a literal, a template, a list, a map, a closure, or one in round brackets.
+/// An expression that stands by itself: a literal, a name, a template, a list, a map, a closure, or one in round brackets.
 #[cycle(parser)]
 pub fn prim(alloc: Global, depth: u32, tokens: &[Lexeme]) -> Result<(Expr, &[Lexeme]), Fault>
     ensures parses { Parses (λ x. view x.0) (λ x. x.1.now) (rule (level.Prim depth)) tokens.now result }
@@ -149,7 +149,7 @@ fn squared(
     Ok((list, rest))
 }
 
-/// The items of a list, or none where no expression begins.
+/// The items of a list; none where no expression begins.
 #[cycle(parser)]
 fn maybe_items(
     alloc: Global,
@@ -240,7 +240,7 @@ fn key(tokens: &[Lexeme]) -> Result<(Key, &[Lexeme]), Fault>
     Ok((Key::Template(place, kind, text), rest))
 }
 
-/// A text of a template with its place, or none where a hole or the closing comes.
+/// A text of a template with its place; none where a hole or the closing comes.
 fn maybe_text(tokens: &[Lexeme]) -> Result<(Option<(Place, Txt)>, &[Lexeme]), Fault>
     ensures parses { Parses (λ x. part_of x.0) (λ x. x.1.now) row.maybe_text tokens.now result }
     ensures shorter { IfOk result (λ x. length x.1.now ≤ length tokens.now) }

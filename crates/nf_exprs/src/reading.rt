@@ -1,4 +1,4 @@
-//! An expression in a list of tokens.
+//! Parses one expression of a list of tokens.
 
 ghost use Rattle.std.specs.Prelude.{◌≡◌, ◌-◌, ◌≤◌, IfOk, IfErr, length, drop};
 ghost use Rattle.nf_ast.specs.View.{view};
@@ -11,14 +11,14 @@ use nf_token::{Lexeme, Tokens};
 use nf_value::Place;
 use std::alloc::Global;
 
-/// The expression that begins at the token of number `at`, as far as it goes, and the number of the token after it (Nextflow reference
-/// documentation, "Syntax", "Expressions"; where a part ends is this project's own). Limits (own): 64 brackets open at once, 256 parts
-/// of a chain. Takes time that grows with the number of tokens.
+/// The one expression that begins at token number `at`, and the number of the token after it (Nextflow reference documentation,
+/// "Syntax", "Expressions"; where a part ends is this project's own). Tokens count from 0. Limits (own): 64 brackets open at once, 256
+/// parts of a chain. Takes time that grows with the number of tokens.
 ///
 /// # Errors
 ///
-/// `Unexpected` where the tokens from there on begin with no expression and no reading passes a limit, `TooDeep` where a reading passes
-/// one, each with its place; `Mem` where there is no memory for the tree.
+/// `Unexpected` where no expression begins there, `TooDeep` where one passes a limit, each with its place; `Mem` where there is no memory
+/// for the tree.
 pub fn expr(alloc: Global, tokens: &Tokens, at: usize) -> Result<(Expr, usize), ParseFault>
     ensures spelled { IfOk result (λ x. IsExpr (drop at tokens.now.0) (view x.0) (drop x.1 tokens.now.0)) }
     ensures within { IfOk result (λ x. x.1 ≤ length tokens.now.0) }
@@ -40,7 +40,7 @@ pub fn expr(alloc: Global, tokens: &Tokens, at: usize) -> Result<(Expr, usize), 
     }
 }
 
-/// The tokens from the one of number `at` on.
+/// The tokens from number `at` on.
 fn from(tokens: &[Lexeme], at: usize) -> &[Lexeme]
     ensures { result.now ≡ drop at tokens.now }
 {
@@ -51,7 +51,7 @@ fn from(tokens: &[Lexeme], at: usize) -> &[Lexeme]
     }
 }
 
-/// The number of the token before which so many are left.
+/// The number of the next token, where so many are left.
 fn number_at(tokens: &[Lexeme], left: usize) -> usize
     requires { left ≤ length tokens.now }
     ensures { result ≡ length tokens.now - left }
@@ -59,7 +59,7 @@ fn number_at(tokens: &[Lexeme], left: usize) -> usize
     tokens.len() - left
 }
 
-/// Where so many tokens are left: the place of the next, or of the text's end.
+/// The place of the next token, where so many are left, or of the script's end.
 pub fn place_at(tokens: &[Lexeme], end: Place, left: usize) -> Place
     requires { left ≤ length tokens.now }
     ensures { result ≡ first_place end (drop (length tokens.now - left) tokens.now) }

@@ -1,4 +1,4 @@
-//! Reading statements.
+//! Parses statements.
 
 ghost use Rattle.std.specs.Prelude.{◌≤◌, ◌<◌, length, map, IfOk};
 ghost use Rattle.nf_grammar.specs.Gram.{rule};
@@ -54,7 +54,7 @@ fn separated(alloc: Global, depth: u32, tokens: &[Lexeme]) -> Result<(Stmt, &[Le
     Ok((stmt, rest))
 }
 
-/// A statement, after which a separator must come.
+/// A statement without its separator.
 #[cycle(parser)]
 fn stmt(alloc: Global, depth: u32, tokens: &[Lexeme]) -> Result<(Stmt, &[Lexeme]), Fault>
     ensures parses { ParsesThen (λ x. view_stmt x.0) (λ x. x.1.now) row.sep (rule (level.Stmt depth)) tokens.now result }
@@ -160,7 +160,7 @@ pub fn logged(alloc: Global, depth: u32, tokens: &[Lexeme]) -> Result<(Stmt, &[L
     Ok((stmt, rest))
 }
 
-/// The arms of an `if`, and what stands after the last `else`.
+/// The arms of an `if`, and the statements of the last `else`.
 #[cycle(parser)]
 fn choice(alloc: Global, depth: u32, tokens: &[Lexeme]) -> Result<(Stmt, &[Lexeme]), Fault>
     ensures parses { Parses (λ x. view_stmt x.0) (λ x. x.1.now) (rule (level.Choice depth 1)) tokens.now result }

@@ -1,9 +1,10 @@
--- How reading a part ends: with one tree, or at one place.
+-- How the parsing of a part ends: with one tree, or at one place.
 use Rattle.std.specs.Prelude.{◌≡◌, ℕ, ◌≤◌, List, length}
 use Rattle.nf_grammar.specs.Gram.{Gram}
 use Rattle.nf_grammar.specs.Reads.{Reads, Stands, Deep}
 
--- a tree, the rest, and the fewest tokens left where a reading stands; or none, and the same; or a limit is passed there
+-- `got v rest left`: the tree, the tokens after it, and how many are left where the farthest reading stands; `unexpected left`: no tree,
+-- and the farthest reading stands there; `too_deep left`: a limit is passed there
 pub data Out (T V : Type 0) : Type 0 where
   got : V → List T → ℕ → Out T V
   unexpected : ℕ → Out T V
@@ -24,7 +25,7 @@ pub record Unexpected {T V L : Type 0} (rules : L → Gram T V L) (g : Gram T V 
   pub farthest : (r : List T) → Stands rules g ts r → left ≤ length r
   pub shallow : (r : List T) → Deep rules g ts r → ⊥
 
--- a reading passes a limit there, and none does before; no tree is spelled by the tokens before
+-- a reading passes a limit there, and none does before; no tree ends before
 pub record TooDeep {T V L : Type 0} (rules : L → Gram T V L) (g : Gram T V L) (ts : List T) (left : ℕ) : Type 0 where
   pub deep : (r : List T) × Deep rules g ts r × (length r ≡ left)
   pub earliest : (r : List T) → Deep rules g ts r → length r ≤ left

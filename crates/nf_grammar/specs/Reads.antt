@@ -1,4 +1,4 @@
--- What tokens spell, where a reading stands, and where one passes a limit, by the rules of a grammar.
+-- By the rules of a grammar: what tokens spell, which tokens a reading may reach, and where one passes a limit.
 use Rattle.std.specs.Prelude.{◌≡◌, ℕ, suc, Bool, true, List, ◌∷◌, Option, Some}
 use Rattle.nf_grammar.specs.Gram.{Gram, token, gives, bind, either, only_where, many, rule}
 

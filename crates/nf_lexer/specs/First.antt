@@ -1,4 +1,4 @@
--- What stands first in a text, by what is open there.
+-- What stands first in the rest of a script, by what is open there.
 use Rattle.std.specs.Prelude.{ℕ, Bool, true, false, List, [], ◌∷◌, length, nat_eq, Option, Some, None, ◌==◌, ◌&&◌, if◌then◌else◌, take_while}
 use Rattle.std.specs.List.{starts_with}
 use Rattle.std.specs.Char.{is_ascii_digit}
@@ -24,16 +24,16 @@ use Rattle.nf_lexer.specs.Escape.{escape, kept}
 
 -- ---- between tokens
 
--- the beginning of a template is a token, that of a string or pattern the start of its text
+-- the opening of a template is a token; that of a string or pattern begins its text
 abbrev pub begun : TextKind → Item
 begun (Template k) = lexed (t.OpenTemplate k)
 begun _ = written []
 
--- a string, pattern or template opens here by so many bytes
+-- a string, pattern or template opens here; its quotes have so many bytes
 abbrev pub opens : TextKind → Place → ℕ → First
 opens k place n = passes (begun k) (Enter (Text k place)) n
 
--- three quote marks or one
+-- a string or template, with three quotes or one
 abbrev pub quote : TextKind → TextKind → Place → List ℕ → First
 quote triple single place bs = if starts_with nat_eq bs (closing triple) then opens triple place 3 else opens single place 1
 
@@ -102,7 +102,7 @@ in_text k place b bs =
 
 -- ---- in a hole `$name` and in comments
 
--- a name or keyword, and each `.` before a name that is no keyword; the hole ends before all else
+-- a name or keyword, and each `.` before a name that is no keyword; before anything else the hole ends
 abbrev pub in_named_hole : ℕ → List ℕ → First
 in_named_hole b bs =
     if begins_name b then word (b ∷ bs)
@@ -138,11 +138,11 @@ abbrev pub broken_or : Option LexFault → First → First
 broken_or (Some fault) x = broken fault
 broken_or None x = x
 
--- the rule that this byte breaks with what is open, where it is a line end
+-- the rule that this byte breaks where it is a line end: a one-line string or template is open
 abbrev pub fault_at : ℕ → List Open → Option LexFault
 fault_at b o = if b == 10 then outermost line_fault o else None
 
--- at the text's end and at a line's end nothing may be open that ends there at the latest
+-- where the text or a line ends, nothing may be open that must have ended before
 unfoldable pub first : List Open → Place → List ℕ → First
 first o place [] = broken_or (outermost end_fault o) finished
 first o place (b ∷ bs) = broken_or (fault_at b o) (in_open (innermost o) o place b bs)

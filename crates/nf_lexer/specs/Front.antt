@@ -10,7 +10,8 @@ use Rattle.nf_token.specs.declared.token.PlainKind.{PlainKind}
 use Rattle.nf_lexer.specs.declared.open.Change.{Change}
 use Rattle.nf_lexer.specs.Place.{beyond}
 
--- bytes that only part tokens; a line end that may separate; bytes of a string or template; a token; the end of a string or pattern, which is a token of the bytes before
+-- In this order: bytes of no account; a line end that may separate; bytes of a string or template; a token; and the end of a string or of
+-- a pattern, whose token is made of the bytes before.
 pub data Item : Type 0 where
   silent : Item
   line_end : Item
@@ -19,7 +20,7 @@ pub data Item : Type 0 where
   string_end : PlainKind → Item
   pattern_end : Item
 
--- an item, what it opens or closes, and how many bytes it takes; the text's end; or the rule that is broken here
+-- an item, what it opens or closes, and its number of bytes; the text's end; or the rule that is broken here
 pub data First : Type 0 where
   passes : Item → Change → ℕ → First
   finished : First

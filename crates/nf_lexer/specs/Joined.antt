@@ -1,4 +1,4 @@
--- Strings, patterns and a template's texts, joined from their bytes.
+-- The bytes of strings, patterns and templates joined into their texts.
 use Rattle.std.specs.Prelude.{ℕ, List, [], ◌∷◌, ◌++◌}
 use Rattle.nf_value.specs.declared.place.Place.{Place}
 use Rattle.nf_token.specs.declared.token.Token.{Token}
@@ -12,7 +12,7 @@ use Rattle.nf_lexer.specs.Separators as s
 pub data Placed : Type 0 where
   at : Item → Place → Placed
 
--- the bytes that belong together so far, and where they begin
+-- the bytes so far of one text, and where it begins
 pub data Held : Type 0 where
   nothing : Held
   text : Place → List ℕ → Held
@@ -29,12 +29,12 @@ abbrev pub text_before : Held → List Segment → List Segment
 text_before (text start (b ∷ w)) rest = s.lexed (lexeme (t.TemplateText (b ∷ w)) start) ∷ rest
 text_before _ rest = rest
 
--- the token that all held bytes make, where they begin
+-- the token of the bytes that are held, where they begin
 abbrev pub whole : (List ℕ → Token) → Held → Place → Lexeme
 whole make nothing place = lexeme (make []) place
 whole make (text start w) place = lexeme (make w) start
 
--- the pieces of items, after what is held
+-- the segments that items make, after the bytes that are held
 abbrev pub joined : Held → List Placed → List Segment
 joined held [] = []
 joined held (at silent place ∷ v) = joined held v

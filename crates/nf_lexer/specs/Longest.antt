@@ -3,7 +3,7 @@ use Rattle.std.specs.Prelude.{◌≡◌, ℕ, ◌≤◌, List, ◌++◌, length,
 use Rattle.std.specs.List.{Contains}
 use Rattle.nf_token.specs.declared.token.Mark.{Mark}
 
--- what was found is a mark of the list that stands in front, and no shorter than this one
+-- what was found is a mark of the list with which the bytes begin, and it is no shorter than x
 pub record IsLongest (ms : List (List ℕ × Mark)) (found : Option (Mark × ℕ)) (bs : List ℕ) (x : List ℕ × Mark) : Type 0 where
   pub row : List ℕ × Mark
   pub rest : List ℕ

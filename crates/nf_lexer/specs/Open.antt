@@ -20,7 +20,7 @@ abbrev pub around : List Open → List Open
 around [] = []
 around (x ∷ o) = o
 
--- lines may end here: where the innermost is a brace, or none is open
+-- a line end may separate: the innermost is a brace, or nothing is open
 abbrev pub lets_lines_end : List Open → Bool
 lets_lines_end [] = true
 lets_lines_end (Brace ∷ o) = true
@@ -49,7 +49,7 @@ abbrev pub rather : Option LexFault → Option LexFault → Option LexFault
 rather (Some f) g = Some f
 rather None g = g
 
--- of all that is open the outermost counts
+-- the rule of the outermost that has one
 abbrev pub outermost : (Open → Option LexFault) → List Open → Option LexFault
 outermost fault [] = None
 outermost fault (x ∷ o) = rather (outermost fault o) (fault x)

@@ -4,7 +4,7 @@ use Rattle.std.specs.List.{suffix_len}
 use Rattle.nf_value.specs.declared.place.Place.{Place}
 use Rattle.nf_lexer.specs.Bytes.{is_line_feed, is_not_line_feed}
 
--- the place after a front of a text: one line more than it has line feeds, one column more than it has bytes after the last of them
+-- the place after the front of a text: its line is one more than its line feeds, its column one more than the bytes after the last of them
 unfoldable pub place_after : List ℕ → Place
 place_after front = record { line = 1 + count_by is_line_feed front; col = 1 + suffix_len is_not_line_feed front }
 

@@ -8,12 +8,12 @@ use Rattle.nf_token.specs.declared.token.Token.{Token}
 use Rattle.nf_token.specs.declared.token.Token.TheVariants as t
 use Rattle.nf_token.specs.declared.token.Lexeme.{Lexeme}
 
--- what a text is cut into: tokens, and the line ends that brackets let separate
+-- a part of a text: a token, or a line end where brackets let it separate
 pub data Segment : Type 0 where
   lexed : Lexeme → Segment
   line_end_at : Place → Segment
 
--- a line that ends after this mark goes on
+-- a line doesn't end after this mark
 abbrev pub mark_awaits_more : Mark → Bool
 mark_awaits_more m.Comma = true
 mark_awaits_more m.OpenRound = true
@@ -47,7 +47,7 @@ abbrev pub awaits_more : Token → Bool
 awaits_more (t.Mark m) = mark_awaits_more m
 awaits_more _ = false
 
--- a line that begins with this mark goes on the one before
+-- a line that begins with this mark continues the one before
 abbrev pub mark_goes_on : Mark → Bool
 mark_goes_on m.Dot = true
 mark_goes_on m.QuestionDot = true
@@ -59,13 +59,13 @@ mark_goes_on m.Elvis = true
 mark_goes_on m.DotDot = true
 mark_goes_on _ = false
 
--- and so does one that begins with `else`
+-- so does one that begins with `else`
 abbrev pub goes_on : Token → Bool
 goes_on (t.Mark m) = mark_goes_on m
 goes_on (t.Keyword k.Else) = true
 goes_on _ = false
 
--- the next token, past line ends, goes on the line before
+-- the next token, past line ends, continues the line before
 abbrev pub next_goes_on : List Segment → Bool
 next_goes_on [] = false
 next_goes_on (lexed x ∷ rest) = goes_on x.token
@@ -75,17 +75,17 @@ abbrev pub is_separator : Token → Bool
 is_separator t.Separator = true
 is_separator _ = false
 
--- the token before awaits more
+-- the line doesn't end after the last token before
 abbrev pub last_awaits_more : List Lexeme → Bool
 last_awaits_more [] = false
 last_awaits_more (x ∷ before) = awaits_more x.token
 
--- the token before is a separator
+-- the last token before is a separator
 abbrev pub is_after_separator : List Lexeme → Bool
 is_after_separator [] = false
 is_after_separator (x ∷ before) = is_separator x.token
 
--- a line end separates, between the tokens before, latest first, and the pieces that follow
+-- a line end separates, between the tokens before (latest first) and the segments after
 abbrev pub line_end_separates : List Lexeme → List Segment → Bool
 line_end_separates before rest = not (last_awaits_more before) && not (next_goes_on rest)
 
@@ -93,11 +93,11 @@ line_end_separates before rest = not (last_awaits_more before) && not (next_goes
 abbrev pub separator : Place → Lexeme
 separator place = record { token = t.Separator; place = place }
 
--- one more separator counts only where none stands before it
+-- a separator directly after another is dropped
 abbrev pub is_extra : List Lexeme → Lexeme → Bool
 is_extra before x = is_separator x.token && is_after_separator before
 
--- the tokens that the pieces are after the tokens before, latest first
+-- the tokens of these segments, after the tokens before (latest first)
 abbrev pub settled : List Lexeme → List Segment → List Lexeme
 settled before [] = []
 settled before (lexed x ∷ rest) = if is_extra before x then settled before rest else x ∷ settled (x ∷ before) rest

@@ -15,7 +15,8 @@ use Rattle.nf_lexer.specs.Open.{changed}
 use Rattle.nf_lexer.specs.Place.{place_after, place_of}
 use Rattle.nf_lexer.specs.Separators.{settled}
 
--- what the bytes that are left of a text are read as, with what is open there: items, and then the rule that is broken, if any
+-- `Reads text o bytes items fault`: with o open, the rest of the text from these bytes on is read as these items, up to its end or up to
+-- the rule that it breaks
 pub data Reads (text : List ℕ) : List Open → List ℕ → List Placed → Option LexFault → Type 0 where
   ends : {o : List Open} {bs : List ℕ} → first o (place_of text (length bs)) bs ≡ finished → Reads text o bs [] None
   breaks : {o : List Open} {bs : List ℕ} {fault : LexFault} → first o (place_of text (length bs)) bs ≡ broken fault → Reads text o bs [] (Some fault)
@@ -42,7 +43,7 @@ pub data Breaks (text : List ℕ) : LexFault → Type 0 where
   too_long : most_bytes < length text → Breaks text ScriptTooLong
   breaks_at : {fault : LexFault} {items : List Placed} → length text ≤ most_bytes → Reads text (at_start text) text items (Some fault) → Breaks text fault
 
--- a refusal is of the rule that is broken first, or for want of memory
+-- an error names the rule that is broken first, or is want of memory
 abbrev pub Refuses : List ℕ → LexFault → Type 0
 Refuses text Mem = Unit {0}
 Refuses text fault = Breaks text fault

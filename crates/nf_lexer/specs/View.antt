@@ -1,4 +1,4 @@
--- What contracts see of the reader's own types.
+-- What contracts see of the lexer's own types.
 use Rattle.std.specs.Prelude.{◌≡◌, List, [], ◌∷◌, ◌++◌, reverse, Option, Some, None, ℕ, map}
 use Rattle.std.specs.String.{string_bytes}
 use Rattle.std.specs.Char.{encode_utf8}
@@ -69,14 +69,14 @@ abbrev pub IsSummed : List Frame → Type 0
 IsSummed [] = Unit {0}
 IsSummed (f ∷ fs) = (f.line ≡ outermost line_fault (f.thing ∷ opens fs)) × (f.end ≡ outermost end_fault (f.thing ∷ opens fs)) × (f.nearest ≡ nearest (f.thing ∷ opens fs)) × IsSummed fs
 
--- ---- what comes of the pieces
+-- ---- what comes of the segments
 
 -- the line end that isn't settled yet
 abbrev pub waiting_pieces : Option Place → List Segment
 waiting_pieces None = []
 waiting_pieces (Some place) = line_end_at place ∷ []
 
--- the tokens that come of what the settler took and of these pieces
+-- the tokens of what the settler took and of these segments after it
 abbrev pub outcome : Settler → List Segment → List Lexeme
 outcome s rest = s.out.items ++ settled (reverse s.out.items) (waiting_pieces s.waiting ++ rest)
 
@@ -84,6 +84,6 @@ abbrev pub held_view : Option Holding → Held
 held_view None = nothing
 held_view (Some h) = text h.start (string_bytes h.text)
 
--- the tokens that come of what the joiner took and of these items
+-- the tokens of what the joiner took and of these items after it
 abbrev pub joined_outcome : Joiner → List Placed → List Lexeme
 joined_outcome j rest = outcome j.settler (joined (held_view j.held) rest)

@@ -1,4 +1,4 @@
-//! Between tokens: what stands first outside strings and comments.
+//! What stands first outside strings, templates and comments.
 
 ghost use Rattle.std.specs.Prelude.{◌≡◌, [], ◌∷◌};
 ghost use Rattle.nf_lexer.specs.Bytes.{is_blank as is_blank_of};
@@ -15,7 +15,7 @@ use crate::word::{begins_name, number, word};
 use nf_token::{PlainKind, TemplateKind, TextKind};
 use nf_value::Place;
 
-/// What stands first between tokens.
+/// What stands first where a token may begin.
 #[tactic(auto, unfolding(crate::specs::First::in_code))]
 pub fn in_code<'a>(
     opened: &Opened,
@@ -66,7 +66,7 @@ fn is_blank(b: u8) -> bool
     b == b' ' || b == b'\t' || b == b'\r'
 }
 
-/// A line end, which may separate only where brackets let it.
+/// A line end. Where a bracket other than `{` is innermost it is a blank.
 fn line_end<'a>(opened: &Opened) -> Front<'a>
     ensures { front_view result ≡ passes (line_item opened.now) Keep 1 }
 {
@@ -78,13 +78,14 @@ fn line_end<'a>(opened: &Opened) -> Front<'a>
     Front::Passes(part, Change::Keep, 1)
 }
 
-/// A string, pattern or template opens here by so many bytes.
+/// A string, pattern or template opens here; its quotes have so many bytes.
 fn text<'a>(kind: TextKind, place: Place, bytes: usize) -> Front<'a>
     ensures { front_view result ≡ opens kind place bytes }
 {
     Front::Passes(begun(kind), Change::Enter(Open::Text(kind, place)), bytes)
 }
 
+/// The opening of a template is a token; that of a string or pattern begins its text.
 fn begun<'a>(kind: TextKind) -> Part<'a>
     ensures { part_view result ≡ begun_of kind }
 {
@@ -94,7 +95,7 @@ fn begun<'a>(kind: TextKind) -> Part<'a>
     }
 }
 
-/// Three quote marks, or one.
+/// A string or template, with three quotes or one.
 fn quote<'a>(triple: TextKind, single: TextKind, place: Place, bytes: &'a [u8]) -> Front<'a>
     ensures { front_view result ≡ quote_of triple single place bytes.now }
 {
@@ -105,7 +106,7 @@ fn quote<'a>(triple: TextKind, single: TextKind, place: Place, bytes: &'a [u8]) 
     }
 }
 
-/// After a `/`.
+/// After a `/`: a comment, or a string `/../`.
 fn slash(place: Place, rest: &[u8]) -> Front
     ensures { front_view result ≡ slash_of place rest.now }
 {
@@ -116,7 +117,7 @@ fn slash(place: Place, rest: &[u8]) -> Front
     }
 }
 
-/// After a `~`.
+/// After a `~`: a pattern, or a byte that begins no token.
 fn tilde(place: Place, rest: &[u8]) -> Front
     ensures { front_view result ≡ tilde_of place rest.now }
 {

@@ -1,4 +1,4 @@
-//! Comments, and the holes `$name`.
+//! What stands first in comments and in holes `$name`.
 
 ghost use Rattle.std.specs.Prelude.{◌≡◌, ◌<◌, ◌≤◌, ◌+◌, ◌^◌, [], ◌∷◌, length};
 ghost use Rattle.std.specs.List.{prefix_len};
@@ -12,7 +12,7 @@ use crate::word::{begins_name, begins_property, word};
 use nf_token::Mark;
 use nf_value::Place;
 
-/// In a comment `//`, or in the first line.
+/// In a comment `//`, or in a first line that is skipped: all up to the line's end.
 pub fn in_line_comment(place: Place, bytes: &[u8]) -> Front
     requires { place.col + length bytes.now < 2 ^ 32 }
     ensures { front_view result ≡ in_line_comment_of place bytes.now }
@@ -21,7 +21,7 @@ pub fn in_line_comment(place: Place, bytes: &[u8]) -> Front
     checked(place, line, Part::Silent, Change::Leave)
 }
 
-/// How many bytes the line has.
+/// The number of bytes before the line's end.
 fn line_len(bytes: &[u8]) -> usize
     ensures is { result ≡ prefix_len is_not_line_feed bytes.now }
     ensures within { result ≤ length bytes.now }
@@ -29,7 +29,7 @@ fn line_len(bytes: &[u8]) -> usize
     bytes.iter().take_while(|b| **b != b'\n').count()
 }
 
-/// In a comment `/*`.
+/// In a comment `/*`: its end, a line end, or bytes up to the next `*` or line end.
 pub fn in_comment<'a>(place: Place, b: u8, rest: &'a [u8], bytes: &'a [u8]) -> Front<'a>
     requires whole { bytes.now ≡ b ∷ rest.now }
     requires col { place.col + length bytes.now < 2 ^ 32 }
@@ -45,7 +45,7 @@ pub fn in_comment<'a>(place: Place, b: u8, rest: &'a [u8], bytes: &'a [u8]) -> F
     }
 }
 
-/// After a `*` in a comment.
+/// After a `*` in a comment, which a `/` ends.
 fn star(rest: &[u8]) -> Front
     ensures { front_view result ≡ star_of rest.now }
 {
@@ -55,7 +55,7 @@ fn star(rest: &[u8]) -> Front
     }
 }
 
-/// How many bytes stand in front that neither end a comment nor a line.
+/// The number of bytes before the next `*` or line end.
 fn comment_len(bytes: &[u8]) -> usize
     ensures is { result ≡ prefix_len is_in_comment_of bytes.now }
     ensures within { result ≤ length bytes.now }
@@ -69,7 +69,7 @@ fn is_in_comment(b: u8) -> bool
     !(b == b'\n' || b == b'*')
 }
 
-/// In a hole `$name`.
+/// In a hole `$name`: a name or keyword, a `.` before a name, or the end of the hole.
 pub fn in_named_hole<'a>(b: u8, rest: &'a [u8], bytes: &'a [u8]) -> Front<'a>
     requires { bytes.now ≡ b ∷ rest.now }
     ensures { front_view result ≡ in_named_hole_of b rest.now }

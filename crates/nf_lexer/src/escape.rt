@@ -1,4 +1,4 @@
-//! Escapes.
+//! What an escape in a string or template stands for.
 
 ghost use Rattle.std.specs.Prelude.{◌≡◌, ◌<◌, ◌*◌, ◌+◌, [], ◌∷◌, None, MatchOption, SomeIff, IsTrue};
 ghost use Rattle.std.specs.Char.{is_ascii_hexdigit, digit_value};
@@ -10,7 +10,7 @@ use crate::front::{Bit, Front, Part, next};
 use crate::open::Change;
 use nf_value::Place;
 
-/// An escape, by what follows its backslash, which stands at this place.
+/// An escape, whose backslash stands at `place`, by the bytes after the backslash.
 pub fn escape(place: Place, rest: &[u8]) -> Front
     ensures { front_view result ≡ escape_of place rest.now }
 {
@@ -21,7 +21,7 @@ pub fn escape(place: Place, rest: &[u8]) -> Front
     }
 }
 
-/// A backslash that only `/` makes an escape, by what follows it.
+/// A backslash in `/../` or a pattern, where `\/` is the one escape, by the bytes after it.
 pub fn kept(rest: &[u8]) -> Front
     ensures { front_view result ≡ kept_of rest.now }
 {

@@ -1,4 +1,4 @@
-//! Why a text has no tokens.
+//! Why a script has no tokens.
 
 ghost use Rattle.std.specs.Prelude.{◌≡◌, Some};
 ghost use Rattle.nf_lexer.specs.Fault.{fault_text};
@@ -8,24 +8,21 @@ use nf_value::Place;
 use std::alloc::{AllocError, AllocFailed};
 use std::fmt;
 
-/// The rule of the tokens that a text breaks first, as one reads from left to right
-/// (own), or want of memory. Printed `LINE:COL: NAME`.
+/// The rule of the tokens that a script breaks first, read from left to right (own), or want of memory. Displayed as `LINE:COL: NAME`.
 #[derive(Debug, Clone, Copy, PartialEq, Eq)]
 pub enum LexFault {
-    /// A byte that isn't UTF-8, at the first byte of the broken sequence; a character
-    /// past ASCII outside strings, templates, patterns and comments; or an ASCII byte
-    /// that begins no token.
+    /// A byte that isn't UTF-8, at the first byte of the broken sequence; a character past ASCII outside strings, templates, patterns and
+    /// comments; or an ASCII byte that begins no token.
     BadByte { place: Place },
-    /// A string, pattern or template is open where its line or the text ends, at its
-    /// opening. Of several the outermost.
+    /// A string, pattern or template that is still open where its line or the script ends, at its opening. Of several the outermost.
     OpenString { place: Place },
-    /// A `/*` has no `*/`, at the `/*`, where no template is open round it.
+    /// A `/*` without its `*/`, at the `/*`. A template that is open round it is `OpenString`.
     OpenComment { place: Place },
-    /// An escape that the tokens don't have, at its backslash.
+    /// A backslash that begins no escape, at the backslash.
     BadEscape { place: Place },
     /// A number above 9223372036854775807, at its first digit.
     BigNumber { place: Place },
-    /// More than 1,048,576 bytes. Printed at 1:1.
+    /// More than 1,048,576 bytes. Displayed with the place 1:1.
     ScriptTooLong,
     /// There was no memory for the tokens.
     Mem,

@@ -1,4 +1,4 @@
-//! What stands first in a text.
+//! What stands first in the rest of a script, by what is open there.
 
 ghost use Rattle.std.specs.Prelude.{◌≡◌, ◌<◌, ◌+◌, ◌^◌, [], ◌∷◌, length, MatchOption};
 ghost use Rattle.nf_lexer.specs.declared.fault.LexFault.TheVariants.{BadByte};
@@ -16,7 +16,7 @@ use crate::quoted::in_text;
 use nf_token::{Mark, PlainKind, TemplateKind};
 use nf_value::Place;
 
-/// A token whose text isn't made yet.
+/// A token that takes no memory yet: a name or keyword is its bytes.
 #[derive(Clone, Copy)]
 pub enum Raw<'a> {
     Word(&'a str),
@@ -29,7 +29,7 @@ pub enum Raw<'a> {
     CloseHole,
 }
 
-/// Bytes of a string or template.
+/// What some bytes of a string or template stand for: nothing, themselves, or one character.
 #[derive(Clone, Copy)]
 pub enum Bit<'a> {
     Nothing,
@@ -37,7 +37,8 @@ pub enum Bit<'a> {
     Char(char),
 }
 
-/// A part of a text.
+/// What the bytes in front are: of no account, a line end that may separate, bytes of a string, a token, or the end of a string or
+/// pattern, whose token is made of the bytes before.
 #[derive(Clone, Copy)]
 pub enum Part<'a> {
     Silent,
@@ -48,7 +49,7 @@ pub enum Part<'a> {
     PatternEnd,
 }
 
-/// What stands first: a part, what it opens or closes, and how many bytes it takes.
+/// What stands first: a part, what it opens or closes, and its number of bytes; the script's end; or the rule that is broken here.
 #[derive(Clone, Copy)]
 pub enum Front<'a> {
     Passes(Part<'a>, Change, usize),
@@ -56,7 +57,7 @@ pub enum Front<'a> {
     Broken(LexFault),
 }
 
-/// What stands first in these bytes, which stand at this place.
+/// What stands first in `bytes`, the rest of a script from `place` on.
 #[tactic(auto, unfolding(crate::specs::First::first))]
 pub fn first<'a>(opened: &Opened, place: Place, bytes: &'a [u8]) -> Front<'a>
     requires { place.col + length bytes.now < 2 ^ 32 }

@@ -1,4 +1,4 @@
-//! Strings, patterns and a template's texts, joined from their bytes.
+//! Joins the bytes of strings, patterns and templates into their texts.
 
 ghost use Rattle.std.specs.Prelude.{◌≡◌, [], ◌∷◌, List, None, OnOk, IfOk};
 ghost use Rattle.nf_lexer.specs.Front.{written, lexed, string_end, pattern_end};
@@ -14,14 +14,14 @@ use nf_token::{Lexeme, PlainKind, Token};
 use nf_value::{Mem, Place, Txt};
 use std::alloc::Global;
 
-/// Bytes that belong together, and where they begin.
+/// The bytes so far of a string, pattern or template's text, and where it begins.
 #[derive(Drop)]
 pub struct Holding {
     pub start: Place,
     pub text: String,
 }
 
-/// What was read so far.
+/// The tokens so far, and the text that isn't complete.
 #[derive(Drop)]
 pub struct Joiner {
     pub settler: Settler,
@@ -55,7 +55,7 @@ impl Joiner {
         }
     }
 
-    /// The tokens of all that was taken.
+    /// The tokens of all parts that it took.
     pub fn finish(self) -> Result<Vec<Lexeme>, Mem>
         ensures { IfOk result (λ v. v.items ≡ joined_outcome self []) }
     {
@@ -103,7 +103,7 @@ impl Joiner {
         })
     }
 
-    /// Takes out the bytes that are held, or begins to hold some here.
+    /// Takes out the text that is held, or an empty one that begins here.
     fn take(&mut self, alloc: Global, place: Place) -> Holding
         ensures text { text result.start (string_bytes result.text) ≡ more (held_view self.old.held) place [] }
         ensures held { self.new.held ≡ None }
@@ -118,7 +118,7 @@ impl Joiner {
         }
     }
 
-    /// A template's text ends here.
+    /// Where a template's text ends here: its token, unless it is empty.
     fn settle_text(&mut self) -> Result<(), Mem>
         ensures held { OnOk result (self.new.held ≡ None) }
         ensures outcome { OnOk result ((rest : List Segment) → outcome self.new.settler rest ≡ outcome self.old.settler (text_before (held_view self.old.held) rest)) }

@@ -1,4 +1,4 @@
-//! Laws of the definitions.
+//! Laws of what the tokens of a text are: each function does nothing, and its contract is the law.
 
 ghost use Rattle.std.specs.Prelude.{◌≡◌, ◌⊎◌, ◌<◌, ◌↔◌, ℕ, List, ◌++◌, length};
 ghost use Rattle.std.specs.List.{Contains};
@@ -13,22 +13,22 @@ ghost use Rattle.nf_lexer.specs.Mark.{mark};
 ghost use Rattle.nf_token.specs.Spellings.{marks};
 ghost use Rattle.nf_lexer.specs.Tokens.{IsTokensOf, Breaks, most_bytes};
 
-/// A text has a list of tokens and an end, or breaks a rule first.
+/// Each text has tokens or breaks a rule.
 pub fn some_answer()
     ensures { (text : List ℕ) → ((t : List Lexeme × Place) × IsTokensOf text t) ⊎ ((f : LexFault) × Breaks text f) }
 {}
 
-/// A text has at most one list of tokens, and one end.
+/// A text has at most one list of tokens and one end.
 pub fn one_list()
     ensures { (text : List ℕ) (t u : List Lexeme × Place) → IsTokensOf text t → IsTokensOf text u → t ≡ u }
 {}
 
-/// A text breaks at most one rule first, at one place.
+/// A text breaks at most one rule first, and at one place.
 pub fn one_break()
     ensures { (text : List ℕ) (f g : LexFault) → Breaks text f → Breaks text g → f ≡ g }
 {}
 
-/// A text breaks the rule of the most bytes exactly where it has more.
+/// `ScriptTooLong` is the rule broken exactly where the text has more than the most bytes.
 pub fn too_long_exactly()
     ensures { (text : List ℕ) → Breaks text ScriptTooLong ↔ most_bytes < length text }
 {}
@@ -43,7 +43,7 @@ pub fn tokens_are_utf8()
     ensures { (text : List ℕ) (t : List Lexeme × Place) → IsTokensOf text t → IsUtf8 text }
 {}
 
-/// Where marks stand in front, one of them is taken, and it is the longest.
+/// Where a text begins with a mark, the longest that it begins with is taken.
 pub fn longest_mark()
     ensures { (bs : List ℕ) (x : List ℕ × Mark) (more : List ℕ) → Contains marks x → bs ≡ x.0 ++ more → IsLongest marks (mark bs) bs x }
 {}

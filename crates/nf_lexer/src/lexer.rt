@@ -1,4 +1,4 @@
-//! The tokens of a text.
+//! The tokens of a script.
 
 ghost use Rattle.std.specs.Prelude.{◌≡◌, ◌≤◌, ◌<◌, ◌↔◌, IfOk, MatchResult, Err, length};
 ghost use Rattle.nf_lexer.specs.declared.fault.LexFault.TheVariants.{ScriptTooLong};
@@ -58,6 +58,7 @@ pub fn tokens(alloc: Global, text: &[u8]) -> Result<Tokens, LexFault>
     short_tokens(alloc, text)
 }
 
+/// The same of a script within the limit: reads from left to right what stands first, until the end or a fault.
 fn short_tokens(alloc: Global, text: &[u8]) -> Result<Tokens, LexFault>
     requires { length text.now ≤ most_bytes }
     ensures { MatchResult result (λ t. IsTokensOf text.now t) (λ e. Refuses text.now e) }
@@ -81,7 +82,7 @@ fn short_tokens(alloc: Global, text: &[u8]) -> Result<Tokens, LexFault>
     }
 }
 
-/// What is open at a text's beginning.
+/// What is open where a script begins: a first line with `#!` is a comment.
 #[tactic(auto, unfolding(crate::specs::Tokens::at_start))]
 fn at_start(alloc: Global, text: &[u8]) -> Result<Opened, Mem>
     ensures { IfOk result (λ o. o ≡ at_start_of text.now) }

@@ -1,4 +1,4 @@
-//! The tokens of a script.
+//! The lexer: the tokens of a script, or the rule of the tokens that it breaks first.
 #![tactic(auto)]
 
 mod code;

@@ -1,4 +1,4 @@
-//! Marks: of those that stand in front the longest.
+//! The longest mark in front, and what it opens or closes.
 
 ghost use Rattle.std.specs.Prelude.{◌≡◌, [], ◌∷◌, Some};
 ghost use Rattle.nf_lexer.specs.Mark.{mark as mark_of, mark_or, past, brace_token as brace_token_of, mark_token as mark_token_of, mark_change as mark_change_of, leaves_round as leaves_round_of, leaves_square as leaves_square_of, marked as marked_of};
@@ -107,7 +107,7 @@ fn mark(bytes: &[u8]) -> Option<(Mark, usize)>
     }
 }
 
-/// The mark of two bytes where its second stands in front of these, else that of one.
+/// The mark of two bytes where the second comes next, else the mark of one.
 fn one_or_two(one: Mark, second: u8, two: Mark, bytes: &[u8]) -> Option<(Mark, usize)>
     ensures { result ≡ mark_or (past (second ∷ []) bytes.now) two 2 (Some (one, 1)) }
 {

@@ -1,4 +1,4 @@
-//! What is open: brackets, holes, strings, templates and comments.
+//! What is open at a place in a script: brackets, holes, strings, templates and comments.
 
 ghost use Rattle.std.specs.Prelude.{◌≡◌, Some, None, [], ◌∷◌, reverse, OnOk, if◌then◌else◌};
 ghost use Rattle.nf_lexer.specs.Open.{innermost as innermost_of, around, lets_lines_end, is_one_line as is_one_line_of, line_fault as line_fault_of, end_fault as end_fault_of, rather as rather_of, outermost, is_brace_or_hole as is_brace_or_hole_of, nearest as nearest_of, around_nearest, after_brace, changed};
@@ -10,7 +10,7 @@ use nf_value::{Mem, Place};
 use std::alloc::Global;
 use std::marker::Model;
 
-/// Something that is open, with the place of its opening where a fault may name it.
+/// Something that is open. It keeps the place of its opening where a fault may name that.
 #[derive(Clone, Copy)]
 pub enum Open {
     Round,
@@ -23,7 +23,7 @@ pub enum Open {
     LineComment,
 }
 
-/// What a part of a text opens or closes.
+/// What the bytes in front open or close.
 #[derive(Clone, Copy)]
 pub enum Change {
     Keep,
@@ -32,9 +32,8 @@ pub enum Change {
     LeaveBrace,
 }
 
-/// Something that is open, and what is to be known of it and of all that is open
-/// round it: the rule that a line end or the text's end breaks there, and the nearest
-/// brace or hole.
+/// Something that is open, with three facts about it and all that is open round it: the rule that a line end breaks there, the rule that
+/// the script's end breaks there, and the nearest brace or hole. So no question walks down the stack.
 #[derive(Clone, Copy)]
 pub struct Frame {
     pub thing: Open,
@@ -79,7 +78,7 @@ impl Opened {
         }
     }
 
-    /// Whether lines may end here.
+    /// Whether a line end may separate here.
     pub fn let_lines_end(&self) -> bool
         ensures { result ≡ lets_lines_end self.now }
     {
@@ -96,7 +95,7 @@ impl Opened {
         }
     }
 
-    /// The rule that the text's end breaks here.
+    /// The rule that the script's end breaks here.
     pub fn end_fault(&self) -> Option<LexFault>
         ensures { result ≡ outermost end_fault_of self.now }
     {
@@ -116,7 +115,7 @@ impl Opened {
         }
     }
 
-    /// Opens and closes what the change says.
+    /// Opens or closes what the change says.
     pub fn change(&mut self, change: Change) -> Result<(), Mem>
         ensures { OnOk result (self.new ≡ changed change self.old) }
     {
@@ -157,7 +156,7 @@ impl Opened {
     }
 }
 
-/// Takes the innermost off until one was a brace or hole.
+/// Closes the nearest brace or hole and all that is open in it.
 fn leave_nearest(frames: &mut Vec<Frame>)
     requires { IsSummed (reverse frames.old.items) }
     ensures summed { IsSummed (reverse frames.new.items) }
@@ -213,7 +212,7 @@ fn is_brace_or_hole(thing: Open) -> bool
     matches!(thing, Open::Brace | Open::Hole)
 }
 
-/// The nearest brace or hole, with the one around.
+/// The nearest brace or hole: this one, or the nearest round it.
 fn nearest(thing: Open, around: Option<Open>) -> Option<Open>
     ensures { result ≡ (if is_brace_or_hole_of thing then Some thing else around) }
 {

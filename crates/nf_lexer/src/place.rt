@@ -1,4 +1,4 @@
-//! Places in a text.
+//! The place after some bytes.
 
 ghost use Rattle.std.specs.Prelude.{◌≡◌, ◌≤◌, ◌<◌, ◌+◌, ◌^◌, ℕ, List, [], ◌∷◌, ◌++◌, length};
 ghost use Rattle.nf_lexer.specs.Place.{place_after as place_after_of, beyond};
@@ -36,7 +36,7 @@ fn past_byte(place: Place, b: u8) -> Place
     }
 }
 
-/// So many bytes further on the same line.
+/// The place so many bytes further on the same line.
 pub fn further(place: Place, bytes: usize) -> Place
     requires { place.col + bytes < 2 ^ 32 }
     ensures { result ≡ beyond bytes place }

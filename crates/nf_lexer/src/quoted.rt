@@ -1,4 +1,4 @@
-//! In strings, patterns and templates.
+//! What stands first in strings, patterns and templates.
 
 ghost use Rattle.std.specs.Prelude.{◌≡◌, ◌<◌, ◌≤◌, ◌+◌, ◌^◌, [], ◌∷◌, length, take_while, if◌then◌else◌};
 ghost use Rattle.std.specs.List.{prefix_len};
@@ -18,7 +18,7 @@ use crate::word::begins_name;
 use nf_token::{PlainKind, TemplateKind, TextKind};
 use nf_value::Place;
 
-/// In a string, pattern or template of this kind.
+/// What stands first in a string, pattern or template of this kind.
 #[tactic(auto, unfolding(crate::specs::First::in_text))]
 pub fn in_text<'a>(
     kind: TextKind,
@@ -44,7 +44,7 @@ pub fn in_text<'a>(
     }
 }
 
-/// What closes such a text.
+/// The bytes that close a string, pattern or template of this kind.
 pub fn closing(kind: TextKind) -> &'static [u8]
     ensures { result.now ≡ closing_of kind }
 {
@@ -82,7 +82,7 @@ fn has_holes(kind: TextKind) -> bool
     matches!(kind, TextKind::Template(_))
 }
 
-/// After a backslash.
+/// What a backslash stands for, with the bytes after it.
 fn backslash(kind: TextKind, place: Place, rest: &[u8]) -> Front
     ensures { front_view result ≡ (if has_escapes_of kind then escape_of place rest.now else kept_of rest.now) }
 {
@@ -93,7 +93,7 @@ fn backslash(kind: TextKind, place: Place, rest: &[u8]) -> Front
     }
 }
 
-/// After a `$` in a template.
+/// After a `$` in a template: a hole `${` or `$name`, or the `$` itself.
 fn hole(rest: &[u8]) -> Front
     ensures { front_view result ≡ hole_of rest.now }
 {
@@ -116,7 +116,7 @@ fn is_special(b: u8) -> bool
     matches!(b, b'\n' | b'"' | b'$' | b'\'' | b'/' | b'\\')
 }
 
-/// An ASCII byte that stands for itself.
+/// One ASCII byte that stands for itself.
 fn itself<'a>(b: u8) -> Front<'a>
     requires { b < 128 }
     ensures { front_view result ≡ passes (written (b ∷ [])) Keep 1 }
@@ -124,7 +124,7 @@ fn itself<'a>(b: u8) -> Front<'a>
     Front::Passes(Part::Written(Bit::Char(char::from(b))), Change::Keep, 1)
 }
 
-/// Bytes that stand for themselves.
+/// All bytes up to one that may mean something else. They stand for themselves.
 fn run(place: Place, bytes: &[u8]) -> Front
     requires { place.col + length bytes.now < 2 ^ 32 }
     ensures { let w = take_while is_ordinary bytes.now in front_view result ≡ checked place w (written w) Keep }
@@ -136,7 +136,7 @@ fn run(place: Place, bytes: &[u8]) -> Front
     }
 }
 
-/// How many bytes stand in front that mean nothing else.
+/// The number of bytes up to one that may mean something else.
 fn run_len(bytes: &[u8]) -> usize
     ensures is { result ≡ prefix_len is_ordinary bytes.now }
     ensures within { result ≤ length bytes.now }

@@ -1,4 +1,4 @@
-//! Which line ends separate.
+//! Decides which line ends separate.
 
 ghost use Rattle.std.specs.Prelude.{◌≡◌, [], ◌∷◌, ◌++◌, List, None, reverse, not, ◌&&◌, OnOk, IfOk};
 ghost use Rattle.nf_lexer.specs.Separators.{Segment, lexed, line_end_at, settled, last_awaits_more as last_awaits_more_of, is_after_separator as is_after_separator_of, next_goes_on, awaits_more as awaits_more_of, mark_awaits_more as mark_awaits_more_of, goes_on as goes_on_of, mark_goes_on as mark_goes_on_of, is_separator as is_separator_of};
@@ -8,7 +8,7 @@ use nf_token::{Keyword, Lexeme, Mark, Token};
 use nf_value::{Mem, Place};
 use std::alloc::Global;
 
-/// The tokens so far, and a line end that the next token may hold back.
+/// The tokens so far, and a line end that waits for the next token, which decides whether it separates.
 #[derive(Drop)]
 pub struct Settler {
     pub out: Vec<Lexeme>,
@@ -53,7 +53,7 @@ impl Settler {
         Ok(self.out)
     }
 
-    /// Decides on the line end that waits, by whether the next token goes on.
+    /// Decides on the line end that waits: where the next token goes on with the line, it doesn't separate.
     fn settle_line_end(&mut self, goes_on: bool) -> Result<(), Mem>
         ensures settled { OnOk result (self.new.waiting ≡ None) }
         ensures outcome { OnOk result ((rest : List Segment) → next_goes_on rest ≡ goes_on → outcome self.new rest ≡ outcome self.old rest) }
@@ -69,7 +69,7 @@ impl Settler {
         Ok(())
     }
 
-    /// Whether a line end after these tokens separates, unless the next token goes on.
+    /// Whether a line end after the tokens so far separates, unless the next token goes on with the line.
     fn lets_line_end(&self) -> bool
         ensures { let before = reverse self.now.out.items in result ≡ (not (last_awaits_more_of before) && not (is_after_separator_of before)) }
     {
@@ -110,6 +110,7 @@ fn is_separator(token: &Token) -> bool
     matches!(token, Token::Separator)
 }
 
+/// Whether a line doesn't end after this token.
 fn awaits_more(token: &Token) -> bool
     ensures { result ≡ awaits_more_of token.now }
 {
@@ -153,6 +154,7 @@ fn mark_awaits_more(mark: Mark) -> bool
     )
 }
 
+/// Whether a line goes on with this token.
 fn goes_on(token: &Token) -> bool
     ensures { result ≡ goes_on_of token.now }
 {

@@ -16,7 +16,7 @@ use nf_token::{Keyword, Token};
 use nf_value::{Mem, Place, Txt};
 use std::alloc::Global;
 
-/// The greatest number.
+/// The greatest number that a script may write.
 const LIMIT: u64 = 9223372036854775807;
 
 /// The longest name or keyword in front.
@@ -27,7 +27,7 @@ pub fn word(bytes: &[u8]) -> Front
     Front::Passes(Part::Lexed(Raw::Word(word)), Change::Keep, word.len())
 }
 
-/// Whether a name stands in front that is no keyword.
+/// Whether a name stands in front, and no keyword.
 pub fn begins_property(bytes: &[u8]) -> bool
     ensures { result ≡ begins_property_of bytes.now }
 {
@@ -37,13 +37,14 @@ pub fn begins_property(bytes: &[u8]) -> bool
     }
 }
 
+/// A letter or `_`.
 pub fn begins_name(b: u8) -> bool
     ensures { result ≡ begins_name_of b }
 {
     b.is_ascii_alphabetic() || b == b'_'
 }
 
-/// The bytes of a name in front.
+/// The name or keyword in front.
 fn name(bytes: &[u8]) -> &str
     ensures { result.now ≡ take_while is_in_name_of bytes.now }
 {
@@ -70,7 +71,7 @@ pub fn number(place: Place, bytes: &[u8]) -> Front
     }
 }
 
-/// The token of a raw one.
+/// The token, with memory of its own.
 pub fn token_of(alloc: Global, raw: Raw) -> Result<Token, Mem>
     ensures { IfOk result (λ t. t ≡ raw_view raw.entry) }
 {
@@ -120,7 +121,7 @@ fn keyword(word: &[u8]) -> Option<Keyword>
     }
 }
 
-/// How many bytes of a name stand in front.
+/// The number of bytes of the name or keyword in front.
 fn name_len(bytes: &[u8]) -> usize
     ensures is { result ≡ prefix_len is_in_name_of bytes.now }
     ensures within { result ≤ length bytes.now }
@@ -134,7 +135,7 @@ fn is_in_name(b: u8) -> bool
     b.is_ascii_alphanumeric() || b == b'_'
 }
 
-/// How many digits stand in front.
+/// The number of digits in front.
 fn number_len(bytes: &[u8]) -> usize
     ensures is { result ≡ prefix_len is_ascii_digit bytes.now }
     ensures within { result ≤ length bytes.now }
@@ -142,7 +143,7 @@ fn number_len(bytes: &[u8]) -> usize
     bytes.iter().take_while(|b| b.is_ascii_digit()).count()
 }
 
-/// The number that the digits write, where it is within the limit.
+/// The number of these digits, where it is within the limit.
 fn value(digits: &[u8]) -> Option<u64>
     requires { AllPass is_ascii_digit digits.now }
     ensures { SomeIff result (digits_value 10 digits.now ≤ limit) (digits_value 10 digits.now) }

@@ -17,7 +17,7 @@ use Rattle.nf_exprs.specs.Spells.{first_place}
 abbrev pub Whole : List Lexeme → Tree → Type 0
 Whole ts v = Reads rules (rule level.Script) ts v []
 
--- a reading of a script has read the tokens before the rest
+-- a reading of a script reaches the rest
 abbrev pub Reaches : List Lexeme → List Lexeme → Type 0
 Reaches = Stands rules (rule level.Script)
 
@@ -30,7 +30,7 @@ pub record Spells (ts : List Lexeme) (v : Tree) : Type 0 where
   pub whole : Whole ts v
   pub shallow : (r : List Lexeme) → Passes ts r → ⊥
 
--- the tokens spell no script, no reading passes a limit, and this is the farthest place where a reading stands
+-- the tokens spell no script, no reading passes a limit, and this is the farthest place that one reaches
 pub record IsUnexpected (ts : List Lexeme) (end p : Place) : Type 0 where
   pub none : (v : Tree) → Whole ts v → ⊥
   pub shallow : (r : List Lexeme) → Passes ts r → ⊥
@@ -52,7 +52,7 @@ Refuses ts end (parse.Unexpected p) = IsUnexpected ts end p
 Refuses ts end (parse.TooDeep p) = IsTooDeep ts end p
 Refuses ts end parse.Mem = Unit {0}
 
--- ---- by the number of tokens left
+-- ---- the same, where a place is told by the number of tokens left
 
 pub record StopsAt (ts : List Lexeme) (left : ℕ) : Type 0 where
   pub none : (v : Tree) → Whole ts v → ⊥
@@ -69,7 +69,7 @@ Stops ts fault.Mem = Unit {0}
 Stops ts (fault.Unexpected left) = StopsAt ts left
 Stops ts (fault.TooDeep left) = SinksAt ts left
 
--- the one script that all the tokens spell
+-- `Ok`: all the tokens spell this script and no other. `Err`: where they go wrong
 abbrev pub Answers : {X : Type 0} → (X → Tree) → List Lexeme → Result X Fault → Type 0
 Answers tree ts (Ok x) = Spells ts (tree x) × ((v : Tree) → Whole ts v → v ≡ tree x)
 Answers tree ts (Err e) = Stops ts e

@@ -1,4 +1,4 @@
-//! Reading functions, parameters and what is printed at the top of a script.
+//! Parses functions, parameters, and prints at the top of a script.
 
 ghost use Rattle.std.specs.Prelude.{◌≡◌, ◌<◌, length, IfOk, MatchOption, true};
 ghost use Rattle.nf_grammar.specs.Gram.{rule};

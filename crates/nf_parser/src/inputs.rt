@@ -1,4 +1,4 @@
-//! Reading the inputs of a process.
+//! Parses the inputs of a process.
 
 ghost use Rattle.std.specs.Prelude.{◌≡◌, ◌<◌, ◌≤◌, length, map, IfOk, not};
 ghost use Rattle.nf_grammar.specs.Gram.{rule};
@@ -41,7 +41,7 @@ fn all(alloc: Global, tokens: &[Lexeme]) -> Result<(Vec<Input>, &[Lexeme]), Faul
     Ok((all, rest))
 }
 
-/// Whether an input begins here.
+/// Whether an input comes next.
 fn begins(tokens: &[Lexeme]) -> bool
     ensures { result ≡ not (row.no_word row.input_words tokens.now) }
 {
@@ -107,7 +107,7 @@ fn part(tokens: &[Lexeme]) -> Result<(InputPart, &[Lexeme]), Fault>
     Ok((InputPart::Stdin(place), rest))
 }
 
-/// The name that an input is bound to, which may stand in brackets.
+/// The name of an input, with round brackets or without.
 fn bound(tokens: &[Lexeme]) -> Result<(Place, &Txt, &[Lexeme]), Fault>
     ensures parses { Parses (λ x. name x.0 x.1.now) (λ x. x.2.now) row.one_name tokens.now result }
     ensures shorter { IfOk result (λ x. length x.2.now < length tokens.now) }

@@ -1,4 +1,4 @@
-//! Laws of the definitions.
+//! Laws of what tokens spell: each function does nothing, and its contract is the law.
 
 ghost use Rattle.std.specs.Prelude.{◌≡◌, List};
 ghost use Rattle.nf_value.specs.declared.place.Place.{Place};
@@ -6,17 +6,17 @@ ghost use Rattle.nf_token.specs.declared.token.Lexeme.{Lexeme};
 ghost use Rattle.nf_ast.specs.Tree.{Tree};
 ghost use Rattle.nf_parser.specs.Spells.{Whole, Spells, IsUnexpected, IsTooDeep};
 
-/// Tokens that are unexpected are so at one place.
+/// Tokens go wrong at one place at most.
 pub fn one_unexpected()
     ensures { (ts : List Lexeme) (end p q : Place) → IsUnexpected ts end p → IsUnexpected ts end q → p ≡ q }
 {}
 
-/// Tokens that pass a limit do so first at one place.
+/// There is one place at most where tokens first pass a limit.
 pub fn one_too_deep()
     ensures { (ts : List Lexeme) (end p q : Place) → IsTooDeep ts end p → IsTooDeep ts end q → p ≡ q }
 {}
 
-/// Tokens that are unexpected at a place spell no script.
+/// Tokens that go wrong spell no script.
 pub fn unexpected_spells_none()
     ensures { (ts : List Lexeme) (end p : Place) (v : Tree) → IsUnexpected ts end p → Spells ts v → ⊥ }
 {}
@@ -26,12 +26,12 @@ pub fn too_deep_spells_none()
     ensures { (ts : List Lexeme) (end p : Place) (v : Tree) → IsTooDeep ts end p → Spells ts v → ⊥ }
 {}
 
-/// Tokens aren't both unexpected and past a limit.
+/// Tokens don't both go wrong and pass a limit.
 pub fn not_both()
     ensures { (ts : List Lexeme) (end p q : Place) → IsUnexpected ts end p → IsTooDeep ts end q → ⊥ }
 {}
 
-/// All of some tokens are read as one script at most, whatever the limits.
+/// Tokens have one reading as a whole script at most, also where another reading passes a limit.
 pub fn one_whole()
     ensures { (ts : List Lexeme) (v w : Tree) → Whole ts v → Whole ts w → v ≡ w }
 {}

@@ -1,4 +1,4 @@
-//! The tree of a script from its tokens.
+//! Parses whole scripts: processes, workflows, functions and what else stands at the top.
 #![tactic(auto)]
 
 mod definitions;

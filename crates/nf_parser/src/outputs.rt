@@ -1,4 +1,4 @@
-//! Reading the outputs of a process.
+//! Parses the outputs of a process.
 
 ghost use Rattle.std.specs.Prelude.{◌≡◌, ◌<◌, ◌≤◌, length, map, IfOk, MatchOption, true, false, not};
 ghost use Rattle.nf_grammar.specs.Gram.{rule};
@@ -46,7 +46,7 @@ fn all(alloc: Global, tokens: &[Lexeme]) -> Result<(Vec<Output>, &[Lexeme]), Fau
     Ok((all, rest))
 }
 
-/// Whether an output begins here.
+/// Whether an output comes next.
 fn begins(tokens: &[Lexeme]) -> bool
     ensures { result ≡ not (row.no_word row.output_words tokens.now) }
 {
@@ -67,7 +67,7 @@ fn output(alloc: Global, tokens: &[Lexeme]) -> Result<(Output, &[Lexeme]), Fault
     Ok((Output { value, options }, rest))
 }
 
-/// What an output gives: whether a tuple goes on at a comma is settled by what comes after it.
+/// What an output gives. Whether a comma after a tuple's part begins one more part or an option shows only after the comma.
 fn value(alloc: Global, tokens: &[Lexeme]) -> Result<(OutputValue, &[Lexeme]), Fault>
     ensures parses { ParsesBefore (λ x. view_output_value x.0) (λ x. x.1.now) (λ v. row.with_sep (row.with_options v)) (row.with_sep (rule level.Output)) tokens.now result }
     ensures shorter { IfOk result (λ x. length x.1.now < length tokens.now) }
@@ -80,7 +80,7 @@ fn value(alloc: Global, tokens: &[Lexeme]) -> Result<(OutputValue, &[Lexeme]), F
     Ok((OutputValue::One(part), rest))
 }
 
-/// The parts of a tuple, up to a comma that an option follows.
+/// The parts of a tuple, up to a comma before an option.
 fn parts(
     alloc: Global,
     place: Place,
@@ -100,7 +100,7 @@ fn parts(
     Ok((all, rest))
 }
 
-/// What stands after a comma, where no option does.
+/// What stands after a comma, unless that is an option.
 fn next_part(tokens: &[Lexeme]) -> Option<&[Lexeme]>
     ensures { MatchOption result (kind.outputs_end tokens.now ≡ true) (λ r. (kind.outputs_end tokens.now ≡ false) × TakesComma tokens.now r.now) }
 {
@@ -143,14 +143,14 @@ fn options(alloc: Global, tokens: &[Lexeme]) -> Result<(Vec<Label>, &[Lexeme]), 
     Ok((all, rest))
 }
 
-/// Whether an option begins here.
+/// Whether an option comes next.
 fn begins_option(tokens: &[Lexeme]) -> bool
     ensures { result ≡ not (kind.no_option tokens.now) }
 {
     peek::mark(tokens, Mark::Comma).is_some() || peek::is_name(tokens)
 }
 
-/// What stands after a comma, or here where none comes.
+/// The tokens after a comma that may come.
 fn past_comma(tokens: &[Lexeme]) -> &[Lexeme]
     ensures parses { Outcome (row.skips (kind.mark_of m.Comma) row.no_comma) tokens.now (got empty result.now (length result.now)) }
     ensures shorter { length result.now ≤ length tokens.now }

@@ -1,4 +1,4 @@
-//! A whole script.
+//! Parses all tokens as one script.
 
 ghost use Rattle.std.specs.Prelude.{◌≡◌, IfOk, IfErr};
 ghost use Rattle.nf_ast.specs.Tree.{Tree};
@@ -11,8 +11,8 @@ use nf_exprs::{Fault, ParseFault, place_at};
 use nf_token::{Lexeme, Tokens};
 use std::alloc::Global;
 
-/// The script that the tokens spell, all of the tokens (Nextflow reference documentation, "Syntax"; the part of it that is read, and
-/// where a part ends, are this project's own). Limits (own): 64 brackets open at once, 256 parts of a chain. Takes time that grows with
+/// The script that all the tokens spell (Nextflow reference documentation, "Syntax"; which part of that is read, and where a part ends,
+/// are this project's own). Limits (own): 64 brackets open at once, 256 parts of a chain. Takes time that grows with
 /// the number of tokens.
 ///
 /// # Errors

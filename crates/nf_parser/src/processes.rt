@@ -1,4 +1,4 @@
-//! Reading a process.
+//! Parses processes.
 
 ghost use Rattle.std.specs.Prelude.{◌≡◌, ◌<◌, ◌≤◌, length, map, codes, IfOk, MatchOption};
 ghost use Rattle.nf_value.specs.declared.place.Place as place;
@@ -82,7 +82,7 @@ fn directive(alloc: Global, tokens: &[Lexeme]) -> Result<(Directive, &[Lexeme]),
     Ok((Directive { place, name, args }, rest))
 }
 
-/// The arguments of a directive: a `(` directly after the name opens them.
+/// The arguments of a directive, with round brackets or without. A `(` directly after the name opens the brackets.
 fn directive_args(alloc: Global, tokens: &[Lexeme]) -> Result<(Vec<Arg>, &[Lexeme]), Fault>
     ensures parses { Parses (λ x. trees (map view_arg x.0.items)) (λ x. x.1.now) row.directive_args tokens.now result }
     ensures shorter { IfOk result (λ x. length x.1.now ≤ length tokens.now) }
@@ -96,7 +96,7 @@ fn directive_args(alloc: Global, tokens: &[Lexeme]) -> Result<(Vec<Arg>, &[Lexem
     posts::maybe_args(alloc, 1, tokens)
 }
 
-/// Whether a section of a process begins here.
+/// Whether a section of a process comes next.
 fn begins_section(tokens: &[Lexeme]) -> bool
     ensures { result ≡ section_next tokens.now }
 {
@@ -199,7 +199,7 @@ fn string(alloc: Global, tokens: &[Lexeme]) -> Result<(Expr, &[Lexeme]), Fault>
     prims::template(alloc, 1, tokens)
 }
 
-/// How many tokens are left at the colon of a label that comes after the statements of a task, where it isn't the stub's.
+/// Where a label comes next after a task's statements, and it isn't `stub:`: the number of tokens from its colon on.
 fn stray_after(task: &Task, tokens: &[Lexeme]) -> Option<usize>
     ensures { MatchOption result (NoStrayAfter task.now tokens.now) (λ n. IsStrayAfter task.now tokens.now n) }
 {

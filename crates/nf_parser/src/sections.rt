@@ -1,4 +1,4 @@
-//! Sections: a word, a colon, and what stands after them.
+//! Parses sections: a word, a colon, and statements.
 
 ghost use Rattle.std.specs.Prelude.{◌≡◌, ◌<◌, length, IfOk, MatchOption, true, false, ◌⊎◌, not};
 ghost use Rattle.nf_ast.specs.Tree.{name};
@@ -38,7 +38,7 @@ pub fn section<'a>(
     Ok((Section { place, body }, rest))
 }
 
-/// How many tokens are left at the colon of a label that comes and that nothing goes on with.
+/// Where a label comes next that begins no section: the number of tokens from its colon on. `known` says that it begins one.
 pub fn stray_label(tokens: &[Lexeme], known: bool) -> Option<usize>
     ensures { MatchOption result ((known ≡ true) ⊎ (labels tokens.now ≡ false)) (λ n. IsStray tokens.now known n) }
 {
@@ -48,7 +48,7 @@ pub fn stray_label(tokens: &[Lexeme], known: bool) -> Option<usize>
     peek::past_label(tokens)
 }
 
-/// Whether a name comes that no colon follows.
+/// Whether a name comes next, without a colon after it.
 pub fn starts_name(tokens: &[Lexeme]) -> bool
     ensures { result ≡ not (directives_end tokens.now) }
 {

@@ -1,4 +1,4 @@
-//! Reading a script and what stands at its top.
+//! Parses a script: what stands at its top, in order.
 
 ghost use Rattle.std.specs.Prelude.{◌≡◌, ◌<◌, length, map, IfOk, not};
 ghost use Rattle.nf_grammar.specs.Gram.{rule};
@@ -14,7 +14,7 @@ use nf_exprs::{Fault, expect, peek};
 use nf_token::{Keyword, Lexeme};
 use std::alloc::Global;
 
-/// A script, up to where nothing goes on with it.
+/// A script, up to the first token that can't go on with it.
 pub fn script(alloc: Global, tokens: &[Lexeme]) -> Result<(Script, &[Lexeme]), Fault>
     ensures { Parses (λ x. view_script x.0) (λ x. x.1.now) (rule level.Script) tokens.now result }
 {
@@ -38,7 +38,7 @@ fn tops(alloc: Global, tokens: &[Lexeme]) -> Result<(Vec<Top>, &[Lexeme]), Fault
     Ok((all, rest))
 }
 
-/// Whether something begins here that stands at the top of a script.
+/// Whether something that may stand at the top of a script comes next.
 fn begins(tokens: &[Lexeme]) -> bool
     ensures { result ≡ not (row.no_top tokens.now) }
 {
@@ -72,7 +72,7 @@ fn top(alloc: Global, tokens: &[Lexeme]) -> Result<(Top, &[Lexeme]), Fault>
     small_top(alloc, tokens)
 }
 
-/// What begins with a word that any name could be.
+/// `params`, `println`, `log` or `nextflow` with what follows: words that may also be names.
 fn small_top(alloc: Global, tokens: &[Lexeme]) -> Result<(Top, &[Lexeme]), Fault>
     ensures parses { Parses (λ x. view_top x.0) (λ x. x.1.now) row.small_top tokens.now result }
     ensures shorter { IfOk result (λ x. length x.1.now < length tokens.now) }

@@ -1,4 +1,4 @@
-//! Reading a workflow.
+//! Parses workflows.
 
 ghost use Rattle.std.specs.Prelude.{◌≡◌, ◌<◌, ◌≤◌, length, map, IfOk};
 ghost use Rattle.nf_grammar.specs.Gram.{rule, bind, gives};
@@ -59,7 +59,7 @@ fn inside(alloc: Global, tokens: &[Lexeme]) -> Result<(WorkflowBody, &[Lexeme]),
     Ok((WorkflowBody::Statements(body), rest))
 }
 
-/// Whether the parts of a workflow begin here: the word of the first, and a colon.
+/// Whether the sections of a workflow come next: the word of the first, and a colon.
 fn begins_parts(tokens: &[Lexeme]) -> bool
     ensures { result ≡ parts_next tokens.now }
 {

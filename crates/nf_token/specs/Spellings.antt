@@ -1,4 +1,4 @@
--- How keywords, marks and quote marks are spelled.
+-- How keywords, marks and quotes are spelled.
 use Rattle.std.specs.Prelude.{ℕ, List, [], ◌∷◌, codes}
 use Rattle.nf_token.specs.declared.token.Keyword.{Keyword}
 use Rattle.nf_token.specs.declared.token.Keyword.TheVariants as k
@@ -9,12 +9,13 @@ use Rattle.nf_token.specs.declared.token.TemplateKind.TheVariants.{Double, Tripl
 use Rattle.nf_token.specs.declared.token.TextKind.{TextKind}
 use Rattle.nf_token.specs.declared.token.TextKind.TheVariants.{Plain, Pattern, Template}
 
+-- the keywords
 abbrev pub keywords : List (List ℕ × Keyword)
 keywords =
     (codes "def", k.Def) ∷ (codes "else", k.Else) ∷ (codes "false", k.False) ∷ (codes "if", k.If)
     ∷ (codes "in", k.In) ∷ (codes "null", k.Null) ∷ (codes "return", k.Return) ∷ (codes "true", k.True) ∷ []
 
--- of two marks where one begins the other the longer stands first
+-- the marks; of two where one begins the other, the longer stands first
 abbrev pub marks : List (List ℕ × Mark)
 marks =
     (codes "(", m.OpenRound) ∷ (codes ")", m.CloseRound) ∷ (codes "[", m.OpenSquare) ∷ (codes "]", m.CloseSquare)

@@ -1,4 +1,5 @@
-//! The tokens of a script, as the lexer gives them, trees hold their kinds of strings, and the printer spells them.
+//! The tokens of a script, and how they are spelled. The lexer reads them, the printer writes them, and trees keep the kinds of their
+//! strings.
 #![tactic(auto)]
 
 mod list;

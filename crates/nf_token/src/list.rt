@@ -1,4 +1,4 @@
-//! The list of a text's tokens.
+//! The list of a script's tokens.
 
 ghost use Rattle.std.specs.Prelude.{◌≡◌};
 
@@ -6,7 +6,7 @@ use crate::token::Lexeme;
 use nf_value::Place;
 use std::marker::Model;
 
-/// The tokens of a text, and the place of its end. Contracts see the pair of both.
+/// The tokens of a script, and the place of its end. Contracts see the pair of both.
 #[derive(Drop)]
 pub struct Tokens {
     items: Vec<Lexeme>,
@@ -24,7 +24,7 @@ impl Model for Tokens {
 }
 
 impl Tokens {
-    /// The list of these tokens. Takes no memory.
+    /// These tokens, of a script that ends at this place. Takes no memory.
     pub fn of(items: Vec<Lexeme>, end: Place) -> Tokens
         ensures { result ≡ (items.items, end) }
     {
@@ -38,7 +38,7 @@ impl Tokens {
         self.items.as_slice()
     }
 
-    /// The place after the text's last byte. Takes no memory.
+    /// The place after the script's last byte. Takes no memory.
     pub fn end(&self) -> Place
         ensures { result ≡ self.now.1 }
     {

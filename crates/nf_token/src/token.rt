@@ -1,8 +1,8 @@
-//! Tokens and their places.
+//! What a token is, and where it stands.
 
 use nf_value::{Place, Txt};
 
-/// A word that is a keyword wherever it stands, and never a name (own: these eight).
+/// A keyword: a word that is never a name, wherever it stands (own: these eight).
 #[derive(Debug, Clone, Copy, PartialEq, Eq)]
 pub enum Keyword {
     /// `def`
@@ -23,8 +23,8 @@ pub enum Keyword {
     True,
 }
 
-/// A mark of one to three bytes (own: these thirty). Where several stand in front
-/// the longest is taken.
+/// A mark: a token of punctuation, of one to three bytes (own: these thirty). Where a text begins with several, the longest is its token:
+/// `==~` is one mark and not `==` and `~`.
 #[derive(Debug, Clone, Copy, PartialEq, Eq)]
 pub enum Mark {
     /// `(`
@@ -100,8 +100,7 @@ pub enum PlainKind {
     Slashes,
 }
 
-/// How a template is written (Nextflow reference documentation, Syntax, Dynamic
-/// string, and for the escapes own).
+/// How a template is written (Nextflow reference documentation, Syntax, Dynamic string; the escapes own).
 #[derive(Debug, Clone, Copy, PartialEq, Eq)]
 pub enum TemplateKind {
     /// `".."`, on one line
@@ -110,7 +109,7 @@ pub enum TemplateKind {
     TripleDouble,
 }
 
-/// What stands between quote marks: what kind of string, pattern or template it is (own).
+/// What stands between quotes: a plain string, a pattern or a template (own).
 #[derive(Clone, Copy)]
 pub enum TextKind {
     /// A plain string.
@@ -121,45 +120,42 @@ pub enum TextKind {
     Template(TemplateKind),
 }
 
-/// A token of a script (own: the subset's tokens). A template is flat in the list:
-/// its opening, its texts and holes in turn, its closing. So is a hole: its opening,
-/// its tokens, its end.
+/// A token of a script (own). A template is a row of tokens: its opening, its texts and holes in turn, and its closing. So is a hole: its
+/// opening, its tokens, and its end. `"a${b}"` is `OpenTemplate`, `TemplateText`, `OpenHole`, `Name`, `CloseHole`, `CloseTemplate`.
 #[derive(Drop)]
 pub enum Token {
-    /// The longest run of letters, digits and `_`, all ASCII, that begins with no
-    /// digit and is no keyword.
+    /// A name: the longest run of ASCII letters, digits and `_` that doesn't begin with a digit and isn't a keyword.
     Name(Txt),
-    /// A keyword, which such a run is that is spelled so.
+    /// Such a run that is a keyword.
     Keyword(Keyword),
-    /// The longest run of decimal digits, leading zeros allowed, of a value up to
-    /// 9223372036854775807.
+    /// The longest run of decimal digits, also with leading zeros. Its value is at most 9223372036854775807.
     Number(i64),
-    /// A plain string, with the text that it stands for.
+    /// A plain string: its kind, and the text that it stands for.
     Plain(PlainKind, Txt),
-    /// A pattern `~/../`, with its text; `\/` stands for `/`, and every other backslash
-    /// is kept.
+    /// A pattern `~/../` with its text. `\/` stands for `/`, and every other backslash is kept.
     Pattern(Txt),
     /// The opening of a template.
     OpenTemplate(TemplateKind),
-    /// All that stands in a template between two of its opening, holes and closing,
-    /// where that isn't empty: the text that it stands for. It begins where they end.
+    /// A text of a template: what stands between its quotes and holes, where that isn't empty, as the text that it stands for. It begins
+    /// where the quotes or the hole before it end.
     TemplateText(Txt),
     /// The opening of a hole: `${`, or the `$` of `$name`.
     OpenHole,
-    /// The end of a hole: its `}`, or what follows `$name`, which takes no byte.
+    /// The end of a hole: its `}`, or the place after `$name`, which has no byte of its own.
     CloseHole,
     /// The closing of a template.
     CloseTemplate(TemplateKind),
     /// A mark.
     Mark(Mark),
-    /// A `;`, or a line end that separates. Of several in a row only the first is a
-    /// token.
+    /// A `;`, or a line end that separates. Of several in a row only the first is a token.
     Separator,
 }
 
 /// A token, and the place of its first byte; of a separator, of its `;` or line feed.
 #[derive(Drop)]
 pub struct Lexeme {
+    /// The token.
     pub token: Token,
+    /// Where it begins.
     pub place: Place,
 }

@@ -1,4 +1,4 @@
--- Values are told apart by their codes, which are trees of numbers.
+-- Values as trees of numbers, of which no two are equal. A list or a map in memory that contracts see as plain values needs this.
 use Rattle.std.specs.Prelude.{◌≡◌, ℕ, zero, suc, pos, negsuc, List, [], ◌∷◌, true, false, refl}
 use Rattle.std.proofs.Common.{sym, ◌∙◌, ap}
 use base.Stored.{Gv, gnil, gnum, gcons, Coded}

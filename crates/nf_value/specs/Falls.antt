@@ -1,4 +1,4 @@
--- What a list or a map holds is smaller than it.
+-- The items of a list and the values of a map are smaller than it, so that recursions on values end.
 use Rattle.std.specs.Prelude.{ℕ, ◌≤◌, max, List, [], ◌∷◌, map}
 use Rattle.std.proofs.Common.{arith, ◌≡◌, refl}
 use denote.Param.Weighed.{most}

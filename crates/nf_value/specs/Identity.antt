@@ -1,4 +1,4 @@
--- Values that are equal in the order are the same.
+-- Values that compare as equal are the same.
 use Rattle.std.proofs.Common.{◌≡◌, Bool, true, false, refl, ap, sym, subst}
 use Rattle.std.specs.declared.cmp.Ordering.{Ordering}
 use Rattle.std.specs.declared.cmp.Ordering.TheVariants.{Less, Equal, Greater}

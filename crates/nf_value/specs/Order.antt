@@ -10,6 +10,7 @@ use Rattle.std.proofs.Common.{sym, ◌∙◌, ap, subst, append_assoc, append-ni
 use Rattle.std.proofs.lemmas.Cmp.{on_total, int_cmp_total, ranked, int_ranked}
 use Rattle.nf_value.specs.Plain.{Plain, null, truth, int, text, file, list, table, Plains, no_items, item, PlainPairs, no_pairs, pair}
 
+-- the order of kinds
 abbrev pub rank : Plain → ℕ
 rank null = 0
 rank (truth b) = 1
@@ -41,7 +42,7 @@ abbrev mutual
   pairs_cmp (pair k v ps) no_pairs = Greater
   pairs_cmp (pair k v ps) (pair l w qs) = ordering_then (slice_cmp nat_cmp k l) (ordering_then (value_cmp v w) (pairs_cmp ps qs))
 
--- a value as a list of numbers, which are in order as the values are
+-- a value as a list of numbers: values are in the order of their lists
 abbrev flat_bytes : List ℕ → List ℤ
 flat_bytes [] = pos 0 ∷ []
 flat_bytes (b ∷ bs) = pos 1 ∷ pos b ∷ flat_bytes bs

@@ -1,7 +1,8 @@
--- What a value is.
+-- A value as contracts see it, wherever it lies in memory.
 use Rattle.std.specs.Prelude.{ℕ, suc, ◌+◌, ℤ, List, [], ◌∷◌, Bool}
 
 mutual
+  -- a number is any integer; a file is its name, the bytes of its digest and its length; texts are bytes
   pub data Plain : Type 0 where
     null : Plain
     truth : Bool → Plain
@@ -27,6 +28,7 @@ abbrev pub plain_pairs_of : List (List ℕ × Plain) → PlainPairs
 plain_pairs_of [] = no_pairs
 plain_pairs_of (p ∷ ps) = pair p.0 p.1 (plain_pairs_of ps)
 
+-- a size that is less for each part of a value, by which recursions on values end
 abbrev mutual
   pub nodes : Plain → ℕ
   nodes null = 1

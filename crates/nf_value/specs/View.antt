@@ -1,4 +1,4 @@
--- What contracts see of a value.
+-- What contracts see of a value in memory.
 use Rattle.std.specs.Prelude.{ℕ, List, [], ◌∷◌, Bool, true, ◌&&◌}
 use Rattle.std.specs.Ordering.{nat_cmp, is_lt}
 use Rattle.std.specs.Cmp.Lexicographic.{slice_cmp}
@@ -29,6 +29,7 @@ abbrev pub rises : List ℕ → List (List ℕ × Plain) → Bool
 rises k [] = true
 rises k (p ∷ ps) = is_lt (slice_cmp nat_cmp k p.0) && rises p.0 ps
 
+-- the keys of a map rise
 abbrev pub rising : List (List ℕ × Plain) → Bool
 rising [] = true
 rising (p ∷ ps) = rises p.0 ps

@@ -1,11 +1,11 @@
-//! Lists of bytes.
+//! Bytes.
 
 ghost use Rattle.std.specs.Prelude.{◌≡◌, IfOk};
 
 use crate::mem::Mem;
 use std::marker::Model;
 
-/// Bytes of any kind. Contracts see their list.
+/// Any bytes, UTF-8 or not. Contracts see their list.
 #[derive(Drop)]
 pub struct Bytes {
     items: Vec<u8>,

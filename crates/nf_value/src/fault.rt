@@ -1,4 +1,4 @@
-//! Why a value can't be made.
+//! Why an expression has no value.
 
 ghost use Rattle.std.specs.Prelude.{◌≡◌, Some};
 ghost use Rattle.nf_value.specs.Fault.{kind_text};
@@ -9,28 +9,28 @@ use crate::place::Place;
 use std::alloc::{AllocError, AllocFailed};
 use std::fmt;
 
-/// What is wrong with an evaluation (own). Printed by its name.
+/// The kind of an expression's fault (own). Displayed by its name, as `DivZero`.
 #[derive(Debug, Clone, Copy, PartialEq, Eq)]
 pub enum EvalKind {
-    /// A number leaves 64 signed bits.
+    /// A result isn't a signed number of 64 bits.
     Overflow = 1,
-    /// A value is of a kind that the operation doesn't take.
+    /// The operation doesn't take values of this kind.
     WrongKind = 2,
     /// The value has no property of that name.
     NoProperty = 3,
-    /// A divisor is 0.
+    /// The divisor is 0.
     DivZero = 4,
-    /// A value weighs more than 16,777,216.
+    /// A value would weigh more than 16,777,216 (`weight`).
     TooLarge = 5,
-    /// A value is deeper than 64.
+    /// A value would be deeper than 64 (`depth`).
     TooDeep = 6,
     /// The value has no method of that name.
     NoMethod = 7,
-    /// Another number of arguments is due.
+    /// The method takes another number of arguments.
     Arity = 8,
-    /// A text is no number.
+    /// The text isn't a number.
     NotNumber = 9,
-    /// A native function has no answer.
+    /// A native function has no answer for these arguments.
     Native = 10,
 }
 
@@ -53,7 +53,7 @@ impl fmt::Display for EvalKind {
     }
 }
 
-/// A fault of an evaluation, with the place of the operator or name that failed.
+/// A fault of an expression: its kind, and the place of the operator or name that failed.
 #[derive(Debug, Clone, Copy, PartialEq, Eq)]
 pub struct EvalFault {
     /// What is wrong.
@@ -62,10 +62,10 @@ pub struct EvalFault {
     pub place: Place,
 }
 
-/// An evaluation has no value: a fault, or want of memory.
+/// Why an evaluation gives no value: a fault of the expression, or want of memory.
 #[derive(Debug, Clone, Copy, PartialEq, Eq)]
 pub enum EvalRefusal {
-    /// The expression has this fault.
+    /// The expression is at fault.
     Fault(EvalFault),
     /// There was no memory for the value.
     Mem,

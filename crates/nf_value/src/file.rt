@@ -9,7 +9,7 @@ use crate::text::Txt;
 #[derive(Clone, Copy, Drop)]
 pub struct Digest(pub [u8; 32]);
 
-/// A file, known by its name and what is in it (own): the last part of its path, the digest of its bytes and their number.
+/// A file as a value: its name and what is in it (own). The folder that it lies in isn't part of the value.
 #[derive(Drop)]
 pub struct FileRef {
     /// The last part of the path.

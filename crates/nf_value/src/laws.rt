@@ -1,4 +1,4 @@
-//! Laws of values, each as a contract over the definitions alone.
+//! Laws of values: each function does nothing, and its contract is the law.
 
 ghost use Rattle.std.specs.Prelude.{◌≡◌, true};
 ghost use Rattle.std.specs.Ordering.{on, eq_by_cmp};
@@ -15,7 +15,7 @@ pub fn order_is_total()
     ensures { IsTotalOrder value_cmp }
 {}
 
-/// Values that the order finds equal are one value, and so are values for which `==` answers true.
+/// Values that compare as `Equal`, or for which `==` is true, are the same value.
 #[tactic(auto, using(crate::specs::Identity::value_cmp_exact, crate::specs::Identity::same_by_eq))]
 pub fn equal_is_same()
     ensures cmp { (a : Plain) → (b : Plain) → value_cmp a b ≡ Equal → a ≡ b }

@@ -1,4 +1,4 @@
-//! Values, their order, and why a value can't be made.
+//! The values of scripts: their order, text, truth, depth and weight; and the places and faults that all layers share.
 #![tactic(auto)]
 
 mod bytes;

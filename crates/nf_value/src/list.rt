@@ -7,7 +7,7 @@ use crate::mem::Mem;
 use crate::value::Value;
 use std::marker::Model;
 
-/// A list of values. Contracts see the list of what its items are.
+/// A list of values. Contracts see the list of its items, each by `plain_of`.
 #[cycle(value)]
 #[derive(Drop)]
 pub struct Vals {
@@ -43,7 +43,7 @@ impl Vals {
         Vals { items }
     }
 
-    /// How many items there are.
+    /// The number of items.
     pub fn len(&self) -> usize
         ensures { result ≡ length self.now }
     {

@@ -10,7 +10,8 @@ use crate::text::Txt;
 use crate::value::Value;
 use std::marker::Model;
 
-/// A map from texts to values: each key once, the keys in rising order of their bytes (own). Contracts see the list of its pairs.
+/// A map from texts to values. Each key stands once, and the keys are in rising order of their bytes (own). Contracts see the list of
+/// its pairs, each by `pair_of`.
 #[cycle(value)]
 #[derive(Drop)]
 pub struct Pairs {
@@ -49,7 +50,7 @@ impl Pairs {
         Pairs { items }
     }
 
-    /// How many pairs there are.
+    /// The number of pairs.
     pub fn len(&self) -> usize
         ensures { result ≡ length self.now }
     {
@@ -90,7 +91,7 @@ impl Pairs {
     }
 }
 
-/// Whether the keys of these pairs rise, each below the next by its bytes. It is what `Pairs::of` asks for.
+/// Whether each key is below the next, compared by bytes. `Pairs::of` requires it.
 pub fn is_rising(items: &[(Txt, Value)]) -> bool
     ensures { result ≡ rising (map pair_of items.now) }
 {

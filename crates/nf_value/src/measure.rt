@@ -1,4 +1,4 @@
-//! Numbers that tell how large a value is, and its truth.
+//! A value's truth, depth and weight.
 
 ghost use Rattle.std.specs.Prelude.{◌≡◌, ◌+◌, ◌^◌, ◌≤◌, ◌∷◌, [], min, length, suc, ℕ};
 ghost use Rattle.nf_value.specs.Plain.{plains_of, plain_pairs_of};
@@ -16,13 +16,13 @@ use crate::text::Txt;
 use crate::value::Value;
 use itoa::Buffer;
 
-/// Where depths and weights stop.
+/// The most that a depth or a weight is given as.
 const MOST: u64 = 1 << 63;
 
-/// How many hexadecimal digits a digest has.
+/// The number of hexadecimal digits of a digest.
 const DIGEST_DIGITS: u64 = 64;
 
-/// Whether a value counts as true (Groovy truth): null, false, 0 and an empty text, list or map don't. A file does.
+/// Whether a value counts as true (Groovy truth). `null`, `false`, 0 and an empty text, list or map don't; everything else does.
 pub fn truth(value: &Value) -> bool
     ensures { result ≡ truth_of (plain_of value.now) }
 {
@@ -37,8 +37,8 @@ pub fn truth(value: &Value) -> bool
     }
 }
 
-/// The depth of a value (own): 0 where it isn't a list or map, 1 for an empty list or map, else one more than its deepest member.
-/// At most 2^63, which also stands for all larger depths.
+/// The depth of a value (own): how many lists and maps stand in one another. `7` has depth 0, `[]` has 1, `[1, [2]]` has 2. A greater
+/// depth than 2^63 is given as 2^63.
 #[cycle(depth)]
 pub fn depth(value: &Value) -> u64
     ensures { result ≡ min (depth_of (plain_of value.now)) (2 ^ 63) }
@@ -79,7 +79,8 @@ fn depth_pairs(pairs: &Pairs) -> u64
     most
 }
 
-/// The weight of a value (own): how many bytes its code has. At most 2^63, which also stands for all larger weights.
+/// The weight of a value (own): the number of bytes of its code (`code` in `specs/Code.antt`). `7` has the code `i7;` and weighs 3. A
+/// greater weight than 2^63 is given as 2^63.
 #[cycle(weight)]
 pub fn weight(value: &Value) -> u64
     ensures { result ≡ min (length (code (plain_of value.now))) (2 ^ 63) }

@@ -6,7 +6,7 @@ ghost use Rattle.nf_value.specs.Mem.{mem};
 use std::alloc::{AllocError, AllocFailed};
 use thiserror::Error;
 
-/// Memory that was asked for wasn't there (own).
+/// An allocation failed (own). Displayed as `Mem`.
 #[derive(Debug, Drop, Clone, Copy, PartialEq, Eq, Error)]
 #[error("Mem")]
 pub struct Mem;

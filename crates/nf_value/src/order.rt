@@ -1,3 +1,6 @@
+//! The order of values, by which `<` and `==` compare them: null, then `false` and `true`, numbers, texts, files, lists and maps. Values
+//! of one kind compare by what they hold (`value_cmp` in `specs/Order.antt`).
+
 ghost use Rattle.std.specs.Prelude.{◌≡◌, map};
 ghost use Rattle.std.specs.Ordering.{on, as_partial_cmp, eq_by_cmp, nat_cmp, ordering_then};
 ghost use Rattle.std.specs.Cmp.{eq_by_cmp_equiv, partial_equiv_from_equiv, partial_order_from_agreeing_total};
@@ -57,6 +60,7 @@ impl Ord for Value {
     }
 }
 
+/// The number of the value's kind, in the order of kinds.
 fn kind(value: &Value) -> u8
     ensures { result ≡ rank (plain_of value.now) }
 {
@@ -77,6 +81,7 @@ fn compare_bytes(a: &str, b: &str) -> Ordering
     a.cmp(b)
 }
 
+/// By name, then by digest, then by length.
 fn compare_files(a: &FileRef, b: &FileRef) -> Ordering
     ensures { result ≡ ordering_then (slice_cmp nat_cmp a.now.name b.now.name) (ordering_then (slice_cmp nat_cmp a.now.digest.0 b.now.digest.0) (nat_cmp a.now.len b.now.len)) }
 {
@@ -100,6 +105,7 @@ fn compare(a: &Value, b: &Value) -> Ordering
     }
 }
 
+/// Item by item; of two lists where one begins the other, the shorter is less.
 #[cycle(order)]
 fn compare_all(a: &Vals, b: &Vals) -> Ordering
     ensures { result ≡ items_cmp (plains_of a.now) (plains_of b.now) }
@@ -114,6 +120,7 @@ fn compare_all(a: &Vals, b: &Vals) -> Ordering
     a.items.len().cmp(&b.items.len())
 }
 
+/// By key, then by value.
 #[cycle(order)]
 fn compare_pair(a: &(Txt, Value), b: &(Txt, Value)) -> Ordering
     ensures { result ≡ pair_cmp a.now b.now }
@@ -121,6 +128,7 @@ fn compare_pair(a: &(Txt, Value), b: &(Txt, Value)) -> Ordering
     compare_bytes(a.0.as_str(), b.0.as_str()).then(compare(&a.1, &b.1))
 }
 
+/// Pair by pair; of two maps where one begins the other, the shorter is less.
 #[cycle(order)]
 fn compare_pairs(a: &Pairs, b: &Pairs) -> Ordering
     ensures { result ≡ pairs_cmp (plain_pairs_of a.now) (plain_pairs_of b.now) }

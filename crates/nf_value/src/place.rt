@@ -5,12 +5,12 @@ ghost use Rattle.nf_value.specs.Place.{place_text};
 
 use std::fmt;
 
-/// A place in a text. Both numbers count from 1; a column counts bytes (own).
+/// A place in a script (own). Lines and columns count from 1, and a column counts bytes. Displayed as `LINE:COL`.
 #[derive(Debug, Clone, Copy, PartialEq, Eq)]
 pub struct Place {
-    /// The line, from 1.
+    /// The line.
     pub line: u32,
-    /// The byte in the line, from 1.
+    /// The byte in the line.
     pub col: u32,
 }
 

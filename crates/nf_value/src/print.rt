@@ -13,9 +13,9 @@ use crate::text::Txt;
 use crate::value::Value;
 use std::alloc::Global;
 
-/// The text of a value, as a template or `println` prints it (Nextflow reference, "Script: String interpolation"):
-/// `null`, `true` or `false`, a number in decimal, a text itself, a file's name, a list as `[1, 2]`, a map as `[a:1, b:2]` in the
-/// order of its keys. An empty list is `[]`, an empty map `[:]`. A text within a list or map stands there without quotes.
+/// The text of a value, as a template or `println` prints it (Nextflow reference, "Script: String interpolation"). A number is decimal,
+/// a text is itself, a file is its name. A list is `[1, 2]`, and a map is `[a:1, b:2]`, in the order of its keys; an empty map is `[:]`.
+/// Texts in lists and maps have no quotes.
 ///
 /// # Errors
 ///

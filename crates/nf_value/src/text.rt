@@ -1,4 +1,4 @@
-//! Texts.
+//! Texts in UTF-8.
 
 ghost use Rattle.std.specs.Prelude.{◌≡◌, IfOk, string_bytes};
 

@@ -1,4 +1,4 @@
-//! Values.
+//! What a value is.
 
 ghost use Rattle.std.specs.Prelude.{◌≡◌, IfOk};
 
@@ -8,7 +8,8 @@ use crate::map::Pairs;
 use crate::mem::Mem;
 use crate::text::Txt;
 
-/// What an expression of a script gives, and what a channel carries (Nextflow reference, "Script"; the kinds are this project's own choice).
+/// A value: what an expression gives, and what a channel carries (Nextflow reference, "Script"; these seven kinds own). Contracts see its
+/// `Plain`, by `plain_of`.
 #[cycle(value)]
 #[derive(Drop)]
 pub enum Value {
@@ -16,15 +17,15 @@ pub enum Value {
     Null,
     /// `true` or `false`.
     Truth(bool),
-    /// A number of 64 signed bits.
+    /// A signed number of 64 bits.
     Int(i64),
     /// A text in UTF-8.
     Text(Txt),
-    /// A file, by its name and content.
+    /// A file: its name and what is in it.
     File(FileRef),
     /// A list.
     List(Vals),
-    /// A map from texts.
+    /// A map from texts to values.
     Map(Pairs),
 }
 
