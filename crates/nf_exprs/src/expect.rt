@@ -112,7 +112,7 @@ pub fn past_separator(tokens: &[Lexeme]) -> &[Lexeme]
     }
 }
 
-/// A separator; none before `}` or at the end.
+/// A separator, which may be missing before `}` and at the end.
 pub fn sep(tokens: &[Lexeme]) -> Result<&[Lexeme], Fault>
     ensures parses { Parses (λ x. empty) (λ x. x.now) row.sep tokens.now result }
     ensures shorter { IfOk result (λ x. length x.now ≤ length tokens.now) }
