@@ -78,7 +78,7 @@ impl Expr {
 }
 
 impl Fragment {
-    /// Another piece, of the same tree.
+    /// Another text or hole, of the same tree.
     ///
     /// # Errors
     ///

@@ -19,7 +19,7 @@ pub(crate) fn copy_exprs(exprs: &[Expr], alloc: Global) -> Result<Vec<Expr>, Mem
     Ok(copies)
 }
 
-/// Other pieces, of the same trees.
+/// Other texts and holes, of the same trees.
 #[cycle(copy)]
 pub(crate) fn copy_pieces(pieces: &[Fragment], alloc: Global) -> Result<Vec<Fragment>, Mem>
     ensures { IfOk result (λ v. map view_piece v.items ≡ map view_piece pieces.now) }

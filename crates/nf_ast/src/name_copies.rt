@@ -6,7 +6,7 @@ use crate::expr::Prefix;
 use nf_value::{Mem, Place, Txt};
 use std::alloc::Global;
 
-/// Another of an equal name or text with its place, where there is one.
+/// The same name or text with its place, where there is one.
 pub(crate) fn copy_name(name: &Option<(Place, Txt)>) -> Result<Option<(Place, Txt)>, Mem>
     ensures { IfOk result (λ n. n ≡ name.now) }
 {
@@ -16,7 +16,7 @@ pub(crate) fn copy_name(name: &Option<(Place, Txt)>) -> Result<Option<(Place, Tx
     }
 }
 
-/// Equal names with their places.
+/// The same names with their places.
 pub(crate) fn copy_names(names: &[(Place, Txt)], alloc: Global) -> Result<Vec<(Place, Txt)>, Mem>
     ensures { IfOk result (λ v. v.items ≡ names.now) }
 {
@@ -27,7 +27,7 @@ pub(crate) fn copy_names(names: &[(Place, Txt)], alloc: Global) -> Result<Vec<(P
     Ok(copies)
 }
 
-/// Equal names with their places, where there is a list of them.
+/// The same names with their places, where there is a list of them.
 pub(crate) fn copy_params(
     params: &Option<Vec<(Place, Txt)>>,
     alloc: Global,

@@ -11,7 +11,7 @@ pub data Level : Type 0 where
   Expr : ℕ → ℕ → Level
   -- operands of one band with their operators
   Operands : ℕ → Band → Level
-  -- a chain with its prefix operators, and how many others stand before
+  -- prefix operators with their chain, and how many such operators stand before
   Pre : ℕ → ℕ → Level
   -- a chain, and what it begins with
   Post : ℕ → Level
@@ -24,7 +24,7 @@ pub data Level : Type 0 where
   -- statements
   Body : ℕ → Level
   Stmt : ℕ → Level
-  -- an `if`, and how many arms it has so far
+  -- an `if`, and how many arms there are with it
   Choice : ℕ → ℕ → Level
   -- tops
   Script : Level

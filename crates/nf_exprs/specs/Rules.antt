@@ -1,4 +1,5 @@
--- The grammar, a row for each rule.
+-- The grammar: parts that rules share, and a row for each rule. In comments `{ x }` is any number of x, `[ x ]` is x or nothing, and what
+-- stands in quotes is a token.
 use Rattle.std.specs.Prelude.{ℕ, suc, Bool, true, false, not, ◌||◌, ◌&&◌, List, [], ◌∷◌, codes, nat_le, if◌then◌else◌}
 use Rattle.nf_value.specs.declared.place.Place.{Place}
 use Rattle.nf_token.specs.declared.token.Mark.{Mark}
@@ -16,11 +17,11 @@ use Rattle.nf_exprs.specs.Tokens.{Kind, mark_of, keyword_of, name_of, word_of, s
 
 -- ---- limits
 
--- a 65th bracket open at once
+-- where d brackets are open, one more passes the limit
 abbrev pub past_depth : ℕ → Bool
 past_depth d = nat_le 64 d
 
--- a 257th part of one chain
+-- where a chain has n parts, one more passes the limit
 abbrev pub past_chain : ℕ → Bool
 past_chain n = nat_le 256 n
 
@@ -46,11 +47,11 @@ opens d x = token (past_depth d) (mark_of x)
 abbrev pub maybe : Gram → (List Lexeme → Bool) → Gram
 maybe g ends = either g (only_where ends (gives empty))
 
--- x, and then what was read before
+-- x, of which nothing is kept, and the tree that was read before
 abbrev pub then_gives : Gram → Tree → Gram
 then_gives g a = g >>= λ b. gives a
 
--- "," x, at the end of what was read
+-- "," x, put at the end of what was read
 abbrev pub comma_then : Gram → ℕ → Tree → Gram
 comma_then g n acc = mark m.Comma >>= λ c. g >>= λ b. gives (snoc acc b)
 
@@ -65,11 +66,11 @@ no_comma = no_next (mark_of m.Comma)
 abbrev pub commas : Gram → Gram
 commas = listed no_comma
 
--- a token of this kind, of which nothing is kept, or none where the test holds
+-- [ a token of this kind ], of which nothing is kept; it may be missing only where the test holds
 abbrev pub skips : Kind → (List Lexeme → Bool) → Gram
 skips p ends = maybe (kind p >>= λ t. gives empty) ends
 
--- a separator, or nothing before `}` or at the end
+-- a separator, which may be missing before `}` and at the end
 abbrev pub sep : Gram
 sep = skips separator at_end
 
@@ -77,7 +78,7 @@ sep = skips separator at_end
 abbrev pub with_sep : Gram → Gram
 with_sep g = g >>= λ a. sep >>= λ s. gives a
 
--- x sep, at the end of what was read
+-- x sep, put at the end of what was read
 abbrev pub separated : Gram → ℕ → Tree → Gram
 separated g n acc = with_sep g >>= λ a. gives (snoc acc a)
 
@@ -105,7 +106,7 @@ braced d g = opens d m.OpenBrace >>= λ o. closed g
 abbrev pub round : ℕ → Gram → Gram
 round d g = opens d m.OpenRound >>= λ o. g >>= λ x. mark m.CloseRound >>= λ c. gives x
 
--- the word and a colon, and then this
+-- a word and a colon
 abbrev pub head : List ℕ → Gram
 head x = word x >>= λ w. mark m.Colon >>= λ c. gives w
 
@@ -155,14 +156,14 @@ operand d band.Range = rule (Operands d band.Sum)
 operand d band.Sum = rule (Operands d band.Term)
 operand d band.Term = rule (Pre d 0)
 
--- how many operands a band may have besides its chain's limit: any number, or two
+-- the band takes two operands at most
 abbrev pub is_single : Band → Bool
 is_single band.Same = true
 is_single band.Compare = true
 is_single band.Range = true
 is_single _ = false
 
--- operator operand, after what was read
+-- an operator and its right operand, after the left one
 abbrev pub operand_next : ℕ → Band → ℕ → Tree → Gram
 operand_next d b n acc = token (past_chain n) (infix_of b) >>= λ o. operand d b >>= λ x. gives (joined o acc x)
 
@@ -190,7 +191,7 @@ conditional d n c = do
   b ← rule (Expr d (suc n))
   gives (tree.conditional (place_of q) c a b)
 
--- "?:" expr, after what it stands for
+-- "?:" expr, after the left operand
 abbrev pub otherwise : ℕ → ℕ → Tree → Gram
 otherwise d n a = do
   q ← token (past_chain n) elvis
@@ -234,7 +235,7 @@ call d n e = do
   c ← mark m.CloseRound
   gives (tree.call (place_of o) e xs)
 
--- a closure after what it is given to
+-- a closure after the expression that is called with it
 abbrev pub call_with : ℕ → ℕ → Tree → Gram
 call_with d n e = do
   o ← token (past_either d n) (mark_of m.OpenBrace)
@@ -304,7 +305,7 @@ pairs d p = ended_by_comma (rule (Pair d)) >>= λ xs. gives (tree.map p xs)
 abbrev pub no_pairs : Place → Gram
 no_pairs p = mark m.Colon >>= λ c. gives (tree.map p empty)
 
--- after its bracket, which stands there
+-- a list or a map after its bracket, which stands at the place
 abbrev pub squared : ℕ → Place → Gram
 squared d p = either (items d p) (either (pairs d p) (no_pairs p)) >>= λ x. mark m.CloseSquare >>= λ c. gives x
 
@@ -330,7 +331,7 @@ label d = kind name_of >>= λ n. mark m.Colon >>= λ c. rule (Expr d 0) >>= λ e
 abbrev pub some_labels : ℕ → Gram
 some_labels d = with_sep (label d) >>= λ a. many (no_next name_of) (separated (label d)) 0 (cons a empty)
 
--- after the parameters
+-- a closure after its parameters
 abbrev pub closure_body : ℕ → Place → Tree → Gram
 closure_body d p ps = closed (either (rule (Body d)) (some_labels d)) >>= λ xs. gives (tree.closure p ps xs)
 
@@ -371,14 +372,14 @@ printed d = only_where prints (print d)
 abbrev pub logged : ℕ → Gram
 logged d = only_where logs (log d)
 
--- any other expression
+-- an expression that is no print
 abbrev pub alone : ℕ → Gram
 alone d = only_where (λ ts. not (prints ts || logs ts)) (rule (Expr d 0))
 
 abbrev pub block : ℕ → Gram
 block d = braced d (rule (Body (suc d))) >>= λ xs. gives (tree.statements xs)
 
--- "else" and what stands after it, after so many arms
+-- "else" and what stands after it, after n arms
 abbrev pub else_arm : ℕ → ℕ → Gram
 else_arm d n = token (past_chain n) (keyword_of k.Else) >>= λ w. either (block d) (rule (Choice d (suc n)))
 
@@ -398,7 +399,7 @@ choice d n = arm d >>= λ a. maybe (else_arm d n) (no_next (keyword_of k.Else)) 
 abbrev pub defines : ℕ → Gram
 defines d = either (defined d) (all_defined d)
 
--- an expression, or what is printed
+-- a print, or another expression
 abbrev pub plain_statement : ℕ → Gram
 plain_statement d = either (printed d) (either (logged d) (alone d))
 
@@ -458,18 +459,18 @@ path_output = word (codes "path") >>= λ w. rule (Expr 1 0) >>= λ e. gives (tre
 abbrev pub output_value : Gram
 output_value = either val_output (either path_output (word (codes "stdout") >>= λ w. gives (tree.stdout (place_of w))))
 
--- [ "," ] name ":" expr, at the end of what was read
+-- [ "," ] name ":" expr, put at the end of what was read
 abbrev pub option_next : ℕ → Tree → Gram
 option_next n acc = skips (mark_of m.Comma) no_comma >>= λ c. label 1 >>= λ o. gives (snoc acc o)
 
 abbrev pub options : Gram
 options = many no_option option_next 0 empty
 
--- the options of an output, after what it gives
+-- the options of an output after its value
 abbrev pub with_options : Tree → Gram
 with_options v = options >>= λ os. gives (tree.output v os)
 
--- what an output gives: one part, or a tuple
+-- the value of an output: one part, or a tuple
 abbrev pub some_output : Gram
 some_output = either output_value (tuple_of output_value outputs_end)
 
@@ -510,11 +511,11 @@ directives = series directives_end (rule Directive)
 abbrev pub stub_end : Gram
 stub_end = maybe_section (codes "stub") (body_section (codes "stub")) >>= λ s. closes >>= λ c. gives s
 
--- what a task runs, the stub and the `}`: of both the rest makes a tree
+-- what a task runs, the stub and the `}`, of which f makes the tree
 abbrev pub task_end : (Tree → Tree → Tree) → Gram
 task_end f = rule Task >>= λ t. stub_end >>= λ s. gives (f t s)
 
--- after the directives
+-- what stands in a process after its directives
 abbrev pub sections : Place → Tree → Tree → Gram
 sections p n ds = do
   xs ← maybe_section (codes "input") (rule Inputs)
@@ -545,7 +546,7 @@ emits = series no_start emit
 abbrev pub emit_section : Gram
 emit_section = headed (codes "emit") (λ p. emits >>= λ xs. gives (tree.section p xs))
 
--- what it does and what it emits: of both the rest makes a tree
+-- the sections `main` and `emit`, of which f makes the tree
 abbrev pub main_parts : (Tree → Tree → Tree) → Gram
 main_parts f = do
   b ← body_section (codes "main")
@@ -555,7 +556,7 @@ main_parts f = do
 abbrev pub workflow_parts : Gram
 workflow_parts = maybe_section (codes "take") take_section >>= λ t. main_parts (tree.parts t)
 
--- statements, or parts
+-- statements alone, or sections
 abbrev pub workflow_inside : Gram
 workflow_inside = either (rule (Body 1)) (rule Parts)
 
@@ -598,7 +599,7 @@ dsl = do
   n ← kind two
   gives (tree.dsl (place_of w))
 
--- what begins with a word that any name could be
+-- what begins with a word that may also be a name
 abbrev pub small_top : Gram
 small_top = either parameter (either (print 0) (either (log 0) dsl))
 
