@@ -15,7 +15,10 @@ use texts::{CHAINS, DEEPEST, TEXTS};
 fn answer(alloc: Global, text: &str) -> Result<String, Fail> {
     let tokens = tokens(alloc, text.as_bytes())?;
     Ok(match expr(alloc, &tokens, 0) {
-        Ok((_, next)) => format!(in alloc; "ok {next} of {}", tokens.items().len())?,
+        Ok((read, next)) => {
+            let _copy = read.copy(alloc)?;
+            format!(in alloc; "ok {next} of {}", tokens.items().len())?
+        }
         Err(fault) => fault_text(alloc, &fault)?,
     })
 }
@@ -47,7 +50,8 @@ fn limits_chains(rt: HostRuntime) -> Result<(), Fail> {
     Ok(())
 }
 
-/// As many brackets as may be open, with as much before and after each as may stand there, are read and dropped; one more is too deep.
+/// As many brackets as may be open, with as much before and after each as may stand there, are read, copied and dropped; one more is too
+/// deep.
 #[test]
 fn reads_the_deepest(rt: HostRuntime) -> Result<(), Fail> {
     for (open, close, brackets, want) in DEEPEST.iter().copied() {
