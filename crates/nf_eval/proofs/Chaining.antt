@@ -12,7 +12,7 @@ use Rattle.nf_value.specs.declared.fault.EvalRefusal.{EvalRefusal}
 use Rattle.nf_value.specs.declared.fault.EvalRefusal.TheVariants as refusal
 use Rattle.nf_value.specs.declared.fault.EvalKind.TheVariants.{WrongKind}
 use Rattle.nf_ast.specs.declared.marks.InfixOperator.{InfixOperator}
-use Rattle.nf_ast.specs.declared.marks.InfixOperator.TheVariants as mark
+use Rattle.nf_ast.specs.declared.marks.InfixOperator.TheVariants as infix_operator
 use Rattle.nf_ast.specs.declared.expr.Prefix.{Prefix}
 use Rattle.nf_ast.specs.declared.expr.Postfix.{Postfix}
 use Rattle.nf_ast.specs.declared.expr.ClosureBody.TheOpen as o
@@ -22,7 +22,7 @@ use Rattle.nf_ast.specs.Tree as tree
 use Rattle.nf_ast.specs.Tree.{Tree}
 use Rattle.nf_ast.specs.View.{BranchTree, ArmTree, applied, postfix, operands, prefixes, trees, view_postfix, body_step, expr_step, piece_step, postfix_step, stmt_step, arg_step, arm_step, branch_step, closure_step, label_step, operand_step, pair_step}
 use Rattle.nf_placed.specs.Placed.{Placed, ◌>>=◌, fault, made, Evaluates}
-use Rattle.nf_placed.specs.Marked.{prefix_of}
+use Rattle.nf_placed.specs.Operators.{prefix_of}
 use Rattle.nf_placed.specs.Scope.{Env, value_of}
 use Rattle.nf_placed.specs.Calls.{Argument, block, Callee, nothing, method, function, math, no_function, called, method_call, function_call, math_call}
 use Rattle.nf_infix.specs.Read.{index}
@@ -37,7 +37,7 @@ use Rattle.nf_eval.proofs.Evaluating.{refused_on, refused_at}
 use Rattle.nf_eval.specs.declared.subjects.Subject.{Subject}
 use Rattle.nf_eval.specs.declared.subjects.Subject.TheVariants as s
 use Rattle.nf_eval.specs.declared.subjects.Called.{Called}
-use Rattle.nf_eval.specs.Chains.{prefixed, marked, going_on, callee_of, takes, placed_value, has_value, closure_next, IsReady, value_at, applied_at, is_math_at, and_more, Stands, Fails, Comes, IsCall, Waits}
+use Rattle.nf_eval.specs.Chains.{prefixed, combined, going_on, callee_of, takes, placed_value, has_value, closure_next, IsReady, value_at, applied_at, is_math_at, and_more, Stands, Fails, Comes, IsCall, Waits}
 use Rattle.nf_eval.specs.declared.subjects.Waiting.{Waiting}
 
 kept : (r : Placed Plain) → r ≡ (r >>= λ v. Ok v)
@@ -48,7 +48,7 @@ regrouped : (r : Placed Plain) (f g : Plain → Placed Plain) → ((r >>= f) >>=
 regrouped (Ok v) f g = refl
 regrouped (Err e) f g = refl
 
--- ---- marks before an operand
+-- ---- operators before an operand
 
 pub prefixes_value : (ms : List Prefix) (e : Tree) (env : Env) → (meaning_of (prefixes ms e)).value env ≡ ((meaning_of e).value env >>= prefixed ms)
 prefixes_value [] e env = kept ((meaning_of e).value env)
@@ -57,27 +57,27 @@ prefixes_value (x ∷ ms) e env = ap (λ (r : Placed Plain). r >>= λ v. made x.
 -- ---- operands
 
 binary_first : (p : Place) (k : InfixOperator) (a : Env → Placed Plain) (re : Option (List ℕ)) (b : Env → Placed Plain) (env : Env) → binary p k a re b env ≡ (a env >>= λ v. binary p k (λ e. Ok v) re b env)
-binary_first p mark.Or a re b env = refl
-binary_first p mark.And a re b env = refl
-binary_first p mark.Matches a (Some t) b env = refl
-binary_first p mark.Matches a None b env = refl
-binary_first p mark.Pipe a re b env = refl
-binary_first p mark.Same a re b env = refl
-binary_first p mark.Differs a re b env = refl
-binary_first p mark.Less a re b env = refl
-binary_first p mark.AtMost a re b env = refl
-binary_first p mark.Greater a re b env = refl
-binary_first p mark.AtLeast a re b env = refl
-binary_first p mark.In a re b env = refl
-binary_first p mark.Range a re b env = refl
-binary_first p mark.Plus a re b env = refl
-binary_first p mark.Minus a re b env = refl
-binary_first p mark.Times a re b env = refl
-binary_first p mark.Remainder a re b env = refl
+binary_first p infix_operator.Or a re b env = refl
+binary_first p infix_operator.And a re b env = refl
+binary_first p infix_operator.Matches a (Some t) b env = refl
+binary_first p infix_operator.Matches a None b env = refl
+binary_first p infix_operator.Pipe a re b env = refl
+binary_first p infix_operator.Same a re b env = refl
+binary_first p infix_operator.Differs a re b env = refl
+binary_first p infix_operator.Less a re b env = refl
+binary_first p infix_operator.AtMost a re b env = refl
+binary_first p infix_operator.Greater a re b env = refl
+binary_first p infix_operator.AtLeast a re b env = refl
+binary_first p infix_operator.In a re b env = refl
+binary_first p infix_operator.Range a re b env = refl
+binary_first p infix_operator.Plus a re b env = refl
+binary_first p infix_operator.Minus a re b env = refl
+binary_first p infix_operator.Times a re b env = refl
+binary_first p infix_operator.Remainder a re b env = refl
 
 pub operands_value : (a : Tree) (xs : List Tree) (env : Env) → (meaning_of (operands a xs)).value env ≡ ((meaning_of a).value env >>= going_on xs env)
 operands_value a [] env = kept ((meaning_of a).value env)
-operands_value a (tree.binary p k x b ∷ xs) env = operands_value (tree.binary p k a b) xs env ∙ ap (λ (r : Placed Plain). r >>= going_on xs env) (binary_first p k (meaning_of a).value (pattern_in b) (meaning_of b).value env) ∙ regrouped ((meaning_of a).value env) (marked p k b env) (going_on xs env)
+operands_value a (tree.binary p k x b ∷ xs) env = operands_value (tree.binary p k a b) xs env ∙ ap (λ (r : Placed Plain). r >>= going_on xs env) (binary_first p k (meaning_of a).value (pattern_in b) (meaning_of b).value env) ∙ regrouped ((meaning_of a).value env) (combined p k b env) (going_on xs env)
 operands_value a (_ ∷ xs) env = operands_value a xs env
 
 -- ---- what can't be called

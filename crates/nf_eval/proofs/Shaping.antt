@@ -34,7 +34,7 @@ pub record IsFlatChain (t : Tree) : Type 0 where
   pub chain : IsChain t
   pub flat : is_flat t ≡ true
 
--- ---- marks before an operand, operands
+-- ---- operators before an operand, operands
 
 prefixes_chain : (x : Prefix) (ms : List Prefix) (e : Tree) → IsFlatChain (prefixes (x ∷ ms) e)
 prefixes_chain x ms e = record { chain = record { no_closure = refl; plain_is = refl; no_pattern = refl }; flat = refl }
@@ -69,17 +69,17 @@ some_turned P h q (asked p c ∷ fs) e = h _ _
 some_turned P h q (answered p c a ∷ fs) e = some_turned P h q fs (tree.conditional p c a e)
 some_turned P h q (preferred p a ∷ fs) e = some_turned P h q fs (tree.elvis p a e)
 
-by_mark : (P : BranchOperator → Type 0) → P branch.Then → P branch.Elvis → P branch.Else → (k : BranchOperator) → P k
-by_mark P t e l branch.Then = t
-by_mark P t e l branch.Elvis = e
-by_mark P t e l branch.Else = l
+by_operator : (P : BranchOperator → Type 0) → P branch.Then → P branch.Elvis → P branch.Else → (k : BranchOperator) → P k
+by_operator P t e l branch.Then = t
+by_operator P t e l branch.Elvis = e
+by_operator P t e l branch.Else = l
 
 frames_chain : (bs : List BranchTree) (f : Frame) (fs : List Frame) (e : Tree) → IsFlatChain (conditional (f ∷ fs) e bs)
 frames_chain [] f fs e = some_frames f fs e
-frames_chain (b ∷ bs) f fs e = by_mark (λ k. IsFlatChain (conditional (framed b.place k (f ∷ fs) e) b.expr bs)) (frames_chain bs (asked b.place e) (f ∷ fs) b.expr) (frames_chain bs (preferred b.place e) (f ∷ fs) b.expr) (some_turned (λ gs. IsFlatChain (conditional gs b.expr bs)) (λ g gs. frames_chain bs g gs b.expr) b.place (f ∷ fs) e) b.mark
+frames_chain (b ∷ bs) f fs e = by_operator (λ k. IsFlatChain (conditional (framed b.place k (f ∷ fs) e) b.expr bs)) (frames_chain bs (asked b.place e) (f ∷ fs) b.expr) (frames_chain bs (preferred b.place e) (f ∷ fs) b.expr) (some_turned (λ gs. IsFlatChain (conditional gs b.expr bs)) (λ g gs. frames_chain bs g gs b.expr) b.place (f ∷ fs) e) b.mark
 
 conditional_chain : (b : BranchTree) (bs : List BranchTree) (e : Tree) → IsFlatChain (conditional [] e (b ∷ bs))
-conditional_chain b bs e = by_mark (λ k. IsFlatChain (conditional (framed b.place k [] e) b.expr bs)) (frames_chain bs (asked b.place e) [] b.expr) (frames_chain bs (preferred b.place e) [] b.expr) (frames_chain bs (preferred b.place e) [] b.expr) b.mark
+conditional_chain b bs e = by_operator (λ k. IsFlatChain (conditional (framed b.place k [] e) b.expr bs)) (frames_chain bs (asked b.place e) [] b.expr) (frames_chain bs (preferred b.place e) [] b.expr) (frames_chain bs (preferred b.place e) [] b.expr) b.mark
 
 -- ---- what is read or called
 

@@ -6,7 +6,7 @@ use Rattle.nf_value.specs.declared.place.Place.{Place}
 use Rattle.nf_value.specs.declared.fault.EvalKind.TheVariants.{WrongKind, DivZero, Arity, NoMethod, NoProperty}
 use Rattle.nf_token.specs.declared.token.PlainKind.TheVariants as kind
 use Rattle.nf_token.specs.declared.token.TemplateKind.TheVariants as template_kind
-use Rattle.nf_ast.specs.declared.marks.InfixOperator.TheVariants as mark
+use Rattle.nf_ast.specs.declared.marks.InfixOperator.TheVariants as infix_operator
 use Rattle.nf_ast.specs.declared.marks.PrefixOperator.TheVariants as before
 use Rattle.nf_ast.specs.Tree as tree
 use Rattle.nf_ast.specs.Tree.{Tree, empty, cons}
@@ -29,7 +29,7 @@ abbrev two : Tree
 two = tree.number (at 2) (pos 2)
 
 abbrev zero_div : ℕ → Tree
-zero_div k = tree.binary (at k) mark.Remainder one (tree.number (at 3) (pos 0))
+zero_div k = tree.binary (at k) infix_operator.Remainder one (tree.number (at 3) (pos 0))
 
 abbrev x : Tree
 x = tree.name (at 4) (codes "x")
@@ -43,29 +43,29 @@ both_numbers = tree.list (at 6) (cons one (cons two empty))
 abbrev block_of : Tree → Tree
 block_of e = tree.closure (at 7) empty (cons e empty)
 
--- `1 + 2`, `-7 % 3`, and the place of a mark
-sum : eval_of (tree.binary (at 9) mark.Plus one two) x_is_ten ≡ Ok (int (pos 3))
+-- `1 + 2`, `-7 % 3`, and the place of an operator
+sum : eval_of (tree.binary (at 9) infix_operator.Plus one two) x_is_ten ≡ Ok (int (pos 3))
 unfolding digits
 sum = refl
 
-remainder : eval_of (tree.binary (at 9) mark.Remainder (tree.prefix (at 8) before.Minus (tree.number (at 1) (pos 7))) (tree.number (at 2) (pos 3))) x_is_ten ≡ Ok (int (negsuc 0))
+remainder : eval_of (tree.binary (at 9) infix_operator.Remainder (tree.prefix (at 8) before.Minus (tree.number (at 1) (pos 7))) (tree.number (at 2) (pos 3))) x_is_ten ≡ Ok (int (negsuc 0))
 unfolding digits
 remainder = refl
 
-at_the_mark : eval_of (tree.binary (at 9) mark.Times one (tree.null (at 3))) x_is_ten ≡ fault WrongKind (at 9)
+at_the_operator : eval_of (tree.binary (at 9) infix_operator.Times one (tree.null (at 3))) x_is_ten ≡ fault WrongKind (at 9)
 unfolding digits
-at_the_mark = refl
+at_the_operator = refl
 
 -- the left operand's fault comes first, and a second operand that isn't needed has none
-from_the_left : eval_of (tree.binary (at 9) mark.Plus (zero_div 8) (zero_div 10)) x_is_ten ≡ fault DivZero (at 8)
+from_the_left : eval_of (tree.binary (at 9) infix_operator.Plus (zero_div 8) (zero_div 10)) x_is_ten ≡ fault DivZero (at 8)
 unfolding digits
 from_the_left = refl
 
-not_needed : eval_of (tree.binary (at 9) mark.Or one (zero_div 8)) x_is_ten ≡ Ok (truth true)
+not_needed : eval_of (tree.binary (at 9) infix_operator.Or one (zero_div 8)) x_is_ten ≡ Ok (truth true)
 unfolding digits
 not_needed = refl
 
-needed : eval_of (tree.binary (at 9) mark.And one (zero_div 8)) x_is_ten ≡ fault DivZero (at 8)
+needed : eval_of (tree.binary (at 9) infix_operator.And one (zero_div 8)) x_is_ten ≡ fault DivZero (at 8)
 unfolding digits
 needed = refl
 
@@ -78,15 +78,15 @@ unfolding digits
 chosen = refl
 
 -- `[1, 2].collect { it + x }`, with and without brackets
-images : eval_of (tree.call_with (tree.property both_numbers (tree.name (at 8) (codes "collect"))) (block_of (tree.binary (at 9) mark.Plus it x))) x_is_ten ≡ Ok (list (plains_of (int (pos 11) ∷ int (pos 12) ∷ [])))
+images : eval_of (tree.call_with (tree.property both_numbers (tree.name (at 8) (codes "collect"))) (block_of (tree.binary (at 9) infix_operator.Plus it x))) x_is_ten ≡ Ok (list (plains_of (int (pos 11) ∷ int (pos 12) ∷ [])))
 unfolding digits
 images = refl
 
-images_in_brackets : eval_of (tree.call (at 10) (tree.property both_numbers (tree.name (at 8) (codes "collect"))) (cons (block_of (tree.binary (at 9) mark.Plus it x)) empty)) x_is_ten ≡ Ok (list (plains_of (int (pos 11) ∷ int (pos 12) ∷ [])))
+images_in_brackets : eval_of (tree.call (at 10) (tree.property both_numbers (tree.name (at 8) (codes "collect"))) (cons (block_of (tree.binary (at 9) infix_operator.Plus it x)) empty)) x_is_ten ≡ Ok (list (plains_of (int (pos 11) ∷ int (pos 12) ∷ [])))
 unfolding digits
 images_in_brackets = refl
 
-found : eval_of (tree.call_with (tree.property both_numbers (tree.name (at 8) (codes "find"))) (block_of (tree.binary (at 9) mark.Greater it one))) x_is_ten ≡ Ok (int (pos 2))
+found : eval_of (tree.call_with (tree.property both_numbers (tree.name (at 8) (codes "find"))) (block_of (tree.binary (at 9) infix_operator.Greater it one))) x_is_ten ≡ Ok (int (pos 2))
 unfolding digits
 found = refl
 
@@ -177,7 +177,7 @@ unfolding digits
 split = refl
 
 -- a closure sees the names around it: `{ def y = 1; [1, 2].collect { it + y } }`
-sees_around : apply_of (closing empty (cons (tree.define (at 2) y one) (cons (tree.call_with (tree.property both_numbers (tree.name (at 8) (codes "collect"))) (block_of (tree.binary (at 9) mark.Plus it y))) empty))) (null ∷ []) ≡ Ok (list (plains_of (int (pos 2) ∷ int (pos 3) ∷ [])))
+sees_around : apply_of (closing empty (cons (tree.define (at 2) y one) (cons (tree.call_with (tree.property both_numbers (tree.name (at 8) (codes "collect"))) (block_of (tree.binary (at 9) infix_operator.Plus it y))) empty))) (null ∷ []) ≡ Ok (list (plains_of (int (pos 2) ∷ int (pos 3) ∷ [])))
 unfolding digits
 sees_around = refl
 
@@ -187,21 +187,21 @@ unfolding digits
 captured = refl
 
 -- a pattern that isn't built is of the wrong kind, after what is matched against it; one that is built is looked for in the text
-not_built : eval_of (tree.binary (at 9) mark.Matches (tree.text (at 1) kind.Single (codes "b")) (tree.pattern (at 3) (codes "b"))) x_is_ten ≡ fault WrongKind (at 9)
+not_built : eval_of (tree.binary (at 9) infix_operator.Matches (tree.text (at 1) kind.Single (codes "b")) (tree.pattern (at 3) (codes "b"))) x_is_ten ≡ fault WrongKind (at 9)
 unfolding digits
 not_built = refl
 
-before_the_pattern : eval_of (tree.binary (at 9) mark.Matches (zero_div 8) (tree.pattern (at 3) (codes "b"))) x_is_ten ≡ fault DivZero (at 8)
+before_the_pattern : eval_of (tree.binary (at 9) infix_operator.Matches (zero_div 8) (tree.pattern (at 3) (codes "b"))) x_is_ten ≡ fault DivZero (at 8)
 unfolding digits
 before_the_pattern = refl
 
-built : eval_of (tree.binary (at 9) mark.Matches (tree.text (at 1) kind.Single (codes "aa")) (tree.pattern (at 3) (codes "a+"))) x_is_ten ≡ made (at 9) (matches (text (codes "aa")) (codes "a+"))
+built : eval_of (tree.binary (at 9) infix_operator.Matches (tree.text (at 1) kind.Single (codes "aa")) (tree.pattern (at 3) (codes "a+"))) x_is_ten ≡ made (at 9) (matches (text (codes "aa")) (codes "a+"))
 unfolding digits
 built = refl
 
 -- labels
 abbrev small_or_large : Tree
-small_or_large = cons (tree.label (tree.name (at 1) (codes "small")) (tree.binary (at 2) mark.Less it x)) (cons (tree.label (tree.name (at 3) (codes "large")) (tree.truth (at 4) true)) empty)
+small_or_large = cons (tree.label (tree.name (at 1) (codes "small")) (tree.binary (at 2) infix_operator.Less it x)) (cons (tree.label (tree.name (at 3) (codes "large")) (tree.truth (at 4) true)) empty)
 
 branches : branch_of (closing empty small_or_large) (int (pos 12) ∷ []) ≡ Ok (int (pos 1))
 unfolding digits
@@ -223,10 +223,10 @@ of_one name e = record { name = name; params = codes "n" ∷ []; body = cons e e
 
 -- the first calls the second, which calls the first
 abbrev two_functions : Env
-two_functions = with_functions (of_one (codes "late") (calls 14 (codes "early") (tree.binary (at 16) mark.Plus n one)) ∷ of_one (codes "early") (calls 17 (codes "late") n) ∷ []) x_is_ten
+two_functions = with_functions (of_one (codes "late") (calls 14 (codes "early") (tree.binary (at 16) infix_operator.Plus n one)) ∷ of_one (codes "early") (calls 17 (codes "late") n) ∷ []) x_is_ten
 
 abbrev summing : Env
-summing = with_functions (of_one (codes "late") (calls 14 (codes "early") (calls 15 (codes "early") n)) ∷ of_one (codes "early") (tree.binary (at 16) mark.Plus n one) ∷ []) x_is_ten
+summing = with_functions (of_one (codes "late") (calls 14 (codes "early") (calls 15 (codes "early") n)) ∷ of_one (codes "early") (tree.binary (at 16) infix_operator.Plus n one) ∷ []) x_is_ten
 
 calls_earlier : eval_of (calls 20 (codes "late") two) summing ≡ Ok (int (pos 4))
 unfolding digits
@@ -240,7 +240,7 @@ sees_parameters : eval_of (calls 20 (codes "f") two) (with_functions (of_one (co
 unfolding digits
 sees_parameters = refl
 
-faults_within : eval_of (tree.binary (at 19) mark.Plus one (calls 20 (codes "f") two)) (with_functions (of_one (codes "f") (zero_div 8) ∷ []) x_is_ten) ≡ fault DivZero (at 8)
+faults_within : eval_of (tree.binary (at 19) infix_operator.Plus one (calls 20 (codes "f") two)) (with_functions (of_one (codes "f") (zero_div 8) ∷ []) x_is_ten) ≡ fault DivZero (at 8)
 unfolding digits
 faults_within = refl
 

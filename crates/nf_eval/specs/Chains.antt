@@ -1,4 +1,4 @@
--- What comes of the parts that stand in one list: marks before an operand, operands with marks, and what is read or called.
+-- What comes of the parts that stand in one list: operators before an operand, operands with operators, and what is read or called.
 use Rattle.std.specs.Prelude.{◌≡◌, ℕ, suc, Bool, true, false, List, [], ◌∷◌, ◌++◌, length, codes, Option, Some, None, Result, Ok, Err}
 use Rattle.std.specs.Str.{bytes_eq}
 use Rattle.nf_value.specs.Plain.{Plain}
@@ -15,7 +15,7 @@ use Rattle.nf_ast.specs.declared.expr.Prefix.{Prefix}
 use Rattle.nf_ast.specs.Tree as tree
 use Rattle.nf_ast.specs.Tree.{Tree}
 use Rattle.nf_placed.specs.Placed.{Placed, ◌>>=◌, fault, made}
-use Rattle.nf_placed.specs.Marked.{prefix_of}
+use Rattle.nf_placed.specs.Operators.{prefix_of}
 use Rattle.nf_placed.specs.Scope.{Env, value_of}
 use Rattle.nf_placed.specs.Calls.{Argument, Callee, nothing, method, function, math, no_function, called}
 use Rattle.nf_placed.specs.Body.{pattern_in}
@@ -28,7 +28,7 @@ use Rattle.nf_eval.specs.declared.subjects.Called.{Called}
 use Rattle.nf_eval.specs.declared.subjects.Called.TheVariants as c
 use Rattle.nf_eval.specs.Gives.{IsRefused}
 
--- ---- marks before a value, the outermost first
+-- ---- operators before a value, the outermost first
 
 abbrev pub prefixed : List Prefix → Plain → Placed Plain
 prefixed [] v = Ok v
@@ -36,13 +36,13 @@ prefixed (x ∷ xs) v = prefixed xs v >>= λ w. made x.place (prefix_of x.mark w
 
 -- ---- operands after a value
 
--- what a mark makes of the value before it and the operand after it
-abbrev pub marked : Place → InfixOperator → Tree → Env → Plain → Placed Plain
-marked p k b env v = binary p k (λ e. Ok v) (pattern_in b) (meaning_of b).value env
+-- what an operator makes of the value before it and the operand after it
+abbrev pub combined : Place → InfixOperator → Tree → Env → Plain → Placed Plain
+combined p k b env v = binary p k (λ e. Ok v) (pattern_in b) (meaning_of b).value env
 
 abbrev pub going_on : List Tree → Env → Plain → Placed Plain
 going_on [] env v = Ok v
-going_on (tree.binary p k a b ∷ xs) env v = marked p k b env v >>= going_on xs env
+going_on (tree.binary p k a b ∷ xs) env v = combined p k b env v >>= going_on xs env
 going_on (_ ∷ xs) env v = going_on xs env v
 
 -- ---- what is read or called

@@ -7,7 +7,7 @@ use Rattle.nf_value.specs.declared.fault.EvalKind.TheVariants.{WrongKind}
 use Rattle.nf_builtins.specs.Lists.{list_of}
 use Rattle.nf_builtins.specs.Natives.{is_among}
 use Rattle.nf_ast.specs.declared.marks.InfixOperator.{InfixOperator}
-use Rattle.nf_ast.specs.declared.marks.InfixOperator.TheVariants as mark
+use Rattle.nf_ast.specs.declared.marks.InfixOperator.TheVariants as infix_operator
 use Rattle.nf_ast.specs.Tree as tree
 use Rattle.nf_ast.specs.Tree.{Tree, empty, cons, place_of}
 use Rattle.nf_infix.specs.Compare.{matches}
@@ -16,7 +16,7 @@ use Rattle.nf_infix.specs.Property.{property}
 use Rattle.nf_infix.specs.Read.{index}
 use Rattle.nf_infix.specs.Template.{hole_text}
 use Rattle.nf_placed.specs.Placed.{Placed, ◌>>=◌, fault, made}
-use Rattle.nf_placed.specs.Marked.{infix_of, prefix_of}
+use Rattle.nf_placed.specs.Operators.{infix_of, prefix_of}
 use Rattle.nf_placed.specs.Scope.{Env, Function, value_of, defined, rebound, left_by, inside}
 use Rattle.nf_placed.specs.Calls.{Argument, plain, block, Callee, nothing, method, function, math, no_function, called}
 use Rattle.nf_placed.specs.Body.{Flow, going, returned, value_of_body, name_in, key_text, pattern_in, is_math, names_in, bound, paired, split, with_all}
@@ -87,7 +87,7 @@ callable value callee = record (expression value) {
 abbrev pub statement : (Env → Placed Flow) → Meaning
 statement done = record nothing_there { done = done }
 
--- ---- marks
+-- ---- operators
 
 abbrev pub either : (Env → Placed Plain) → (Env → Placed Plain) → Env → Placed Plain
 either a b env = a env >>= λ v. if truth_of v then Ok (truth true) else b env >>= λ w. Ok (truth (truth_of w))
@@ -101,9 +101,9 @@ matched p a (Some re) b env = a env >>= λ v. if is_among re env.patterns then m
 matched p a None b env = a env >>= λ v. b env >>= λ w. fault WrongKind p
 
 abbrev pub binary : Place → InfixOperator → (Env → Placed Plain) → Option (List ℕ) → (Env → Placed Plain) → Env → Placed Plain
-binary p mark.Or a re b env = either a b env
-binary p mark.And a re b env = both a b env
-binary p mark.Matches a re b env = matched p a re b env
+binary p infix_operator.Or a re b env = either a b env
+binary p infix_operator.And a re b env = both a b env
+binary p infix_operator.Matches a re b env = matched p a re b env
 binary p k a re b env = a env >>= λ v. b env >>= λ w. made p (infix_of k v w)
 
 -- ---- closures

@@ -48,7 +48,7 @@ IsAt env fs e (turn.Live n v) = Open env n fs × ((meaning_of e).value env ≡ O
 IsAt env fs e (turn.Chosen n v k) = Shut env k (Some (plain_of v)) n fs
 IsAt env fs e (turn.Skipped n k) = Shut env k None n fs
 
--- and after a mark
+-- and after an operator
 abbrev pub IsNext : Env → List Frame → Next → Type 0
 IsNext env fs (next.Due n) = Open env n fs
 IsNext env fs (next.Chosen n v k) = Shut env k (Some (plain_of v)) n fs

@@ -50,7 +50,7 @@ pub(crate) fn value_seen(name: &str, around: &Around<'_>) -> Result<Value, Mem>
     }
 }
 
-/// Whether a value's text is matched by the pattern of a text, at the place of the mark.
+/// Whether a value's text is matched by the pattern of a text, at the place of the operator.
 ///
 /// # Errors
 ///

@@ -10,7 +10,7 @@ ghost use Rattle.nf_eval.specs.Chains.{has_value, closure_next as is_closure_nex
 
 use crate::around::Around;
 use crate::reading::{callee, calls_nothing, finished, property, read, safe_property, waiting};
-use crate::shapes::{after_first, closure_next, no_branches, no_marks, no_operands};
+use crate::shapes::{after_first, closure_next, no_branches, no_operands, no_prefixes};
 use crate::subjects::Subject;
 use nf_ast::{Arg, ClosureExpr, Expr, Postfix};
 use nf_builtins::Natives;
@@ -37,8 +37,8 @@ pub(crate) fn subject<N: Natives>(
             let first = subject(alloc, first, next, around, natives)?;
             parts(alloc, rest, first, closure, around, natives)
         }
-        Expr::Prefix(marks, of) => {
-            if no_marks(marks) {
+        Expr::Prefix(operators, of) => {
+            if no_prefixes(operators) {
                 subject(alloc, of, closure, around, natives)
             } else {
                 flat(alloc, expr, around, natives)

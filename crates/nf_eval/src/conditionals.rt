@@ -16,7 +16,7 @@ use nf_builtins::Natives;
 use nf_value::{EvalRefusal, Value};
 use std::alloc::Global;
 
-/// What operands after a value come to, with the marks of conditions between them.
+/// What operands after a value come to, with the operators of conditions between them.
 #[cycle(value)]
 pub(crate) fn conditional<N: Natives>(
     alloc: Global,
@@ -35,7 +35,7 @@ pub(crate) fn conditional<N: Natives>(
     ended(turn)
 }
 
-/// A mark and the operand after it, which is evaluated only where it is needed. Fewer than 2^64 - 1 conditions may wait.
+/// An operator and the operand after it, which is evaluated only where it is needed. Fewer than 2^64 - 1 conditions may wait.
 #[cycle(value)]
 pub(crate) fn step<N: Natives>(
     alloc: Global,

@@ -121,7 +121,7 @@ impl Env {
     }
 }
 
-/// Whether a value's text is matched by the pattern of a text, at the place of the mark.
+/// Whether a value's text is matched by the pattern of a text, at the place of the operator.
 ///
 /// # Errors
 ///

@@ -1,4 +1,4 @@
-//! Operands of one level with the marks between them.
+//! Operands of one level with the operators between them.
 
 ghost use Rattle.std.specs.Prelude.{map, Ok};
 ghost use Rattle.nf_value.specs.View.{plain_of};
@@ -7,7 +7,7 @@ ghost use Rattle.nf_placed.specs.Placed.{Evaluates};
 ghost use Rattle.nf_placed.specs.Body.{pattern_in};
 ghost use Rattle.nf_eval.specs.Evaluation.{meaning_of, matched as matched_of};
 ghost use Rattle.nf_eval.specs.Memory.{seen};
-ghost use Rattle.nf_eval.specs.Chains.{marked, going_on};
+ghost use Rattle.nf_eval.specs.Chains.{combined, going_on};
 
 use crate::around::{Around, match_seen};
 use crate::shapes::pattern_text;
@@ -44,21 +44,21 @@ pub(crate) fn operands<N: Natives>(
     Ok(left)
 }
 
-/// What a mark makes of a value and the operand after it, which may not be evaluated.
+/// What an operator makes of a value and the operand after it, which may not be evaluated.
 #[cycle(value)]
 pub(crate) fn joined<N: Natives>(
     alloc: Global,
     expr: &Expr,
     place: Place,
-    mark: InfixOperator,
+    operator: InfixOperator,
     left: Value,
     around: &Around<'_>,
     natives: &N,
 ) -> Result<Value, EvalRefusal>
     requires { N.keeps natives.now }
-    ensures { Evaluates (marked place mark (view expr.now) (seen around.now (N.titles natives.now) (N.answer natives.now)) (plain_of left)) result }
+    ensures { Evaluates (combined place operator (view expr.now) (seen around.now (N.titles natives.now) (N.answer natives.now)) (plain_of left)) result }
 {
-    match mark {
+    match operator {
         InfixOperator::Or => {
             if truth(&left) {
                 return Ok(Value::Truth(true));
@@ -76,7 +76,7 @@ pub(crate) fn joined<N: Natives>(
         InfixOperator::Matches => matches(alloc, expr, place, left, around, natives),
         _ => {
             let right = crate::values::value(alloc, expr, around, natives)?;
-            infix_value(alloc, place, mark, left, right)
+            infix_value(alloc, place, operator, left, right)
         }
     }
 }

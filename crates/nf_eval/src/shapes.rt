@@ -17,8 +17,8 @@ pub(crate) fn pattern_text(expr: &Expr) -> Option<&Txt>
     match expr {
         Expr::Pattern(_, text) => Some(text),
         Expr::Text(_, _, text) => Some(text),
-        Expr::Prefix(marks, of) => {
-            if no_marks(marks) {
+        Expr::Prefix(operators, of) => {
+            if no_prefixes(operators) {
                 pattern_text(of)
             } else {
                 None
@@ -56,7 +56,13 @@ pub(crate) fn is_block(expr: &Expr) -> bool
 {
     match expr {
         Expr::Closure(_) => true,
-        Expr::Prefix(marks, of) => { if no_marks(marks) { is_block(of) } else { false } }
+        Expr::Prefix(operators, of) => {
+            if no_prefixes(operators) {
+                is_block(of)
+            } else {
+                false
+            }
+        }
         Expr::Infix(first, rest) => {
             if no_operands(rest) {
                 is_block(first)
@@ -82,8 +88,8 @@ pub(crate) fn is_block(expr: &Expr) -> bool
     }
 }
 
-/// No mark stands before an operand.
-pub(crate) fn no_marks(list: &[Prefix]) -> bool
+/// No operator stands before an operand.
+pub(crate) fn no_prefixes(list: &[Prefix]) -> bool
     ensures { result ≡ is_nil list.now }
 {
     match list {

@@ -1,7 +1,7 @@
 //! How a conditional expression is read from the left.
 
 ghost use Rattle.std.specs.Prelude.{◌≡◌, ◌≤◌, suc, [], List};
-ghost use Rattle.nf_value.specs.declared.place.Place.{Place as Mark};
+ghost use Rattle.nf_value.specs.declared.place.Place.{Place as Spot};
 ghost use Rattle.nf_ast.specs.Tree.{Tree};
 ghost use Rattle.nf_ast.specs.View.{Frame, framed, turned, ended as ended_of};
 ghost use Rattle.nf_placed.specs.Placed.{Evaluates};
@@ -16,7 +16,7 @@ use nf_value::{EvalKind, EvalRefusal, Place, Value, truth};
 /// How far a conditional expression was read. Of the conditions that are true so many wait for their `:`.
 #[derive(Drop)]
 pub(crate) enum Turn {
-    /// The operand before the next mark was needed, and has this value.
+    /// The operand before the next operator was needed, and has this value.
     Live(usize, Value),
     /// This value was chosen before, and of what isn't needed so many conditions wait for their `:`.
     Chosen(usize, Value, usize),
@@ -24,7 +24,7 @@ pub(crate) enum Turn {
     Skipped(usize, usize),
 }
 
-/// What comes of the operand after a mark.
+/// What comes of the operand after an operator.
 #[derive(Drop)]
 pub(crate) enum Next {
     /// It is needed.
@@ -35,24 +35,24 @@ pub(crate) enum Next {
     Skipped(usize, usize),
 }
 
-/// What comes of the operand after the next mark. Fewer than 2^64 - 1 conditions may wait.
-pub(crate) fn after(mark: BranchOperator, turn: Turn) -> Next
+/// What comes of the operand after the next operator. Fewer than 2^64 - 1 conditions may wait.
+pub(crate) fn after(operator: BranchOperator, turn: Turn) -> Next
     requires { suc (waits turn) ≤ usize.MAX }
-    ensures reads { (env : Env) (p : Mark) (fs : List Frame) (e : Tree) → IsAt env fs e turn → IsNext env (framed p mark fs e) result }
+    ensures reads { (env : Env) (p : Spot) (fs : List Frame) (e : Tree) → IsAt env fs e turn → IsNext env (framed p operator fs e) result }
     ensures fits { next_waits result ≤ suc (waits turn) }
 {
     match turn {
-        Turn::Live(outer, value) => match mark {
+        Turn::Live(outer, value) => match operator {
             BranchOperator::Then => asked(outer, value),
             BranchOperator::Elvis => preferred(outer, value),
             BranchOperator::Else => answered(outer, value),
         },
-        Turn::Chosen(outer, value, inner) => match mark {
+        Turn::Chosen(outer, value, inner) => match operator {
             BranchOperator::Then => Next::Chosen(outer, value, inner + 1),
             BranchOperator::Elvis => Next::Chosen(outer, value, inner),
             BranchOperator::Else => chosen(outer, value, inner),
         },
-        Turn::Skipped(outer, inner) => match mark {
+        Turn::Skipped(outer, inner) => match operator {
             BranchOperator::Then => Next::Skipped(outer, inner + 1),
             BranchOperator::Elvis => Next::Skipped(outer, inner),
             BranchOperator::Else => skipped(outer, inner),
@@ -63,7 +63,7 @@ pub(crate) fn after(mark: BranchOperator, turn: Turn) -> Next
 /// `?` after a value that is needed.
 fn asked(outer: usize, value: Value) -> Next
     requires { suc outer ≤ usize.MAX }
-    ensures reads { (env : Env) (p : Mark) (fs : List Frame) (e : Tree) → IsAt env fs e (Turn.Live outer value) → IsNext env (framed p BranchOperator.Then fs e) result }
+    ensures reads { (env : Env) (p : Spot) (fs : List Frame) (e : Tree) → IsAt env fs e (Turn.Live outer value) → IsNext env (framed p BranchOperator.Then fs e) result }
     ensures fits { next_waits result ≤ suc outer }
 {
     if truth(&value) {
@@ -74,7 +74,7 @@ fn asked(outer: usize, value: Value) -> Next
 
 /// `?:` after a value that is needed.
 fn preferred(outer: usize, value: Value) -> Next
-    ensures reads { (env : Env) (p : Mark) (fs : List Frame) (e : Tree) → IsAt env fs e (Turn.Live outer value) → IsNext env (framed p BranchOperator.Elvis fs e) result }
+    ensures reads { (env : Env) (p : Spot) (fs : List Frame) (e : Tree) → IsAt env fs e (Turn.Live outer value) → IsNext env (framed p BranchOperator.Elvis fs e) result }
     ensures fits { next_waits result ≤ outer }
 {
     if truth(&value) {
@@ -85,7 +85,7 @@ fn preferred(outer: usize, value: Value) -> Next
 
 /// `:` after a value that is needed.
 fn answered(outer: usize, value: Value) -> Next
-    ensures reads { (env : Env) (p : Mark) (fs : List Frame) (e : Tree) → IsAt env fs e (Turn.Live outer value) → IsNext env (turned p fs e) result }
+    ensures reads { (env : Env) (p : Spot) (fs : List Frame) (e : Tree) → IsAt env fs e (Turn.Live outer value) → IsNext env (turned p fs e) result }
     ensures fits { next_waits result ≤ outer }
 {
     if outer > 0 {
@@ -99,7 +99,7 @@ fn answered(outer: usize, value: Value) -> Next
 
 /// `:` after what isn't needed, where a value was chosen.
 fn chosen(outer: usize, value: Value, inner: usize) -> Next
-    ensures reads { (env : Env) (p : Mark) (fs : List Frame) (e : Tree) → IsAt env fs e (Turn.Chosen outer value inner) → IsNext env (turned p fs e) result }
+    ensures reads { (env : Env) (p : Spot) (fs : List Frame) (e : Tree) → IsAt env fs e (Turn.Chosen outer value inner) → IsNext env (turned p fs e) result }
     ensures fits { next_waits result ≤ waits (Turn.Chosen outer value inner) }
 {
     if inner > 0 {
@@ -110,7 +110,7 @@ fn chosen(outer: usize, value: Value, inner: usize) -> Next
 
 /// `:` after what isn't needed, where a condition was false.
 fn skipped(outer: usize, inner: usize) -> Next
-    ensures reads { (env : Env) (p : Mark) (fs : List Frame) (e : Tree) → IsAt env fs e (Turn.Skipped outer inner) → IsNext env (turned p fs e) result }
+    ensures reads { (env : Env) (p : Spot) (fs : List Frame) (e : Tree) → IsAt env fs e (Turn.Skipped outer inner) → IsNext env (turned p fs e) result }
     ensures fits { next_waits result ≤ waits (Turn.Skipped outer inner) }
 {
     if inner > 0 {

@@ -52,9 +52,9 @@ pub(crate) fn value<N: Natives>(
             map_value(alloc, *place, values)
         }
         Expr::Closure(closure) => Err(fault_at(closure.place, EvalKind::WrongKind)),
-        Expr::Prefix(marks, of) => {
+        Expr::Prefix(operators, of) => {
             let of = value(alloc, of, around, natives)?;
-            prefixed(marks, of)
+            prefixed(operators, of)
         }
         Expr::Infix(first, rest) => {
             let first = value(alloc, first, around, natives)?;
@@ -73,15 +73,15 @@ pub(crate) fn value<N: Natives>(
     }
 }
 
-/// What marks before a value make of it, the innermost first.
-fn prefixed(marks: &[Prefix], of: Value) -> Result<Value, EvalRefusal>
-    ensures { Evaluates (prefixed_of marks.now (plain_of of)) result }
+/// What operators before a value make of it, the innermost first.
+fn prefixed(operators: &[Prefix], of: Value) -> Result<Value, EvalRefusal>
+    ensures { Evaluates (prefixed_of operators.now (plain_of of)) result }
 {
     let mut value = of;
-    let mut end = marks.len();
+    let mut end = operators.len();
     while end > 0 {
         end -= 1;
-        value = prefix_value(marks[end].place, marks[end].mark, &value)?;
+        value = prefix_value(operators[end].place, operators[end].mark, &value)?;
     }
     Ok(value)
 }

@@ -8,9 +8,9 @@ ghost use Rattle.nf_builtins.specs.Maps.{has_key as has_key_of};
 ghost use Rattle.nf_infix.specs.Compare.{compared, compared_int, compared_text, less as less_of, at_most as at_most_of, greater as greater_of, at_least as at_least_of, same as same_of, differs as differs_of, matches as matches_of, is_in as is_in_of, in_items, in_keys};
 
 use crate::kinds::{int_in, text_in};
-use crate::limits::judged;
 use nf_builtins::CallFault;
 use nf_pattern::WholeRe;
+use nf_texts::limits::judged;
 use nf_value::{EvalKind, Pairs, Txt, Vals, Value};
 use std::alloc::Global;
 use std::cmp::Ordering;

@@ -6,14 +6,11 @@ ghost use Rattle.nf_value.specs.View.{plain_of};
 ghost use Rattle.nf_texts.specs.Outcome.{Gives};
 ghost use Rattle.nf_infix.specs.Literal.{new_list as new_list_of};
 
-use crate::limits::MOST_WEIGHT;
 use crate::literals::new_list;
 use nf_builtins::CallFault;
+use nf_texts::limits::{LONGEST, MOST_WEIGHT};
 use nf_value::{EvalKind, Mem, Value, weight};
 use std::alloc::Global;
-
-/// Where weights stop: far above what a value within the limits can have.
-const HEAVIEST: u64 = 1 << 32;
 
 /// The values of a list as far as they were gathered (Nextflow reference documentation, "Syntax", "List"). Once they weigh more together than a value
 /// may, none is kept, but their weight is counted, so that no list takes memory without bound.
@@ -44,7 +41,7 @@ impl Gathered {
     pub fn push(&mut self, value: Value) -> Result<(), Mem>
         ensures { (vs : List Plain) → IsGathered vs self.old → OnOk result (IsGathered (vs ++ plain_of value ∷ []) self.new) }
     {
-        self.weight = self.weight.saturating_add(weight(&value)).min(HEAVIEST);
+        self.weight = self.weight.saturating_add(weight(&value)).min(LONGEST);
         if self.weight <= MOST_WEIGHT {
             self.values.push(value)?;
         } else {

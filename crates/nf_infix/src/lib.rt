@@ -1,10 +1,9 @@
-//! What the marks of expressions give on values.
+//! What the operators of expressions give on values.
 #![tactic(auto)]
 
 mod comparisons;
 mod gathered;
 mod kinds;
-mod limits;
 mod literals;
 mod pairs;
 mod products;

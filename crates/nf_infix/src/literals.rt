@@ -6,9 +6,9 @@ ghost use Rattle.nf_texts.specs.Outcome.{Gives};
 ghost use Rattle.nf_infix.specs.Literal.{new_list as new_list_of, new_map as new_map_of};
 ghost use Rattle.nf_infix.specs.Pairs.{put_all};
 
-use crate::limits::judged;
 use crate::pairs::put_each;
 use nf_builtins::CallFault;
+use nf_texts::limits::judged;
 use nf_value::{Mem, Pairs, Txt, Vals, Value};
 use std::alloc::Global;
 

@@ -6,8 +6,8 @@ ghost use Rattle.nf_texts.specs.Outcome.{Gives};
 ghost use Rattle.nf_infix.specs.Product.{times as times_of, remainder as remainder_of, negative as negative_of, rest as rest_of};
 
 use crate::kinds::int_in;
-use crate::limits::judged;
 use nf_builtins::CallFault;
+use nf_texts::limits::judged;
 use nf_value::{EvalKind, Value};
 
 /// `a * b` of two numbers (Nextflow reference documentation, "Syntax", "Binary expressions").

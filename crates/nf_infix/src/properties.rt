@@ -8,9 +8,9 @@ ghost use Rattle.nf_builtins.specs.Rows.{is_closure};
 ghost use Rattle.nf_builtins.specs.Call.{builtin_rows, answer_of};
 ghost use Rattle.nf_infix.specs.Property.{property as property_of, file_property};
 
-use crate::limits::{copied, judged};
 use crate::reading::value_at;
 use nf_builtins::{CallFault, call};
+use nf_texts::limits::{copied, judged};
 use nf_value::{EvalKind, Vals, Value};
 use std::alloc::Global;
 

@@ -9,8 +9,8 @@ ghost use Rattle.nf_infix.specs.Fault.{IsFaultOf};
 ghost use Rattle.nf_infix.specs.Range.{range as range_of, int_range, numbers_to, step_to};
 
 use crate::kinds::int_in;
-use crate::limits::{MOST_WEIGHT, judged};
 use nf_builtins::CallFault;
+use nf_texts::limits::{MOST_WEIGHT, judged};
 use nf_value::{EvalKind, Vals, Value, weight};
 use std::alloc::Global;
 

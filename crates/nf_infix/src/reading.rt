@@ -7,8 +7,8 @@ ghost use Rattle.nf_texts.specs.Outcome.{Gives};
 ghost use Rattle.nf_infix.specs.Read.{index as index_of, list_index, map_index, item_at as item_at_of, value_at as value_at_of};
 
 use crate::kinds::{int_in, text_in};
-use crate::limits::{copied, judged};
 use nf_builtins::CallFault;
+use nf_texts::limits::{copied, judged};
 use nf_value::{EvalKind, Pairs, Vals, Value};
 
 /// `a[b]`: the item of a list at a place, which is counted from 0 and where -1 is that of the last, or the value of a key of a map; null where there

@@ -9,9 +9,9 @@ ghost use Rattle.nf_infix.specs.Sum.{plus as plus_of, minus as minus_of, int_plu
 
 use crate::comparisons::has_in;
 use crate::kinds::int_in;
-use crate::limits::judged;
 use crate::pairs;
 use nf_builtins::CallFault;
+use nf_texts::limits::judged;
 use nf_value::{EvalKind, Mem, Pairs, Txt, Vals, Value, text_of};
 use std::alloc::Global;
 

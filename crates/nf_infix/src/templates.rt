@@ -8,13 +8,10 @@ ghost use Rattle.nf_value.specs.Text.{value_text};
 ghost use Rattle.nf_texts.specs.Outcome.{Gives};
 ghost use Rattle.nf_infix.specs.Template.{hole_text, with_blanks, are_files as are_files_of, is_file as is_file_of, listed as listed_of};
 
-use crate::limits::{MOST_WEIGHT, judged};
 use nf_builtins::CallFault;
+use nf_texts::limits::{LONGEST, MOST_WEIGHT, judged};
 use nf_value::{EvalKind, Mem, Txt, Value, text_of};
 use std::alloc::Global;
-
-/// Where the lengths of texts stop: far above what a text within the limits can have.
-const LONGEST: u64 = 1 << 32;
 
 /// The text of a template as far as it was written (Nextflow reference documentation, "Syntax", "Dynamic string"). What passes the limit of a value
 /// isn't kept, but counted, so that no template takes memory without bound.

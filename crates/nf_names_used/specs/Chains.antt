@@ -8,7 +8,7 @@ use Rattle.nf_names_used.specs.declared.leaves.Role.{Role}
 use Rattle.nf_names_used.specs.declared.leaves.Role.TheVariants as role
 use Rattle.nf_names_used.specs.Uses.{Names, begun, uses, pattern_uses, object_uses, callee_uses}
 
--- operands after the first, with the marks before them
+-- operands after the first, with the operators before them
 abbrev pub operands_uses : List Tree → Names → List Use
 operands_uses [] names = []
 operands_uses (tree.binary p k x b ∷ xs) names = (pattern_uses k b ++ uses b names) ++ operands_uses xs names

@@ -3,7 +3,7 @@ use Rattle.std.specs.Prelude.{ℕ, Bool, true, false, ◌||◌, List, [], ◌∷
 use Rattle.nf_value.specs.declared.place.Place.{Place}
 use Rattle.nf_builtins.specs.Natives.{is_among}
 use Rattle.nf_ast.specs.declared.marks.InfixOperator.{InfixOperator}
-use Rattle.nf_ast.specs.declared.marks.InfixOperator.TheVariants as mark
+use Rattle.nf_ast.specs.declared.marks.InfixOperator.TheVariants as infix_operator
 use Rattle.nf_ast.specs.Tree as tree
 use Rattle.nf_ast.specs.Tree.{Tree, empty, cons, place_of}
 use Rattle.nf_placed.specs.Body.{name_in, names_in, is_math}
@@ -93,7 +93,7 @@ text_uses _ = []
 
 -- a plain string that is matched against is a pattern
 abbrev pub pattern_uses : InfixOperator → Tree → List Use
-pattern_uses mark.Matches b = text_uses b
+pattern_uses infix_operator.Matches b = text_uses b
 pattern_uses _ b = []
 
 abbrev pub uses : Tree → Names → List Use

@@ -171,10 +171,10 @@ fn put_operands(rest: &[Operand], seen: &Seen, alloc: Global, out: &mut Vec<Use>
 }
 
 /// A plain string that is matched against.
-fn put_pattern(mark: InfixOperator, expr: &Expr, out: &mut Vec<Use>) -> Result<(), Mem>
-    ensures { OnOk result (out.new.items ≡ out.old.items ++ pattern_uses mark (view expr.now)) }
+fn put_pattern(operator: InfixOperator, expr: &Expr, out: &mut Vec<Use>) -> Result<(), Mem>
+    ensures { OnOk result (out.new.items ≡ out.old.items ++ pattern_uses operator (view expr.now)) }
 {
-    match mark {
+    match operator {
         InfixOperator::Matches => put_text(expr, out),
         _ => Ok(()),
     }

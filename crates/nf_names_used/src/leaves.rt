@@ -28,7 +28,7 @@ pub(crate) fn read_leaf(expr: &Expr) -> Leaf<'_>
     match expr {
         Expr::Name(place, name) => Leaf::Name(*place, name),
         Expr::Text(place, _, text) => Leaf::Text(*place, text),
-        Expr::Prefix(marks, of) => alone(has_none(marks), read_leaf(of)),
+        Expr::Prefix(operators, of) => alone(has_none(operators), read_leaf(of)),
         Expr::Infix(first, rest) => alone(has_none(rest), read_leaf(first)),
         Expr::Conditional(first, rest) => alone(has_none(rest), read_leaf(first)),
         Expr::Postfix(first, rest) => alone(has_none(rest), read_leaf(first)),

@@ -1,4 +1,4 @@
--- The characters of a text, from its front and at its first mark.
+-- The characters of a text, from its front and at its first delimiter.
 use Rattle.std.proofs.Common.{◌≡◌, ℕ, ◌<◌, Bool, false, ◌==◌, List, [], ◌∷◌, ◌++◌, length, take, drop, Option, None, Some, MatchOption, Bor, IsUtf8, IsCharBoundary, refl, sym, ◌∙◌, ap, subst, arith, length-drop}
 use Rattle.std.specs.List.{list_any}
 use Rattle.std.specs.Char.{encode_utf8}
@@ -20,23 +20,23 @@ none_passes : (p : ℕ → Bool) (cs : List ℕ) → NonePass p cs → list_any 
 none_passes p [] h = refl
 none_passes p (c ∷ cs) h = rw h.0 (none_passes p cs h.1)
 
-no_mark : (mark : ℕ) (bs : List ℕ) → IsUtf8 bs → NoCharPasses (λ d. d == mark) bs → has mark (chars bs) ≡ false
-no_mark mark bs u h = let P : List ℕ → Type 0 = λ cs. has mark cs ≡ false in subst P (chars_from_encodes h.0 bs u h.1) (none_passes (λ d. d == mark) h.0 h.2)
+no_delimiter : (delimiter : ℕ) (bs : List ℕ) → IsUtf8 bs → NoCharPasses (λ d. d == delimiter) bs → has delimiter (chars bs) ≡ false
+no_delimiter delimiter bs u h = let P : List ℕ → Type 0 = λ cs. has delimiter cs ≡ false in subst P (chars_from_encodes h.0 bs u h.1) (none_passes (λ d. d == delimiter) h.0 h.2)
 
-parted_at : (mark : ℕ) (bs xs ys : List ℕ) (i j : ℕ) → IsUtf8 bs → mark < 128 → NoCharPasses (λ d. d == mark) (take i bs) → HasCharAt mark bs i j → xs ≡ take i bs → ys ≡ drop j bs → IsParted mark (chars bs) (chars xs) (chars ys)
-parted_at mark bs xs ys i j u low free found xs_is ys_is =
-    let at : drop i bs ≡ mark ∷ drop j bs = drop_at_char mark bs i j found low in
+parted_at : (delimiter : ℕ) (bs xs ys : List ℕ) (i j : ℕ) → IsUtf8 bs → delimiter < 128 → NoCharPasses (λ d. d == delimiter) (take i bs) → HasCharAt delimiter bs i j → xs ≡ take i bs → ys ≡ drop j bs → IsParted delimiter (chars bs) (chars xs) (chars ys)
+parted_at delimiter bs xs ys i j u low free found xs_is ys_is =
+    let at : drop i bs ≡ delimiter ∷ drop j bs = drop_at_char delimiter bs i j found low in
     let within : i < length bs = omega (arith, ap length at, length-drop i bs) in
     let cut : IsCharBoundary bs i = IsCharBoundary-before_ascii bs i within (rw (found.byte low) low) in
     let front : IsUtf8 (take i bs) = IsUtf8-take bs i u cut in
     let back : IsUtf8 (drop i bs) = IsUtf8-drop bs i u cut in
-    let whole : chars bs ≡ chars (take i bs) ++ mark ∷ chars (drop j bs) =
-    ap chars (sym (take-append-drop i bs)) ∙ chars-append (take i bs) (drop i bs) front ∙ ap (λ r. chars (take i bs) ++ r) (chars_past_char (drop i bs) (drop j bs) mark back found.split) in
+    let whole : chars bs ≡ chars (take i bs) ++ delimiter ∷ chars (drop j bs) =
+    ap chars (sym (take-append-drop i bs)) ∙ chars-append (take i bs) (drop i bs) front ∙ ap (λ r. chars (take i bs) ++ r) (chars_past_char (drop i bs) (drop j bs) delimiter back found.split) in
     record {
       whole = rw (xs_is, ys_is) whole;
-      first = rw xs_is (no_mark mark (take i bs) front free);
+      first = rw xs_is (no_delimiter delimiter (take i bs) front free);
     }
 
-pub chars_parted : (mark : ℕ) (bs : List ℕ) (r : Option (Bor (List ℕ) × Bor (List ℕ))) → IsUtf8 bs → IsSplitOnceResult mark bs r → mark < 128 → MatchOption r (has mark (chars bs) ≡ false) (λ x. IsParted mark (chars bs) (chars x.0.now) (chars x.1.now))
-chars_parted mark bs None u h low = no_mark mark bs u h
-chars_parted mark bs (Some x) u (i, j, found, xs_is, ys_is, le, ends, rest) low = parted_at mark bs x.0.now x.1.now i j u low found.0 found.1 xs_is ys_is
+pub chars_parted : (delimiter : ℕ) (bs : List ℕ) (r : Option (Bor (List ℕ) × Bor (List ℕ))) → IsUtf8 bs → IsSplitOnceResult delimiter bs r → delimiter < 128 → MatchOption r (has delimiter (chars bs) ≡ false) (λ x. IsParted delimiter (chars bs) (chars x.0.now) (chars x.1.now))
+chars_parted delimiter bs None u h low = no_delimiter delimiter bs u h
+chars_parted delimiter bs (Some x) u (i, j, found, xs_is, ys_is, le, ends, rest) low = parted_at delimiter bs x.0.now x.1.now i j u low found.0 found.1 xs_is ys_is

@@ -5,14 +5,14 @@ use Rattle.nf_pattern.specs.Parting.{has}
 use Rattle.nf_pattern.specs.Glob.{star, question, opening, closing}
 use Rattle.nf_pattern.specs.Literal.{slash, has_alternatives, is_literal_component, is_literal_path}
 
--- whether a character is no mark, where a `{` was met in its component or not
-abbrev is_unmarked : Bool → ℕ → Bool
-is_unmarked opened c = not (c == star) && not (c == question) && not (opened && (c == closing))
+-- whether a character stands for itself (`,` and `{` too), where a `{` was met in its component or not
+abbrev is_plain : Bool → ℕ → Bool
+is_plain opened c = not (c == star) && not (c == question) && not (opened && (c == closing))
 
 -- the rest of a path, likewise
 abbrev pub literal_from : Bool → List ℕ → Bool
 literal_from opened [] = true
-literal_from opened (c ∷ cs) = cond (c == slash) (literal_from false cs) (is_unmarked opened c && literal_from (opened || (c == opening)) cs)
+literal_from opened (c ∷ cs) = cond (c == slash) (literal_from false cs) (is_plain opened c && literal_from (opened || (c == opening)) cs)
 
 -- the rest of a component, and what stands after it
 abbrev component_from : Bool → List ℕ → Bool
@@ -51,7 +51,7 @@ one_more opened false true is_opening is_closing true questions closings alterna
 one_more opened false true is_opening is_closing false questions closings alternatives rest = refl
 one_more opened false false is_opening is_closing stars questions closings alternatives rest = braces (not stars && not questions) opened is_opening is_closing closings alternatives rest
 
-in_front : (opened : Bool) (c : ℕ) (parts : List (List ℕ)) → components_from opened (onto_first c parts) ≡ (is_unmarked opened c && components_from (opened || (c == opening)) parts)
+in_front : (opened : Bool) (c : ℕ) (parts : List (List ℕ)) → components_from opened (onto_first c parts) ≡ (is_plain opened c && components_from (opened || (c == opening)) parts)
 in_front opened c [] = one_more opened (c == star) (c == question) (c == opening) (c == closing) false false false false true
 in_front opened c (part ∷ parts) = one_more opened (c == star) (c == question) (c == opening) (c == closing) (has star part) (has question part) (has closing part) (has_alternatives part) (list_all is_literal_component parts)
 
@@ -70,7 +70,7 @@ unopened (part ∷ parts) = rw (and_true (is_literal_component part)) refl
 at_slash : (opened : Bool) (c : ℕ) (cs : List ℕ) → ((o : Bool) → literal_from o cs ≡ components_from o (slice_split (λ c. c == slash) cs)) → (b : Bool) → (c == slash) ≡ b
     → literal_from opened (c ∷ cs) ≡ components_from opened (slice_split (λ c. c == slash) (c ∷ cs))
 at_slash opened c cs rest true e = rw e (rest false ∙ unopened (slice_split (λ c. c == slash) cs) ∙ sym (empty opened (list_all is_literal_component (slice_split (λ c. c == slash) cs))))
-at_slash opened c cs rest false e = rw e (ap (λ r. is_unmarked opened c && r) (rest (opened || (c == opening))) ∙ sym (in_front opened c (slice_split (λ c. c == slash) cs)))
+at_slash opened c cs rest false e = rw e (ap (λ r. is_plain opened c && r) (rest (opened || (c == opening))) ∙ sym (in_front opened c (slice_split (λ c. c == slash) cs)))
 
 by_components : (opened : Bool) (cs : List ℕ) → literal_from opened cs ≡ components_from opened (slice_split (λ c. c == slash) cs)
 by_components opened [] = sym (empty opened true)

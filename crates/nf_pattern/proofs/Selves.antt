@@ -25,18 +25,18 @@ alone (c ∷ cs) h =
     let parts = or_false ((c == opening) && has closing cs) (has_alternatives cs) h in
     rw (parts.0, alone cs parts.1) refl
 
--- a character that is no mark
-unmarked : (p c : ℕ) → (p == question) ≡ false → takes_one p c ≡ true → p ≡ c
-unmarked p c h t = grind (arith, nat_tests)
+-- a symbol but `?` takes itself alone
+no_question : (p c : ℕ) → (p == question) ≡ false → takes_one p c ≡ true → p ≡ c
+no_question p c h t = grind (arith, nat_tests)
 
-marked_itself : (p : ℕ) → takes_one p p ≡ true
-marked_itself p = grind (arith, nat_tests)
+symbol_itself : (p : ℕ) → takes_one p p ≡ true
+symbol_itself p = grind (arith, nat_tests)
 
 takes_itself : (ps : List ℕ) → has star ps ≡ false → takes ps ps ≡ true
 takes_itself [] h = refl
 takes_itself (p ∷ ps) h =
     let parts = or_false (p == star) (has star ps) h in
-    rw (parts.0, marked_itself p) (takes_itself ps parts.1)
+    rw (parts.0, symbol_itself p) (takes_itself ps parts.1)
 
 taken_is : (ps cs : List ℕ) → has star ps ≡ false → has question ps ≡ false → takes ps cs ≡ true → ps ≡ cs
 taken_is [] [] h k t = refl
@@ -48,7 +48,7 @@ taken_is (p ∷ ps) (c ∷ cs) h k t =
     let stars = or_false (p == star) (has star ps) h in
     let questions = or_false (p == question) (has question ps) k in
     let both : (takes_one p c ≡ true) × (takes ps cs ≡ true) = and_both (takes_one p c) (takes ps cs) (rw stars.0 at t) in
-    ap₂ (λ x xs. x ∷ xs) (unmarked p c questions.0 both.0) (taken_is ps cs stars.1 questions.1 both.1)
+    ap₂ (λ x xs. x ∷ xs) (no_question p c questions.0 both.0) (taken_is ps cs stars.1 questions.1 both.1)
 
 same_code : (p c : ℕ) → (p == c) ≡ true → p ≡ c
 same_code p c h = grind (arith, nat_tests)
@@ -85,11 +85,11 @@ by_itself pattern name h = rw (alone pattern h) (or_nothing (is_plain_match patt
 
 pub matches_itself : (pattern name : List ℕ) → is_literal_component pattern ≡ true → ((is_match pattern name ≡ true) ↔ (pattern ≡ name))
 matches_itself pattern name h =
-    let marks = and_both (not (has star pattern) && not (has question pattern)) (not (has_alternatives pattern)) h in
-    let each = and_both (not (has star pattern)) (not (has question pattern)) marks.0 in
+    let symbols = and_both (not (has star pattern) && not (has question pattern)) (not (has_alternatives pattern)) h in
+    let each = and_both (not (has star pattern)) (not (has question pattern)) symbols.0 in
     let stars : has star pattern ≡ false = not_true (has star pattern) each.0 in
     let questions : has question pattern ≡ false = not_true (has question pattern) each.1 in
-    let plain = by_itself pattern name (not_true (has_alternatives pattern) marks.1) in (
+    let plain = by_itself pattern name (not_true (has_alternatives pattern) symbols.1) in (
       λ t. matched_is pattern name stars questions (sym plain ∙ t),
       λ same. plain ∙ subst (λ (n : List ℕ). is_plain_match pattern n ≡ true) same (matched_itself pattern stars),
     )

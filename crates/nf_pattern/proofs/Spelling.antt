@@ -20,9 +20,9 @@ map_longer : (x : ℕ) (xs : List ℕ) (xss : List (List ℕ)) → map (λ (rest
 map_longer x xs [] = refl
 map_longer x xs (ys ∷ xss) = ap (λ r. (x ∷ (xs ++ ys)) ∷ r) (map_longer x xs xss)
 
-has_here : (mark : ℕ) (xs ys : List ℕ) → (mark == mark) ≡ true → has mark (xs ++ mark ∷ ys) ≡ true
-has_here mark [] ys e = rw e refl
-has_here mark (x ∷ xs) ys e = rw (has_here mark xs ys e) (or_true (x == mark))
+has_here : (delimiter : ℕ) (xs ys : List ℕ) → (delimiter == delimiter) ≡ true → has delimiter (xs ++ delimiter ∷ ys) ≡ true
+has_here delimiter [] ys e = rw e refl
+has_here delimiter (x ∷ xs) ys e = rw (has_here delimiter xs ys e) (or_true (x == delimiter))
   where
     or_true : (a : Bool) → (a || true) ≡ true
     or_true true = refl
@@ -68,8 +68,8 @@ spelled_plain cs h = unopened cs h
 pub spelled_choices : (cs xs os ws ys : List ℕ) → IsParted opening cs xs os → IsParted closing os ws ys → spelled None cs ≡ map (λ rest. xs ++ rest) (joined (pieces ws) (spelled None ys))
 spelled_choices cs xs os ws ys h k = rw (h.whole, k.whole) (chosen xs ws ys h.first k.first)
 
-pub parted_falls : (mark : ℕ) (cs xs ys : List ℕ) → IsParted mark cs xs ys → length ys < length cs
-parted_falls mark cs xs ys h = rw (h.whole, length-append xs (mark ∷ ys)) (omega arith)
+pub parted_falls : (delimiter : ℕ) (cs xs ys : List ℕ) → IsParted delimiter cs xs ys → length ys < length cs
+parted_falls delimiter cs xs ys h = rw (h.whole, length-append xs (delimiter ∷ ys)) (omega arith)
 
 pub after_falls : (cs xs os ws ys : List ℕ) → IsParted opening cs xs os → IsParted closing os ws ys → length ys < length cs
 after_falls cs xs os ws ys h k = omega (arith, parted_falls _ _ _ _ h, parted_falls _ _ _ _ k)

@@ -25,13 +25,13 @@ pub(crate) fn first_char(text: &str) -> Option<(char, &str)>
     }
 }
 
-/// What stands before the first mark of a text, and what stands after it.
-pub(crate) fn parted(text: &str, mark: char) -> Option<(&str, &str)>
-    requires { mark < 128 }
-    ensures { MatchOption result (has mark (chars text.now) ≡ false)
-        (λ found. IsParted mark (chars text.now) (chars found.0.now) (chars found.1.now)) }
+/// What stands before and after the first such delimiter (`{`, `,` or `}`) of a text.
+pub(crate) fn parted(text: &str, delimiter: char) -> Option<(&str, &str)>
+    requires { delimiter < 128 }
+    ensures { MatchOption result (has delimiter (chars text.now) ≡ false)
+        (λ found. IsParted delimiter (chars text.now) (chars found.0.now) (chars found.1.now)) }
 {
-    text.split_once(mark)
+    text.split_once(delimiter)
 }
 
 /// The first character of some parts in a row, and what follows it.

@@ -50,8 +50,8 @@ fn after_dot<'a>(pattern: &Parts<'a>) -> Option<Parts<'a>>
     ensures { AfterDot (characters pattern.now) result }
 {
     let mut left = *pattern;
-    while let Some((mark, rest)) = first_of(&left) {
-        match mark {
+    while let Some((symbol, rest)) = first_of(&left) {
+        match symbol {
             '*' => left = rest,
             '.' => return Some(rest),
             _ => return None,
@@ -96,17 +96,17 @@ fn next_star<'a>(place: &Place<'a>) -> Reach<'a>
     let mut pattern = place.pattern;
     let mut name = place.name;
     loop {
-        let Some((mark, others)) = first_of(&pattern) else {
+        let Some((symbol, others)) = first_of(&pattern) else {
             return at_end(name);
         };
-        if mark == '*' {
+        if symbol == '*' {
             return Reach::Star(Place {
                 pattern: others,
                 name,
             });
         }
         match first_char(name) {
-            Some((first, rest)) if accepts(mark, first) => {
+            Some((first, rest)) if accepts(symbol, first) => {
                 pattern = others;
                 name = rest;
             }
@@ -126,8 +126,8 @@ fn at_end(name: &str) -> Reach<'_>
 }
 
 /// Whether a character of a pattern but `*` takes a character of a name.
-fn accepts(mark: char, first: char) -> bool
-    ensures { result ≡ takes_one mark first }
+fn accepts(symbol: char, first: char) -> bool
+    ensures { result ≡ takes_one symbol first }
 {
-    mark == '?' || mark == first
+    symbol == '?' || symbol == first
 }

@@ -1,5 +1,5 @@
 pub mod Placed
-pub mod Marked
+pub mod Operators
 pub mod Scope
 pub mod Calls
 pub mod Body

@@ -1,4 +1,4 @@
-//! Values within the limits.
+//! The limits of a value: it weighs at most 16,777,216, which is the length of its code, and is at most 64 deep (own).
 
 ghost use Rattle.std.specs.Prelude.{◌≡◌, Ok, Err, MatchResult, pos, min, ◌+◌, ◌<◌, ◌≤◌, ◌^◌, ℕ, List, length, codes};
 ghost use Rattle.nf_value.specs.Plain.{Plain, int, text as text_plain, list, plains_of};
@@ -11,10 +11,10 @@ use itoa::Buffer;
 use nf_value::{EvalKind, Txt, Value, depth, weight};
 use std::alloc::Global;
 
-/// How much the value of a call may weigh.
-const MOST_WEIGHT: u64 = 16_777_216;
+/// How much a value may weigh.
+pub const MOST_WEIGHT: u64 = 16_777_216;
 
-/// How deep the value of a call may be.
+/// How deep a value may be.
 const MOST_DEPTH: u64 = 64;
 
 /// This fault of a value, if it passes a limit.
@@ -62,7 +62,7 @@ pub fn text_value(alloc: Global, text: &str) -> Result<Value, CallFault>
     Ok(Value::Text(Txt::of(String::from_str(alloc, text)?)))
 }
 
-/// Where the lengths of texts stop: far above what a text within the limits can have.
+/// Where lengths and weights that are counted stop: far above what a value within the limits can have.
 pub const LONGEST: u64 = 1 << 32;
 
 /// The sum of two lengths, or where they stop.

@@ -119,10 +119,10 @@ fn push_part(alloc: Global, parts: &mut Vec<Value>, part: &str) -> Result<(), Me
 }
 
 /// Whether it is one of the separators.
-fn is_separator(separators: &str, mark: char) -> bool
-    ensures { result ≡ is_one_of (chars separators.now) mark }
+fn is_separator(separators: &str, character: char) -> bool
+    ensures { result ≡ is_one_of (chars separators.now) character }
 {
-    separators.chars().any(|separator| separator == mark)
+    separators.chars().any(|separator| separator == character)
 }
 
 /// What stands before the first separator, and what stands after it.
@@ -132,8 +132,8 @@ fn cut<'a>(text: &'a str, separators: &str) -> Option<(&'a str, &'a str)>
     ensures shorter { IfSome result (λ r. length r.1.now < length text.now) }
 {
     text.split_once(
-        |mark: char| -> bool
-            ensures { result ≡ is_one_of (chars separators.entry.now) mark }
-        { is_separator(separators, mark) },
+        |character: char| -> bool
+            ensures { result ≡ is_one_of (chars separators.entry.now) character }
+        { is_separator(separators, character) },
     )
 }

@@ -72,22 +72,22 @@ values::value-returns-in_ok-value_seen-in-Name g t0 c =
 pub values::value-returns-in_err-of-in-Prefix : goal.values::value-returns-in_err-of-in-Prefix
 values::value-returns-in_err-of-in-Prefix g t0 c =
     let env = (seen c.args.around.now (g.N.Natives.titles c.args.natives.now) (g.N.Natives.answer c.args.natives.now)) in
-    let marks = c.in-Prefix.marks.items in
+    let operators = c.in-Prefix.operators.items in
     let a = view c.in-Prefix.of.value in
-    let is : view c.args.expr.now ≡ prefixes marks a = search (rules, expr_lemmas) in
+    let is : view c.args.expr.now ≡ prefixes operators a = search (rules, expr_lemmas) in
     let err : c.from_residual-in_err-of-in-Prefix.result ≡ Err c.in_err-of-in-Prefix.field-0.0 = search rules in
     let none : Evaluates (eval_of a env) (Err c.in_err-of-in-Prefix.field-0.0) = search rules in
-    fault_first (eval_of (view c.args.expr.now) env) (eval_of a env) (prefixed marks) c.in_err-of-in-Prefix.field-0.0 c.from_residual-in_err-of-in-Prefix.result (ap (λ (t : Tree). eval_of t env) is ∙ prefixes_value marks a env) err none
+    fault_first (eval_of (view c.args.expr.now) env) (eval_of a env) (prefixed operators) c.in_err-of-in-Prefix.field-0.0 c.from_residual-in_err-of-in-Prefix.result (ap (λ (t : Tree). eval_of t env) is ∙ prefixes_value operators a env) err none
 
 pub values::value-returns-in_ok-of-in-Prefix : goal.values::value-returns-in_ok-of-in-Prefix
 values::value-returns-in_ok-of-in-Prefix g t0 c =
     let env = (seen c.args.around.now (g.N.Natives.titles c.args.natives.now) (g.N.Natives.answer c.args.natives.now)) in
-    let marks = c.in-Prefix.marks.items in
+    let operators = c.in-Prefix.operators.items in
     let a = view c.in-Prefix.of.value in
-    let is : view c.args.expr.now ≡ prefixes marks a = search (rules, expr_lemmas) in
+    let is : view c.args.expr.now ≡ prefixes operators a = search (rules, expr_lemmas) in
     let value : eval_of a env ≡ Ok (plain_of c.in_ok-of-in-Prefix.of) = search rules in
-    let rest : Evaluates (prefixed marks (plain_of c.in_ok-of-in-Prefix.of)) c.prefixed.result = search rules in
-    value_first (eval_of (view c.args.expr.now) env) (eval_of a env) (prefixed marks) c.in_ok-of-in-Prefix.of c.prefixed.result (ap (λ (t : Tree). eval_of t env) is ∙ prefixes_value marks a env) value rest
+    let rest : Evaluates (prefixed operators (plain_of c.in_ok-of-in-Prefix.of)) c.prefixed.result = search rules in
+    value_first (eval_of (view c.args.expr.now) env) (eval_of a env) (prefixed operators) c.in_ok-of-in-Prefix.of c.prefixed.result (ap (λ (t : Tree). eval_of t env) is ∙ prefixes_value operators a env) value rest
 
 pub values::value-returns-in_err-first-in-Infix : goal.values::value-returns-in_err-first-in-Infix
 values::value-returns-in_err-first-in-Infix g t0 c =
@@ -308,24 +308,24 @@ chains::subject-returns-in_default g t0 c =
     let f : is_flat (view c.args.expr.now) ≡ true = search (rules, expr_lemmas) in
     c.flat-in_default.ensures c.args.closure f
 
-pub chains::subject-returns-then-no_marks : goal.chains::subject-returns-then-no_marks
-chains::subject-returns-then-no_marks g t0 c =
+pub chains::subject-returns-then-no_prefixes : goal.chains::subject-returns-then-no_prefixes
+chains::subject-returns-then-no_prefixes g t0 c =
     let env = (seen c.args.around.now (g.N.Natives.titles c.args.natives.now) (g.N.Natives.answer c.args.natives.now)) in
-    let ms = c.in-Prefix.marks.items in
+    let ms = c.in-Prefix.operators.items in
     let a = view c.in-Prefix.of.value in
     let is : view c.args.expr.now ≡ prefixes ms a = search (rules, expr_lemmas) in
-    let fact : c.no_marks.result ≡ is_nil ms = search rules in
-    let same : view c.args.expr.now ≡ a = is ∙ prefixes_none ms a (sym fact ∙ c.if-no_marks.true) in
-    let comes : Comes c.args.closure a env c.subject-then-no_marks.result = search rules in
-    subst (λ (t : Tree). Comes c.args.closure t env c.subject-then-no_marks.result) (sym same) comes
+    let fact : c.no_prefixes.result ≡ is_nil ms = search rules in
+    let same : view c.args.expr.now ≡ a = is ∙ prefixes_none ms a (sym fact ∙ c.if-no_prefixes.true) in
+    let comes : Comes c.args.closure a env c.subject-then-no_prefixes.result = search rules in
+    subst (λ (t : Tree). Comes c.args.closure t env c.subject-then-no_prefixes.result) (sym same) comes
 
-pub chains::subject-returns-else-no_marks : goal.chains::subject-returns-else-no_marks
-chains::subject-returns-else-no_marks g t0 c =
-    let ms = c.in-Prefix.marks.items in
+pub chains::subject-returns-else-no_prefixes : goal.chains::subject-returns-else-no_prefixes
+chains::subject-returns-else-no_prefixes g t0 c =
+    let ms = c.in-Prefix.operators.items in
     let a = view c.in-Prefix.of.value in
     let is : view c.args.expr.now ≡ prefixes ms a = search (rules, expr_lemmas) in
-    let fact : c.no_marks.result ≡ is_nil ms = search rules in
-    c.flat.ensures c.args.closure (ap is_flat is ∙ (prefixes_some ms a (sym fact ∙ c.if-no_marks.false)).flat)
+    let fact : c.no_prefixes.result ≡ is_nil ms = search rules in
+    c.flat.ensures c.args.closure (ap is_flat is ∙ (prefixes_some ms a (sym fact ∙ c.if-no_prefixes.false)).flat)
 
 pub chains::subject-returns-then-no_operands : goal.chains::subject-returns-then-no_operands
 chains::subject-returns-then-no_operands g t0 c =

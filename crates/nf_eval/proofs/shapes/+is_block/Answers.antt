@@ -6,41 +6,41 @@ use Rattle.nf_eval.specs.Shapes.{is_nil, is_closure, is_plain}
 use Rattle.nf_eval.proofs.Shaping.{prefixes_none, prefixes_some, operands_none, operands_some, conditional_none, conditional_some, postfix_none, postfix_some}
 use Rattle.nf_eval.proofs.shapes.+is_block.Goals as goal
 
-pub returns-then-no_marks-clause-closure : goal.returns-then-no_marks-clause-closure
-returns-then-no_marks-clause-closure t c =
-    let ms = c.in-Prefix.marks.items in
+pub returns-then-no_prefixes-clause-closure : goal.returns-then-no_prefixes-clause-closure
+returns-then-no_prefixes-clause-closure t c =
+    let ms = c.in-Prefix.operators.items in
     let a = view c.in-Prefix.of.value in
     let is : view c.args.expr.now ≡ prefixes ms a = search (rules, the_lemmas) in
-    let fact : c.no_marks.result ≡ is_nil ms = search rules in
-    let same : view c.args.expr.now ≡ a = is ∙ prefixes_none ms a (sym fact ∙ c.if-no_marks.true) in
+    let fact : c.no_prefixes.result ≡ is_nil ms = search rules in
+    let same : view c.args.expr.now ≡ a = is ∙ prefixes_none ms a (sym fact ∙ c.if-no_prefixes.true) in
     let ih : c.is_block.result ≡ is_closure a = search rules in
     ih ∙ ap is_closure (sym same)
 
-pub returns-then-no_marks-clause-plain : goal.returns-then-no_marks-clause-plain
-returns-then-no_marks-clause-plain t c =
-    let ms = c.in-Prefix.marks.items in
+pub returns-then-no_prefixes-clause-plain : goal.returns-then-no_prefixes-clause-plain
+returns-then-no_prefixes-clause-plain t c =
+    let ms = c.in-Prefix.operators.items in
     let a = view c.in-Prefix.of.value in
     let is : view c.args.expr.now ≡ prefixes ms a = search (rules, the_lemmas) in
-    let fact : c.no_marks.result ≡ is_nil ms = search rules in
-    let same : view c.args.expr.now ≡ a = is ∙ prefixes_none ms a (sym fact ∙ c.if-no_marks.true) in
+    let fact : c.no_prefixes.result ≡ is_nil ms = search rules in
+    let same : view c.args.expr.now ≡ a = is ∙ prefixes_none ms a (sym fact ∙ c.if-no_prefixes.true) in
     let ih : not c.is_block.result ≡ is_plain a = search rules in
     ih ∙ ap is_plain (sym same)
 
-pub returns-else-no_marks-clause-closure : goal.returns-else-no_marks-clause-closure
-returns-else-no_marks-clause-closure t c =
-    let ms = c.in-Prefix.marks.items in
+pub returns-else-no_prefixes-clause-closure : goal.returns-else-no_prefixes-clause-closure
+returns-else-no_prefixes-clause-closure t c =
+    let ms = c.in-Prefix.operators.items in
     let a = view c.in-Prefix.of.value in
     let is : view c.args.expr.now ≡ prefixes ms a = search (rules, the_lemmas) in
-    let fact : c.no_marks.result ≡ is_nil ms = search rules in
-    sym (ap is_closure is ∙ (prefixes_some ms a (sym fact ∙ c.if-no_marks.false)).chain.no_closure)
+    let fact : c.no_prefixes.result ≡ is_nil ms = search rules in
+    sym (ap is_closure is ∙ (prefixes_some ms a (sym fact ∙ c.if-no_prefixes.false)).chain.no_closure)
 
-pub returns-else-no_marks-clause-plain : goal.returns-else-no_marks-clause-plain
-returns-else-no_marks-clause-plain t c =
-    let ms = c.in-Prefix.marks.items in
+pub returns-else-no_prefixes-clause-plain : goal.returns-else-no_prefixes-clause-plain
+returns-else-no_prefixes-clause-plain t c =
+    let ms = c.in-Prefix.operators.items in
     let a = view c.in-Prefix.of.value in
     let is : view c.args.expr.now ≡ prefixes ms a = search (rules, the_lemmas) in
-    let fact : c.no_marks.result ≡ is_nil ms = search rules in
-    sym (ap is_plain is ∙ (prefixes_some ms a (sym fact ∙ c.if-no_marks.false)).chain.plain_is)
+    let fact : c.no_prefixes.result ≡ is_nil ms = search rules in
+    sym (ap is_plain is ∙ (prefixes_some ms a (sym fact ∙ c.if-no_prefixes.false)).chain.plain_is)
 
 pub returns-then-no_operands-clause-closure : goal.returns-then-no_operands-clause-closure
 returns-then-no_operands-clause-closure t c =

@@ -6,22 +6,22 @@ use Rattle.nf_eval.specs.Shapes.{is_nil}
 use Rattle.nf_eval.proofs.Shaping.{prefixes_none, prefixes_some, operands_none, operands_some, conditional_none, conditional_some, postfix_none, postfix_some}
 use Rattle.nf_eval.proofs.shapes.+pattern_text.Goals as goal
 
-pub returns-then-no_marks : goal.returns-then-no_marks
-returns-then-no_marks t c =
-    let ms = c.in-Prefix.marks.items in
+pub returns-then-no_prefixes : goal.returns-then-no_prefixes
+returns-then-no_prefixes t c =
+    let ms = c.in-Prefix.operators.items in
     let a = view c.in-Prefix.of.value in
     let is : view c.args.expr.now ≡ prefixes ms a = search (rules, the_lemmas) in
-    let fact : c.no_marks.result ≡ is_nil ms = search rules in
-    let same : view c.args.expr.now ≡ a = is ∙ prefixes_none ms a (sym fact ∙ c.if-no_marks.true) in
+    let fact : c.no_prefixes.result ≡ is_nil ms = search rules in
+    let same : view c.args.expr.now ≡ a = is ∙ prefixes_none ms a (sym fact ∙ c.if-no_prefixes.true) in
     rw same (search rules)
 
-pub returns-else-no_marks : goal.returns-else-no_marks
-returns-else-no_marks t c =
-    let ms = c.in-Prefix.marks.items in
+pub returns-else-no_prefixes : goal.returns-else-no_prefixes
+returns-else-no_prefixes t c =
+    let ms = c.in-Prefix.operators.items in
     let a = view c.in-Prefix.of.value in
     let is : view c.args.expr.now ≡ prefixes ms a = search (rules, the_lemmas) in
-    let fact : c.no_marks.result ≡ is_nil ms = search rules in
-    ap pattern_in is ∙ (prefixes_some ms a (sym fact ∙ c.if-no_marks.false)).chain.no_pattern
+    let fact : c.no_prefixes.result ≡ is_nil ms = search rules in
+    ap pattern_in is ∙ (prefixes_some ms a (sym fact ∙ c.if-no_prefixes.false)).chain.no_pattern
 
 pub returns-then-no_operands : goal.returns-then-no_operands
 returns-then-no_operands t c =

@@ -9,7 +9,7 @@ pub returns-in-Prefix : goal.returns-in-Prefix
 returns-in-Prefix t c =
     let e = view c.args.expr.now in
     let a = view c.in-Prefix.of.value in
-    let ys = c.in-Prefix.marks.items in
+    let ys = c.in-Prefix.operators.items in
     let is : e ≡ prefixes ys a = search (rules, the_lemmas) in
     let inner : view_leaf c.read_leaf.result ≡ leaf_of a = search rules in
     let none : c.has_none.result ≡ is_nil ys = search rules in

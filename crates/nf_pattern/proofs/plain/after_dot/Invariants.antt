@@ -3,8 +3,8 @@ use Rattle.nf_pattern.specs.Glob.{takes_dotted}
 use Rattle.nf_pattern.specs.Parts.{characters}
 use Rattle.nf_pattern.proofs.plain.after_dot.Given as goal
 
-abbrev pub invariant-loop-mark : goal.invariant-loop-mark
-invariant-loop-mark l = (cs : List ℕ) → takes_dotted (characters l.initial.left) cs ≡ takes_dotted (characters l.left) cs
+abbrev pub invariant-loop-symbol : goal.invariant-loop-symbol
+invariant-loop-symbol l = (cs : List ℕ) → takes_dotted (characters l.initial.left) cs ≡ takes_dotted (characters l.left) cs
 
-abbrev pub decreases-loop-mark : goal.decreases-loop-mark
-decreases-loop-mark l = length (characters l.left)
+abbrev pub decreases-loop-symbol : goal.decreases-loop-symbol
+decreases-loop-symbol l = length (characters l.left)

@@ -1,5 +1,5 @@
 use Rattle.nf_placed.proofs.Placing.{turned}
-use Rattle.nf_placed.proofs.marked.turned.Goals as goal
+use Rattle.nf_placed.proofs.operators.turned.Goals as goal
 
 pub returns-in-Not : goal.returns-in-Not
 returns-in-Not c = rw c.in-Not.is (turned c.truth.result _ c.truth.ensures)

@@ -1,10 +1,10 @@
-//! Marks at their places.
+//! Operators at their places.
 
 ghost use Rattle.nf_value.specs.View.{plain_of};
 ghost use Rattle.nf_texts.specs.Outcome.{Gives};
 ghost use Rattle.nf_infix.specs.Compare.{matches as matches_of};
 ghost use Rattle.nf_placed.specs.Placed.{Evaluates, made};
-ghost use Rattle.nf_placed.specs.Marked.{infix_of, prefix_of};
+ghost use Rattle.nf_placed.specs.Operators.{infix_of, prefix_of};
 
 use crate::places::placed;
 use nf_ast::{InfixOperator, PrefixOperator};
@@ -17,34 +17,34 @@ use nf_pattern::WholeRe;
 use nf_value::{EvalKind, EvalRefusal, Place, Value, truth};
 use std::alloc::Global;
 
-/// What a mark between two values gives, where both are evaluated and none of them has to be a pattern (Nextflow reference documentation, "Syntax",
+/// What an operator between two values gives, where both are evaluated and none of them has to be a pattern (Nextflow reference documentation, "Syntax",
 /// "Binary expressions").
 ///
 /// # Errors
 ///
-/// The fault of the mark at its place: `WrongKind` of values that it isn't for, and always of `||`, `&&`, `==~` and `|`, which are no marks of two
+/// The fault of the operator at its place: `WrongKind` of values that it isn't for, and always of `||`, `&&`, `==~` and `|`, which are no operators of two
 /// values; `Overflow`, `DivZero`, `TooLarge` and `TooDeep` as `nf_infix` has them. `Mem` where there is no memory for the value.
 pub fn infix_value(
     alloc: Global,
     place: Place,
-    mark: InfixOperator,
+    operator: InfixOperator,
     left: Value,
     right: Value,
 ) -> Result<Value, EvalRefusal>
-    ensures { Evaluates (made place (infix_of mark (plain_of left) (plain_of right))) result }
+    ensures { Evaluates (made place (infix_of operator (plain_of left) (plain_of right))) result }
 {
-    placed(place, between(alloc, mark, left, right))
+    placed(place, between(alloc, operator, left, right))
 }
 
 fn between(
     alloc: Global,
-    mark: InfixOperator,
+    operator: InfixOperator,
     left: Value,
     right: Value,
 ) -> Result<Value, CallFault>
-    ensures { Gives (infix_of mark (plain_of left) (plain_of right)) result }
+    ensures { Gives (infix_of operator (plain_of left) (plain_of right)) result }
 {
-    match mark {
+    match operator {
         InfixOperator::Same => same(&left, &right),
         InfixOperator::Differs => differs(&left, &right),
         InfixOperator::Less => less(&left, &right),
@@ -63,7 +63,7 @@ fn between(
     }
 }
 
-/// `a ==~ re` at the place of the mark: whether a whole text matches a regular expression (Nextflow reference documentation, "Syntax", "Binary
+/// `a ==~ re` at the place of the operator: whether a whole text matches a regular expression (Nextflow reference documentation, "Syntax", "Binary
 /// expressions").
 ///
 /// # Errors
@@ -80,22 +80,26 @@ pub fn matches_value(
     placed(place, matches(alloc, value, re))
 }
 
-/// What a mark before a value gives (Nextflow reference documentation, "Syntax", "Unary expressions").
+/// What an operator before a value gives (Nextflow reference documentation, "Syntax", "Unary expressions").
 ///
 /// # Errors
 ///
-/// The fault of the mark at its place: `WrongKind` of `-` before what is no number, `Overflow` where its negation leaves 64 signed bits (own). Takes
+/// The fault of the operator at its place: `WrongKind` of `-` before what is no number, `Overflow` where its negation leaves 64 signed bits (own). Takes
 /// no memory.
-pub fn prefix_value(place: Place, mark: PrefixOperator, value: &Value) -> Result<Value, EvalRefusal>
-    ensures { Evaluates (made place (prefix_of mark (plain_of value.now))) result }
+pub fn prefix_value(
+    place: Place,
+    operator: PrefixOperator,
+    value: &Value,
+) -> Result<Value, EvalRefusal>
+    ensures { Evaluates (made place (prefix_of operator (plain_of value.now))) result }
 {
-    placed(place, turned(mark, value))
+    placed(place, turned(operator, value))
 }
 
-fn turned(mark: PrefixOperator, value: &Value) -> Result<Value, CallFault>
-    ensures { Gives (prefix_of mark (plain_of value.now)) result }
+fn turned(operator: PrefixOperator, value: &Value) -> Result<Value, CallFault>
+    ensures { Gives (prefix_of operator (plain_of value.now)) result }
 {
-    match mark {
+    match operator {
         PrefixOperator::Not => Ok(Value::Truth(!truth(value))),
         PrefixOperator::Minus => negative(value),
     }

@@ -1,7 +1,0 @@
-use Rattle.nf_value.specs.View.{plain_of}
-use Rattle.nf_placed.specs.Marked.{prefix_of}
-use Rattle.nf_placed.proofs.Placing.{evaluates}
-use Rattle.nf_placed.proofs.marked.prefix_value.Goals as goal
-
-pub returns : goal.returns
-returns c = evaluates c.args.place (prefix_of c.args.mark (plain_of c.args.value.now)) c.turned.result c.placed.result c.placed.ensures c.turned.ensures
