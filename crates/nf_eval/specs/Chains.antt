@@ -1,4 +1,4 @@
--- What comes of the parts that stand in one list: operators before an operand, operands with operators, and what is read or called.
+-- The meaning of what nodes hold as a list: operators before an operand, operands with infix operators, and chains of properties, indexes and calls.
 use Rattle.std.specs.Prelude.{◌≡◌, ℕ, suc, Bool, true, false, List, [], ◌∷◌, ◌++◌, length, codes, Option, Some, None, Result, Ok, Err}
 use Rattle.std.specs.Str.{bytes_eq}
 use Rattle.nf_value.specs.Plain.{Plain}
@@ -70,7 +70,7 @@ abbrev pub given_at : Option (Result Value EvalFault) → Placed Plain
 given_at (Some r) = placed_value r
 given_at None = fault WrongKind nowhere
 
--- whether it has its value: a call that waits for a closure has none yet
+-- whether a subject has its value: a call that waits for a closure has none yet
 abbrev pub has_value : Subject → Bool
 has_value (s.Call c k None) = false
 has_value (s.Call c k (Some r)) = true
@@ -80,7 +80,7 @@ has_value (s.Property v p n) = true
 has_value (s.Safe v p n) = true
 has_value (s.Math p n) = true
 
--- the value that was come to
+-- the value of a subject
 abbrev pub value_at : Subject → Env → Placed Plain
 value_at (s.Value v) env = Ok (plain_of v)
 value_at (s.Name p n) env = Ok (value_of n env)

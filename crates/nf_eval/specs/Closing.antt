@@ -1,4 +1,4 @@
--- A closure as it lies in memory.
+-- What a closure in memory means.
 use Rattle.std.specs.Prelude.{ℕ, List, Option}
 use Rattle.nf_value.specs.Plain.{Plain}
 use Rattle.nf_ast.specs.View.{view_closure}

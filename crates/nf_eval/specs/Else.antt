@@ -1,4 +1,4 @@
--- What stands after `else`.
+-- The last `else` of a choice.
 use Rattle.std.specs.Prelude.{Option, Some, None}
 use Rattle.std.specs.Global.{Vec}
 use Rattle.nf_ast.specs.Tree as tree

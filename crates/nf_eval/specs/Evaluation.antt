@@ -1,4 +1,4 @@
--- What an expression gives in an environment: a value, or one fault with its place, from left to right.
+-- What an expression means in an environment: a value, or its first fault from the left, with its place.
 use Rattle.std.specs.Prelude.{ℕ, pos, ◌+◌, Bool, true, false, List, [], ◌∷◌, ◌++◌, length, if◌then◌else◌, Option, Some, None, Ok}
 use Rattle.nf_value.specs.Plain.{Plain, null, truth, int, text}
 use Rattle.nf_value.specs.Truth.{truth_of}
@@ -21,7 +21,7 @@ use Rattle.nf_placed.specs.Scope.{Env, Function, value_of, defined, rebound, lef
 use Rattle.nf_placed.specs.Calls.{Argument, plain, block, Callee, nothing, method, function, math, no_function, called}
 use Rattle.nf_placed.specs.Body.{Flow, going, returned, value_of_body, name_in, key_text, pattern_in, is_math, names_in, bound, paired, split, with_all}
 
--- what arguments give where they stand
+-- arguments, evaluated in an environment
 abbrev pub Arguments : Type 0
 Arguments = Env → Placed (List Argument)
 
@@ -46,7 +46,7 @@ pub record Meaning : Type 0 where
   pub body : Env → Plain → Placed Flow
   pub first_true : Env → ℕ → Placed Plain
 
--- what no text spells
+-- the place of faults that no text of a script has
 abbrev pub nowhere : Place
 nowhere = record { line = 0; col = 0 }
 
@@ -67,7 +67,7 @@ nothing_there = record {
   first_true = λ env k. Ok null;
 }
 
--- a value that is called is of the wrong kind, once its arguments have values
+-- what can't be called: a call of it is of the wrong kind, once its arguments have values
 abbrev pub expression : (Env → Placed Plain) → Meaning
 expression value = record nothing_there {
   value = value;
@@ -87,7 +87,7 @@ callable value callee = record (expression value) {
 abbrev pub statement : (Env → Placed Flow) → Meaning
 statement done = record nothing_there { done = done }
 
--- ---- operators
+-- ---- infix operators
 
 abbrev pub either : (Env → Placed Plain) → (Env → Placed Plain) → Env → Placed Plain
 either a b env = a env >>= λ v. if truth_of v then Ok (truth true) else b env >>= λ w. Ok (truth (truth_of w))
@@ -95,7 +95,7 @@ either a b env = a env >>= λ v. if truth_of v then Ok (truth true) else b env >
 abbrev pub both : (Env → Placed Plain) → (Env → Placed Plain) → Env → Placed Plain
 both a b env = a env >>= λ v. if truth_of v then (b env >>= λ w. Ok (truth (truth_of w))) else Ok (truth false)
 
--- what is matched against has to be a pattern or a plain string, and built
+-- `==~` wants a pattern or a plain string after it, and that pattern has to be built
 abbrev pub matched : Place → (Env → Placed Plain) → Option (List ℕ) → (Env → Placed Plain) → Env → Placed Plain
 matched p a (Some re) b env = a env >>= λ v. if is_among re env.patterns then made p (matches v re) else fault WrongKind p
 matched p a None b env = a env >>= λ v. b env >>= λ w. fault WrongKind p
@@ -108,7 +108,7 @@ binary p k a re b env = a env >>= λ v. b env >>= λ w. made p (infix_of k v w)
 
 -- ---- closures
 
--- what a body gives for arguments, where the names around it are captured
+-- the result of a closure for arguments. Its body captures the names around it
 abbrev pub closure : Place → Tree → (Env → Plain → Placed Flow) → Env → List Plain → Placed Plain
 closure p ps body env vs = bound p ps vs >>= λ ns. body (with_all ns (inside env)) null >>= λ f. Ok (value_of_body f)
 
@@ -134,7 +134,7 @@ safe_method p n v = method v p n
 
 -- ---- statements
 
--- what stands in an arm leaves the names of the body around it
+-- after braces the names that they defined are gone
 abbrev pub left : Env → Flow → Flow
 left outer (going inner v) = going (left_by outer inner) v
 left outer (returned v) = returned v
@@ -203,7 +203,7 @@ meaning_of _ = nothing_there
 abbrev pub eval_of : Tree → Env → Placed Plain
 eval_of e env = (meaning_of e).value env
 
--- what statements give: the value of their body
+-- the value of statements as a body
 abbrev pub body_of : Tree → Env → Placed Plain
 body_of b env = (meaning_of b).body env null >>= λ f. Ok (value_of_body f)
 
@@ -231,7 +231,7 @@ pub record Definition : Type 0 where
   pub params : List (List ℕ)
   pub body : Tree
 
--- what each gives: its body, where its parameters are the only names
+-- each function gives the value of its body, in which its parameters are the only names
 abbrev pub functions_of : List Definition → List (List ℕ) → List (List ℕ) → (ℕ → List Plain → Option Plain) → List Function
 functions_of [] patterns titles answer = []
 functions_of (d ∷ earlier) patterns titles answer = record {

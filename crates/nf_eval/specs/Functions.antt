@@ -1,4 +1,4 @@
--- Functions of a script as they lie in memory, where the latest stands last: each calls those before it.
+-- Functions of a script in memory. The latest stands last, and each may call those before it.
 use Rattle.std.specs.Prelude.{false, ℕ, suc, ◌+◌, max, List, [], ◌∷◌, length, map, reverse, Option}
 use Rattle.nf_value.specs.Plain.{Plain}
 use Rattle.nf_ast.specs.declared.expr.Stmt.{Stmt, size-Stmt}
@@ -37,12 +37,12 @@ function_of d earlier patterns titles answer = record {
 
 -- ---- how long evaluation may go on
 
--- the depth of the deepest of statements
+-- the depth of the deepest statement
 abbrev pub depth : List Stmt → ℕ
 depth [] = 0
 depth (s ∷ more) = max (size-Stmt s) (depth more)
 
--- the depths of the bodies of functions
+-- the sum of the depths of the functions' bodies, with one more for each
 abbrev pub depths : List Code → ℕ
 depths [] = 0
 depths (f ∷ fs) = suc (depth f.body.items) + depths fs

@@ -1,4 +1,4 @@
--- Environments and closures as they lie in memory.
+-- What environments, closures and `Around` in memory mean.
 use Rattle.std.specs.Prelude.{◌≡◌, ℕ, List, [], ◌∷◌, ◌++◌, map, Option}
 use Rattle.nf_value.specs.Plain.{Plain}
 use Rattle.nf_ast.specs.Tree as tree
@@ -20,7 +20,7 @@ texts_of ps = map (λ p. p.text) ps
 abbrev pub definitions_of : Stored → List Definition
 definitions_of e = definitions_in e.functions.items
 
--- all its names are captured: a body that is evaluated in it has names of its own
+-- the environment in the sense of `Evaluation`: its names are captured, since a body that is evaluated in it has names of its own
 abbrev pub env_of : Stored → List (List ℕ) → (ℕ → List Plain → Option Plain) → Env
 env_of e titles answer = record {
   names = [];
@@ -36,11 +36,11 @@ abbrev pub closing : Tree → Env → Closing
 closing (tree.closure p ps b) env = record { place = p; params = ps; body = b; env = env }
 closing _ env = record { place = nowhere; params = tree.empty; body = tree.empty; env = env }
 
--- with these functions
+-- the environment with these functions
 abbrev pub with_functions : List Definition → Env → Env
 with_functions ds env = record env { functions = functions_of ds env.patterns env.titles env.answer }
 
--- with one pattern more, which the functions see too
+-- the environment with one pattern more, which the functions see too
 abbrev pub with_pattern : List ℕ → List Definition → Env → Env
 with_pattern re ds env = with_functions ds (record env { patterns = env.patterns ++ re ∷ [] })
 
@@ -51,7 +51,7 @@ around_step titles answer (Around-F.Whole env) = env_of env.now titles answer
 around_step titles answer (Around-F.Body names outer) = with_names (names_of names.now) (inside outer.now)
 around_step titles answer (Around-F.Called earlier outer) = called_env (definitions_in earlier.now) outer.now.patterns titles answer
 
--- in a body its names and those around it, and in a function's body what is known where it is called, but for names
+-- a closure's body sees its names and all around it. A function's body sees the functions before it and, of what is seen where it is called, the patterns
 abbrev pub seen : Around → List (List ℕ) → (ℕ → List Plain → Option Plain) → Env
 seen a titles answer = fold-Around Env (around_step titles answer) a
 
@@ -60,11 +60,11 @@ held_step (Around-F.Whole env) = env.now.functions.items
 held_step (Around-F.Body names outer) = outer.now
 held_step (Around-F.Called earlier outer) = earlier.now
 
--- the functions that are called there
+-- the functions that may be called there
 abbrev pub held : Around → List Code
 held a = fold-Around (List Code) held_step a
 
--- a program's functions are those that it hands in
+-- the program's functions in an environment are those that were handed in
 pub record IsHandedIn (env : Env) (titles : List (List ℕ)) (answer : ℕ → List Plain → Option Plain) : Type 0 where
   pub has_titles : env.titles ≡ titles
   pub has_answer : env.answer ≡ answer

@@ -1,4 +1,4 @@
--- What stands where an expression stands.
+-- Tests on the shape of trees.
 use Rattle.std.specs.Prelude.{Bool, true, false, List, [], ◌∷◌}
 use Rattle.nf_value.specs.Plain.{Plain}
 use Rattle.nf_value.specs.declared.fault.EvalKind.TheVariants.{WrongKind}
@@ -38,7 +38,7 @@ is_plain (tree.call p f xs) = true
 is_plain (tree.call_with f c) = true
 is_plain _ = false
 
--- what can't be called, whatever comes after it
+-- an expression of which what follows uses only the value: anything but a name, a property and a call in brackets
 abbrev pub is_flat : Tree → Bool
 is_flat (tree.number p i) = true
 is_flat (tree.text p k s) = true
@@ -57,7 +57,7 @@ is_flat (tree.index p e i) = true
 is_flat (tree.call_with f c) = true
 is_flat _ = false
 
--- what a closure gives for its arguments
+-- a closure as a function of its arguments
 abbrev pub block_of : Tree → Env → List Plain → Placed Plain
 block_of (tree.closure p ps b) env = closure p ps (meaning_of b).body env
 block_of _ env = λ vs. fault WrongKind nowhere

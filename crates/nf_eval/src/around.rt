@@ -1,4 +1,4 @@
-//! What is seen from within a body.
+//! The names, functions and patterns that an expression sees.
 
 ghost use Rattle.std.specs.Prelude.{◌≡◌, ◌≤◌, ◌+◌, suc, ℕ, List, Option, None, Some, IfOk, IfSome, MatchOption, if◌then◌else◌};
 ghost use Rattle.nf_value.specs.Plain.{Plain};
@@ -18,18 +18,18 @@ use nf_ast::Function;
 use nf_value::{EvalRefusal, Mem, Place, Value};
 use std::alloc::Global;
 
-/// What is seen: all that an environment has, and in a body its names before those around it.
+/// What an expression sees: the names of the bodies that it stands in, the innermost first, and the environment around them.
 #[derive(Clone, Copy)]
 pub(crate) enum Around<'a> {
-    /// An environment.
+    /// No body: all that an environment has.
     Whole(&'a Env),
-    /// The names of a body, and what is seen around it.
+    /// The body of a closure: its own names, and what is seen around it.
     Body(&'a Scope, &'a Around<'a>),
-    /// The body of a function: the functions that were added before it, and what is seen where it is called.
+    /// The body of a function: the functions that were added before it, and what is seen where it is called. Of that it sees the patterns alone.
     Called(&'a [Function], &'a Around<'a>),
 }
 
-/// The value of a name, null where it has none. Takes time by the number of names.
+/// The value of a name; null where it has none. Its time grows with the number of names.
 ///
 /// # Errors
 ///
@@ -50,11 +50,11 @@ pub(crate) fn value_seen(name: &str, around: &Around<'_>) -> Result<Value, Mem>
     }
 }
 
-/// Whether a value's text is matched by the pattern of a text, at the place of the operator.
+/// Whether the pattern of a text matches a value. Faults stand at `place`.
 ///
 /// # Errors
 ///
-/// `WrongKind` there of a value that is no text, and where no such pattern is built. `Mem` for want of memory.
+/// `WrongKind` where the value is no text, and where no pattern of that text is built. `Mem` for want of memory.
 pub(crate) fn match_seen(
     alloc: Global,
     place: Place,
@@ -71,7 +71,7 @@ pub(crate) fn match_seen(
     }
 }
 
-/// Whether it is a process's.
+/// Whether the expression stands in a process's script.
 pub(crate) fn in_process(around: &Around<'_>) -> bool
     ensures { (titles : List (List ℕ)) (answer : ℕ → List Plain → Option Plain) → result ≡ (seen around.now titles answer).in_process }
 {
@@ -82,7 +82,7 @@ pub(crate) fn in_process(around: &Around<'_>) -> bool
     }
 }
 
-/// The function of a name that is called there, with those that it may call itself.
+/// The function that a name calls, with the functions that its own body may call.
 pub(crate) fn function_seen<'a>(
     name: &str,
     around: &Around<'a>,
@@ -97,7 +97,7 @@ pub(crate) fn function_seen<'a>(
     }
 }
 
-/// The program's functions are those that it hands in.
+/// Does nothing. By its contract the program's functions that are seen are those that were handed in.
 pub(crate) fn handed_in(around: &Around<'_>)
     ensures { (titles : List (List ℕ)) (answer : ℕ → List Plain → Option Plain) → IsHandedIn (seen around.now titles answer) titles answer }
 {

@@ -1,4 +1,4 @@
-//! Methods that go over the items of a list by a closure.
+//! The methods that call a closure for items of a list: `any`, `every`, `find`, `findAll` and `collect`.
 
 ghost use Rattle.std.specs.Prelude.{map};
 ghost use Rattle.nf_value.specs.View.{plain_of};
@@ -20,7 +20,7 @@ use nf_value::{EvalRefusal, Place, Value, truth};
 use std::alloc::Global;
 use std::slice;
 
-/// A method over items by a closure.
+/// What a method gives that calls a closure for items.
 #[cycle(value)]
 pub(crate) fn over<N: Natives>(
     alloc: Global,
@@ -135,7 +135,7 @@ pub(crate) fn find_all<N: Natives>(
     Ok(found)
 }
 
-/// What a closure gives for each of the items, as far as a list within the limits goes.
+/// The results of a closure for all items. Once they weigh more than a list may, only their weight is kept.
 #[cycle(value)]
 pub(crate) fn images<N: Natives>(
     alloc: Global,
@@ -155,7 +155,7 @@ pub(crate) fn images<N: Natives>(
     Ok(images)
 }
 
-/// What a closure gives for its arguments.
+/// The result of a closure for its arguments.
 #[cycle(value)]
 pub(crate) fn applied<N: Natives>(
     alloc: Global,

@@ -1,4 +1,4 @@
-//! The bodies of closures.
+//! Runs the bodies of closures and functions: statements, or labelled expressions.
 
 ghost use Rattle.std.specs.Prelude.{map, ◌≡◌, Option};
 ghost use Rattle.nf_value.specs.Plain.{null};
@@ -25,7 +25,7 @@ use nf_placed::split;
 use nf_value::{EvalRefusal, Txt, Value, truth};
 use std::alloc::Global;
 
-/// What a body gives that begins with these names.
+/// The value of a closure's body. `names` are its parameters.
 #[cycle(value)]
 pub(crate) fn body<N: Natives>(
     alloc: Global,
@@ -43,7 +43,7 @@ pub(crate) fn body<N: Natives>(
     }
 }
 
-/// What statements give that begin with these names.
+/// The value of statements as a body. `names` are the parameters.
 #[cycle(value)]
 pub(crate) fn run<N: Natives>(
     alloc: Global,
@@ -69,7 +69,7 @@ fn value_of(step: Step) -> Value
     }
 }
 
-/// The statements of a body, until one returns.
+/// Runs statements until one returns.
 #[cycle(value)]
 pub(crate) fn statements<N: Natives>(
     alloc: Global,
@@ -91,7 +91,7 @@ pub(crate) fn statements<N: Natives>(
     Ok(Step::Going(last))
 }
 
-/// A statement.
+/// Runs a statement.
 #[cycle(value)]
 pub(crate) fn statement<N: Natives>(
     alloc: Global,
@@ -135,7 +135,7 @@ pub(crate) fn statement<N: Natives>(
         Stmt::Println(_, _) => Ok(Step::Going(Value::Null)),
         Stmt::Log(_, _, _, _) => Ok(Step::Going(Value::Null)),
         Stmt::Expr(expr) => {
-            // By its contract the tree is that of an expression.
+            // Called for its contract, which says that the tree is an expression's.
             is_block(expr);
             let value = value(alloc, expr, &Around::Body(&*names, &*around), natives)?;
             Ok(Step::Going(value))
@@ -143,7 +143,7 @@ pub(crate) fn statement<N: Natives>(
     }
 }
 
-/// What stands after `else`, or nothing.
+/// Runs the statements after the last `else` of a choice, if there are any.
 #[cycle(value)]
 pub(crate) fn otherwise<N: Natives>(
     alloc: Global,
@@ -168,7 +168,7 @@ pub(crate) fn otherwise<N: Natives>(
     }
 }
 
-/// Statements in braces, whose own names end with them.
+/// Runs statements in braces. The names that they define end with them.
 #[cycle(value)]
 pub(crate) fn block<N: Natives>(
     alloc: Global,
@@ -186,7 +186,7 @@ pub(crate) fn block<N: Natives>(
     Ok(last)
 }
 
-/// The statements of the first arm whose condition is true; none if there is no such arm.
+/// Runs the statements of the first arm whose condition is true; none where there is no such arm.
 #[cycle(value)]
 pub(crate) fn arms<N: Natives>(
     alloc: Global,
@@ -213,7 +213,7 @@ pub(crate) fn arms<N: Natives>(
     Ok(None)
 }
 
-/// Labelled expressions as statements: the value of the last.
+/// Evaluates labelled expressions in their order: the value of the last.
 #[cycle(value)]
 pub(crate) fn labels<N: Natives>(
     alloc: Global,

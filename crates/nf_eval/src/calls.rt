@@ -1,4 +1,4 @@
-//! Calls with their arguments.
+//! Calls whose arguments stand in the tree: values, and closures for the methods that take one.
 
 ghost use Rattle.std.specs.Prelude.{◌≡◌, ◌==◌, List, [], ◌∷◌, map, length, suc, true, if◌then◌else◌, Ok, None};
 ghost use Rattle.nf_value.specs.Plain.{Plain};
@@ -24,7 +24,7 @@ use nf_placed::{BlockMethod, block_method, fault_at, math_block, native_block};
 use nf_value::{EvalKind, EvalRefusal, Place, Vals, Value};
 use std::alloc::Global;
 
-/// The values of arguments, or none where a closure is among them.
+/// The values of arguments; none where a closure is among them.
 #[cycle(value)]
 pub(crate) fn arguments<N: Natives>(
     alloc: Global,
@@ -49,7 +49,7 @@ pub(crate) fn arguments<N: Natives>(
     Ok(Some(Vals::of(values)))
 }
 
-/// The value of an argument, or none where it is a closure.
+/// The value of an argument; none where it is a closure.
 #[cycle(value)]
 pub(crate) fn argument<N: Natives>(
     alloc: Global,
@@ -66,7 +66,7 @@ pub(crate) fn argument<N: Natives>(
     }
 }
 
-/// The value of an argument without a name, or none where it is a closure.
+/// The value of an argument without a name; none where it is a closure.
 #[cycle(value)]
 pub(crate) fn unnamed<N: Natives>(
     alloc: Global,
@@ -84,7 +84,7 @@ pub(crate) fn unnamed<N: Natives>(
     Ok(Some(value))
 }
 
-/// What a call gives, where its arguments have values or a closure is among them.
+/// The result of a call. `given` are the values of its arguments; none where a closure is among them.
 #[cycle(value)]
 pub(crate) fn performed<N: Natives>(
     alloc: Global,
@@ -103,7 +103,7 @@ pub(crate) fn performed<N: Natives>(
     }
 }
 
-/// What a call gives where a closure is among its arguments.
+/// The result of a call that has a closure among its arguments.
 #[cycle(value)]
 pub(crate) fn of_blocks<N: Natives>(
     alloc: Global,
@@ -133,7 +133,7 @@ pub(crate) fn of_blocks<N: Natives>(
     }
 }
 
-/// A method over items by the closure that is the only argument.
+/// The result of a method that calls its only argument, a closure, for items.
 #[cycle(value)]
 pub(crate) fn over_sole<N: Natives>(
     alloc: Global,
@@ -153,7 +153,7 @@ pub(crate) fn over_sole<N: Natives>(
     }
 }
 
-/// A method over items by an expression that is a closure.
+/// The result of a method that calls an expression, which is a closure, for items.
 #[cycle(value)]
 pub(crate) fn over_expr<N: Natives>(
     alloc: Global,
@@ -181,7 +181,7 @@ pub(crate) fn over_expr<N: Natives>(
     }
 }
 
-/// What a call gives with a closure after it, which makes so many arguments.
+/// The result of a call with a closure after its brackets. The closure is the last of `count` arguments.
 #[cycle(value)]
 pub(crate) fn over_call<N: Natives>(
     alloc: Global,
@@ -212,7 +212,7 @@ pub(crate) fn over_call<N: Natives>(
     }
 }
 
-/// What a call of a function comes to where a closure is among so many arguments, which no function takes.
+/// The fault of calling a function with a closure among its `count` arguments. No function takes a closure.
 fn function_block<N: Natives>(
     place: Place,
     name: &str,
@@ -231,7 +231,7 @@ fn function_block<N: Natives>(
     }
 }
 
-/// What is wrong with a closure among so many arguments of a function of the script that has so many parameters.
+/// The kind of that fault for a function of the script: `Arity` where the number of arguments is wrong, and else `WrongKind`.
 fn kind_among(params: usize, count: usize) -> EvalKind
     ensures { result ≡ (if count == params then WrongKind else Arity) }
 {

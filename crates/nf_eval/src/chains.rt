@@ -1,4 +1,4 @@
-//! What is read of an expression or called on it, one after another.
+//! Chains of properties, indexes and calls after an expression.
 
 ghost use Rattle.std.specs.Prelude.{◌≡◌, Bool, true, [], ◌∷◌, map};
 ghost use Rattle.nf_ast.specs.Tree as tree;
@@ -18,7 +18,7 @@ use nf_placed::index_value;
 use nf_value::{EvalRefusal, Place, Value};
 use std::alloc::Global;
 
-/// What an expression comes to that parts may follow, a closure first or not.
+/// The subject that an expression is for the parts after it. `closure` says whether a closure comes next.
 #[cycle(value)]
 pub(crate) fn subject<N: Natives>(
     alloc: Global,
@@ -62,7 +62,7 @@ pub(crate) fn subject<N: Natives>(
     }
 }
 
-/// The value of an expression that can't be called.
+/// The subject that an expression is which can't be called: its value.
 #[cycle(value)]
 pub(crate) fn flat<N: Natives>(
     alloc: Global,
@@ -77,7 +77,7 @@ pub(crate) fn flat<N: Natives>(
     Ok(Subject::Value(value))
 }
 
-/// What parts after an expression come to, which a closure follows or not. A call that a closure follows is performed with it alone.
+/// The subject after all parts. `closure` says whether a closure follows them. A call that a closure follows is only performed with that closure.
 #[cycle(value)]
 pub(crate) fn parts<N: Natives>(
     alloc: Global,
@@ -100,7 +100,7 @@ pub(crate) fn parts<N: Natives>(
     Ok(subject)
 }
 
-/// What a part after an expression comes to, which a closure follows or not.
+/// The subject after one part. `closure` says whether a closure follows it.
 #[cycle(value)]
 pub(crate) fn part<N: Natives>(
     alloc: Global,
@@ -126,7 +126,7 @@ pub(crate) fn part<N: Natives>(
     }
 }
 
-/// A subject with an index after it.
+/// The subject after an index.
 #[cycle(value)]
 pub(crate) fn indexed<N: Natives>(
     alloc: Global,
@@ -145,7 +145,7 @@ pub(crate) fn indexed<N: Natives>(
     Ok(Subject::Value(item))
 }
 
-/// A subject with arguments after it. Where a closure follows, which is one more, the call isn't performed yet.
+/// The subject after arguments in brackets. Where a closure follows, which is one argument more, the call isn't performed yet.
 #[cycle(value)]
 pub(crate) fn call<N: Natives>(
     alloc: Global,
@@ -171,7 +171,7 @@ pub(crate) fn call<N: Natives>(
     finished(callee, args.len() + 1, result)
 }
 
-/// A subject with a closure after it.
+/// The subject after a closure, which is the last argument of a call.
 #[cycle(value)]
 pub(crate) fn with<N: Natives>(
     alloc: Global,

@@ -1,4 +1,4 @@
-//! Closures.
+//! A closure with the environment that it was made in.
 
 ghost use Rattle.std.specs.Prelude.{◌≡◌, ℕ, List, Option};
 ghost use Rattle.nf_value.specs.Plain.{Plain};
@@ -9,7 +9,7 @@ ghost use Rattle.nf_eval.specs.Closing.{closing_of};
 use crate::environment::Env;
 use nf_ast::ClosureExpr as Code;
 
-/// A closure with the environment that it saw when it was made (Nextflow reference documentation, "Syntax", "Closure"). Contracts see its `closing_of`.
+/// A closure with the environment that it was made in (Nextflow reference documentation, "Syntax", "Closure"). Contracts see its `closing_of`.
 #[derive(Drop)]
 pub struct Closure {
     pub(crate) code: Code,
@@ -17,7 +17,7 @@ pub struct Closure {
 }
 
 impl Closure {
-    /// A closure in an environment. Takes no memory.
+    /// The closure of this code, made in this environment. Takes no memory.
     pub fn new(code: Code, env: Env) -> Closure
         ensures { (titles : List (List ℕ)) (answer : ℕ → List Plain → Option Plain) → closing_of result titles answer ≡ closing (view_closure code) (env_of env titles answer) }
     {

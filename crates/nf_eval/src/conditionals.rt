@@ -1,4 +1,4 @@
-//! Conditions whose operands stand in one list.
+//! Conditional expressions (`c ? a : b`, `a ?: b`), whose operands stand in one list.
 
 ghost use Rattle.std.specs.Prelude.{◌≡◌, ◌≤◌, suc, [], List, IfOk, map, Ok};
 ghost use Rattle.nf_value.specs.View.{plain_of};
@@ -16,7 +16,7 @@ use nf_builtins::Natives;
 use nf_value::{EvalRefusal, Value};
 use std::alloc::Global;
 
-/// What operands after a value come to, with the operators of conditions between them.
+/// The value of a conditional expression. `first` is the value of its first operand.
 #[cycle(value)]
 pub(crate) fn conditional<N: Natives>(
     alloc: Global,
@@ -35,7 +35,7 @@ pub(crate) fn conditional<N: Natives>(
     ended(turn)
 }
 
-/// An operator and the operand after it, which is evaluated only where it is needed. Fewer than 2^64 - 1 conditions may wait.
+/// Goes past an operator and the operand after it, which is evaluated only where it is needed. Fewer than 2^64 - 1 conditions may wait.
 #[cycle(value)]
 pub(crate) fn step<N: Natives>(
     alloc: Global,

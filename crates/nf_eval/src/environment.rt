@@ -1,4 +1,4 @@
-//! What an expression is evaluated in.
+//! The environment that an expression is evaluated in.
 
 ghost use Rattle.std.specs.Prelude.{◌≡◌, ◌∷◌, ◌++◌, [], ℕ, List, Option, OnOk, Ok, true, if◌then◌else◌, false};
 ghost use Rattle.nf_value.specs.Plain.{Plain};
@@ -19,8 +19,7 @@ use nf_placed::{fault_at, matches_value};
 use nf_value::{EvalKind, EvalRefusal, Mem, Place, Txt, Value};
 use std::alloc::Global;
 
-/// What an expression is evaluated in: names with their values, functions of a script, patterns that are built, and whether it is a process's
-/// (own). Contracts see its `env_of`, and its functions as `definitions_of`, the latest first.
+/// The environment of an expression: names with their values, functions of a script, built patterns, and whether it belongs to a process (own). Contracts see its `env_of`, and its functions as `definitions_of`, the latest first.
 #[derive(Drop)]
 pub struct Env {
     pub(crate) names: Scope,
@@ -33,7 +32,7 @@ impl Env {
     ghost use Rattle.nf_eval.specs.Functions.{definition_of};
     ghost use Rattle.nf_eval.specs.Memory.{env_of, definitions_of, with_functions, with_pattern};
 
-    /// No names, functions and patterns, and no process's. Takes no memory.
+    /// An empty environment, which belongs to no process. Takes no memory.
     pub fn new(alloc: Global) -> Env
         ensures functions { definitions_of result ≡ [] }
         ensures sees { (titles : List (List ℕ)) (answer : ℕ → List Plain → Option Plain) → env_of result titles answer ≡ record { names = []; captured = []; functions = []; patterns = []; titles = titles; answer = answer; in_process = false } }
@@ -58,7 +57,7 @@ impl Env {
         self.names.define(name, value)
     }
 
-    /// Adds a function, which may call those that were added before. Of several of one name the latest is called.
+    /// Adds a function, which may call those that were added before it. Of several functions of one name the latest is called.
     ///
     /// # Errors
     ///
@@ -71,7 +70,7 @@ impl Env {
         Ok(())
     }
 
-    /// Adds a pattern that was built of a text. The functions see it too.
+    /// Adds the pattern that was built from a text. Functions see it too, whenever they were added.
     ///
     /// # Errors
     ///
@@ -85,8 +84,8 @@ impl Env {
         Ok(())
     }
 
-    /// From here on it is a process's: there a hole whose value is a list of at least one file, and of files alone, prints their names with blanks
-    /// between them (own). Takes no memory.
+    /// From now on the environment belongs to a process: a hole whose value is a list of one file or more, and of nothing else, prints the files' names
+    /// with blanks between them (own). Takes no memory.
     pub fn for_process(&mut self)
         ensures functions { definitions_of self.new ≡ definitions_of self.old }
         ensures sees { (titles : List (List ℕ)) (answer : ℕ → List Plain → Option Plain) → env_of self.new titles answer ≡ record (env_of self.old titles answer) { in_process = true } }
@@ -121,11 +120,11 @@ impl Env {
     }
 }
 
-/// Whether a value's text is matched by the pattern of a text, at the place of the operator.
+/// Whether the pattern of a text matches a value. Faults stand at `place`.
 ///
 /// # Errors
 ///
-/// `WrongKind` there of a value that is no text, and where no such pattern is built. `Mem` for want of memory.
+/// `WrongKind` where the value is no text, and where no pattern of that text is built. `Mem` for want of memory.
 pub(crate) fn matched(
     alloc: Global,
     place: Place,

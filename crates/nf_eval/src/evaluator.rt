@@ -1,4 +1,4 @@
-//! The value of an expression, and of a closure that is applied.
+//! The two entries of the crate: `eval` an expression, and `apply` a closure.
 
 ghost use Rattle.nf_ast.specs.View.{view};
 ghost use Rattle.nf_placed.specs.Placed.{Evaluates};
@@ -34,8 +34,8 @@ pub fn eval<N: Natives>(
     value(alloc, expr, &Around::Whole(env), natives)
 }
 
-/// What a closure gives for its arguments (Nextflow reference documentation, "Syntax", "Closure"): the value of its body, in the names that were
-/// around it when it was made, with its parameters added.
+/// The result of a closure for its arguments (Nextflow reference documentation, "Syntax", "Closure"): the value of its body, which sees the names
+/// that were around the closure when it was made, and its parameters.
 ///
 /// # Errors
 ///

@@ -1,12 +1,12 @@
-//! What comes after a statement.
+//! Whether a body goes on after a statement.
 
 use nf_value::Value;
 
-/// What comes after a statement of a body.
+/// How a body goes on after a statement.
 #[derive(Drop)]
 pub(crate) enum Step {
-    /// The next statement; the value is that of the body if there is none.
+    /// With the next statement. If there is none, this is the value of the body.
     Going(Value),
-    /// The end of the body, with its value.
+    /// It doesn't: this is the value of the body.
     Returned(Value),
 }

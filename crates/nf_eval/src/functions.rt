@@ -1,4 +1,4 @@
-//! Functions of a script, of which each calls those that were added before it.
+//! Finds functions of a script. Each may call those that were added before it.
 
 ghost use Rattle.std.specs.Prelude.{◌≡◌, ◌≤◌, ◌+◌, suc, ℕ, List, Option, None, Some, IfSome, MatchOption};
 ghost use Rattle.nf_value.specs.Plain.{Plain};
@@ -8,7 +8,7 @@ ghost use Rattle.nf_eval.specs.Functions.{definition_of, definitions_in, functio
 
 use nf_ast::Function;
 
-/// The latest function of a name, with those that were added before it. Takes time by the number of functions.
+/// The latest function of a name, with those that were added before it. Its time grows with the number of functions.
 pub(crate) fn function_named<'a>(
     name: &str,
     functions: &'a [Function],

@@ -1,4 +1,4 @@
-//! Operands of one level with the operators between them.
+//! Operands of one level, with infix operators between them.
 
 ghost use Rattle.std.specs.Prelude.{map, Ok};
 ghost use Rattle.nf_value.specs.View.{plain_of};
@@ -17,7 +17,7 @@ use nf_placed::{fault_at, infix_value};
 use nf_value::{EvalKind, EvalRefusal, Place, Value, truth};
 use std::alloc::Global;
 
-/// What operands after a value make of it, from the left.
+/// Applies infix operators to a value and the operands after it, from the left.
 #[cycle(value)]
 pub(crate) fn operands<N: Natives>(
     alloc: Global,
@@ -44,7 +44,7 @@ pub(crate) fn operands<N: Natives>(
     Ok(left)
 }
 
-/// What an operator makes of a value and the operand after it, which may not be evaluated.
+/// Applies an infix operator to a value and the operand after it. `||` and `&&` evaluate the operand only where they need it.
 #[cycle(value)]
 pub(crate) fn joined<N: Natives>(
     alloc: Global,
@@ -81,7 +81,7 @@ pub(crate) fn joined<N: Natives>(
     }
 }
 
-/// Whether the pattern of an operand matches a value.
+/// `==~`: whether the pattern that is the second operand matches a value.
 #[cycle(value)]
 pub(crate) fn matches<N: Natives>(
     alloc: Global,

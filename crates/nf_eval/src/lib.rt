@@ -1,4 +1,6 @@
-//! The value of an expression.
+//! Evaluates expressions, and applies closures, in an environment of names, functions and patterns.
+//!
+//! `specs/Evaluation` says what each tree means; the functions here walk the nodes of `nf_ast` in memory and give exactly that.
 #![tactic(auto)]
 
 mod around;

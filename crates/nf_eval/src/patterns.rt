@@ -1,11 +1,11 @@
-//! Patterns that are built.
+//! Built patterns.
 
 ghost use Rattle.std.specs.Prelude.{◌≡◌};
 
 use nf_pattern::WholeRe;
 use nf_value::Txt;
 
-/// A pattern that is built, with its text.
+/// A built pattern, with the text that it was built from.
 #[derive(Drop)]
 pub(crate) struct Pattern {
     pub(crate) text: Txt,

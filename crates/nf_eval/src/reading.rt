@@ -1,4 +1,4 @@
-//! What is read of a subject, and what is called of it.
+//! Reads the value of a subject, and finds what a call of it calls.
 
 ghost use Rattle.std.specs.Prelude.{◌≡◌, ℕ, Bool, true, List, Option, map, not};
 ghost use Rattle.nf_value.specs.Plain.{Plain};
@@ -18,10 +18,10 @@ use nf_placed::{fault_at, property_value};
 use nf_value::{EvalFault, EvalKind, EvalRefusal, Place, Txt, Value};
 use std::alloc::Global;
 
-/// The place of what no text spells.
+/// The place of faults that no text of a script has.
 const NOWHERE: Place = Place { line: 0, col: 0 };
 
-/// The value of a subject. A call that waits for a closure has none, and isn't read.
+/// The value of a subject. A call that waits for a closure has no value, and is never read.
 pub(crate) fn read(
     alloc: Global,
     subject: Subject,
@@ -47,7 +47,7 @@ pub(crate) fn read(
     }
 }
 
-/// What a call gave that was performed.
+/// The result of a call that was performed.
 fn given_value(given: Option<Result<Value, EvalFault>>) -> Result<Value, EvalRefusal>
     ensures { Evaluates (given_at given) result }
 {
@@ -67,7 +67,7 @@ fn safe_value(alloc: Global, place: Place, value: &Value, name: &Txt) -> Result<
     }
 }
 
-/// A subject with `.name` after it.
+/// The subject after `.name`.
 pub(crate) fn property(
     alloc: Global,
     place: Place,
@@ -97,7 +97,7 @@ fn is_math(subject: &Subject) -> bool
     }
 }
 
-/// A subject with `?.name` after it.
+/// The subject after `?.name`.
 pub(crate) fn safe_property(
     alloc: Global,
     place: Place,
@@ -111,7 +111,7 @@ pub(crate) fn safe_property(
     Ok(Subject::Safe(of, place, name))
 }
 
-/// What is called of a subject, where arguments come next at a place.
+/// What is called where arguments follow a subject. They begin at `place`.
 ///
 /// # Errors
 ///
@@ -141,7 +141,7 @@ fn safe_callee(value: Value, place: Place, name: Txt) -> Called
     }
 }
 
-/// Nothing is called, so that arguments aren't evaluated.
+/// Whether nothing is called, so that arguments aren't evaluated.
 pub(crate) fn calls_nothing(callee: &Called) -> bool
     ensures { not result ≡ takes (callee_of callee.now) }
 {
@@ -154,7 +154,7 @@ pub(crate) fn calls_nothing(callee: &Called) -> bool
     }
 }
 
-/// What is called where a closure comes next, whose brace stands at a place.
+/// What is called where a closure follows a subject. Its brace stands at `place`.
 pub(crate) fn waiting(subject: Subject, place: Place) -> Waiting
     ensures { (t : Tree) (env : Env) → Stands t env subject → Waits t env place result }
 {
@@ -174,11 +174,11 @@ fn alone(callee: Called) -> Waiting
     Waiting { callee, count: 1 }
 }
 
-/// A call with what it gives.
+/// The subject that a performed call is, with its result.
 ///
 /// # Errors
 ///
-/// `Mem` where there was no memory to tell.
+/// `Mem` where the call had no memory.
 pub(crate) fn finished(
     callee: Called,
     count: usize,

@@ -1,4 +1,4 @@
-//! Names and their values.
+//! Names in memory, with their values.
 
 ghost use Rattle.std.specs.Prelude.{◌≡◌, ◌∷◌, ◌-◌, ◌++◌, [], ℕ, List, MatchOption, OnOk, drop, length, map, reverse};
 ghost use Rattle.nf_value.specs.Plain.{Plain};
@@ -9,8 +9,7 @@ ghost use Rattle.nf_eval.specs.Latest.{HasNone, IsLatest};
 use nf_value::{Mem, Txt, Value};
 use std::alloc::Global;
 
-/// The names of a body and of those around it, with their values (own). Contracts speak of
-/// `names_of`, the list of its names with their values, the latest first.
+/// Names with their values (own). Contracts see `names_of`: the names with their values, the latest first.
 #[derive(Drop)]
 pub struct Scope {
     names: Vec<(Txt, Value)>,
@@ -28,21 +27,22 @@ impl Scope {
         }
     }
 
-    /// These names, the latest last. Takes no memory.
+    /// These names, of which the last is the latest. Takes no memory.
     pub fn of(names: Vec<(Txt, Value)>) -> Scope
         ensures { names_of result ≡ reverse (map pair_of names.items) }
     {
         Scope { names }
     }
 
-    /// How many names there are. Takes no memory.
+    /// The number of names. Takes no memory.
     pub fn len(&self) -> usize
         ensures { result ≡ length (names_of self.now) }
     {
         self.names.len()
     }
 
-    /// The value of a name: of several of that name, the latest, whatever names come after these. Takes no memory, and time by the number of names.
+    /// The value of a name; of several of that name, of the latest. Its contract is about any list in which more names come after these. Takes no memory,
+    /// and time that grows with the number of names.
     pub fn value(&self, name: &str) -> Option<&Value>
         ensures { MatchOption result ((after : List (List ℕ × Plain)) → value_in name.now (names_of self.now ++ after) ≡ value_in name.now after) (λ v. (after : List (List ℕ × Plain)) → value_in name.now (names_of self.now ++ after) ≡ plain_of v.now) }
     {
@@ -62,7 +62,7 @@ impl Scope {
         Ok(())
     }
 
-    /// Adds names, the first first.
+    /// Adds names in their order.
     ///
     /// # Errors
     ///
@@ -76,7 +76,7 @@ impl Scope {
         Ok(())
     }
 
-    /// Gives a name another value: of several of that name, the latest. A name that isn't there stays so. Takes no memory.
+    /// Gives a name another value; of several of that name, the latest. Adds no name. Takes no memory.
     pub fn rebind(&mut self, name: &str, value: Value)
         ensures { names_of self.new ≡ rebound_in name.now (plain_of value) (names_of self.old) }
     {
@@ -85,7 +85,7 @@ impl Scope {
         }
     }
 
-    /// Takes away all names that were added after there were so many. Takes no memory.
+    /// Takes away all names but the `count` that were added first. Takes no memory.
     pub fn leave(&mut self, count: usize)
         ensures { names_of self.new ≡ drop (length (names_of self.old) - count) (names_of self.old) }
     {
@@ -93,7 +93,7 @@ impl Scope {
     }
 }
 
-/// The place of the latest name that is this one.
+/// The place of the latest of the names that are `name`.
 fn place_of(names: &[(Txt, Value)], name: &str) -> Option<usize>
     ensures { MatchOption result (HasNone name.now names.now) (IsLatest name.now names.now) }
 {

@@ -1,4 +1,4 @@
-//! What stands where an expression stands.
+//! Tests on the shape of nodes: what an expression is once chains of one part are looked through.
 
 ghost use Rattle.std.specs.Prelude.{◌≡◌, ◌∷◌, drop, map, not, Bool, List, MatchOption, Some, None};
 ghost use Rattle.nf_ast.specs.Tree.{Tree};
@@ -10,7 +10,7 @@ ghost use Rattle.nf_eval.specs.Shapes.{is_nil, is_closure, is_plain};
 use nf_ast::{Branch, Expr, Operand, Postfix, Prefix};
 use nf_value::Txt;
 
-/// The text of a pattern or a plain string.
+/// The text of an expression that is a pattern or a plain string.
 pub(crate) fn pattern_text(expr: &Expr) -> Option<&Txt>
     ensures { MatchOption result (pattern_in (view expr.now) ≡ None) (λ t. pattern_in (view expr.now) ≡ Some t.now) }
 {
@@ -49,7 +49,7 @@ pub(crate) fn pattern_text(expr: &Expr) -> Option<&Txt>
     }
 }
 
-/// Whether it is a closure, and else a plain expression.
+/// Whether an expression is a closure.
 pub(crate) fn is_block(expr: &Expr) -> bool
     ensures closure { result ≡ is_closure (view expr.now) }
     ensures plain { not result ≡ is_plain (view expr.now) }
@@ -88,7 +88,7 @@ pub(crate) fn is_block(expr: &Expr) -> bool
     }
 }
 
-/// No operator stands before an operand.
+/// Whether no operator stands before an operand.
 pub(crate) fn no_prefixes(list: &[Prefix]) -> bool
     ensures { result ≡ is_nil list.now }
 {
@@ -98,7 +98,7 @@ pub(crate) fn no_prefixes(list: &[Prefix]) -> bool
     }
 }
 
-/// No operand comes after the first.
+/// Whether no operand comes after the first.
 pub(crate) fn no_operands(list: &[Operand]) -> bool
     ensures { result ≡ is_nil (map view_operand list.now) }
 {
@@ -108,7 +108,7 @@ pub(crate) fn no_operands(list: &[Operand]) -> bool
     }
 }
 
-/// No operand of a condition comes after the first.
+/// Whether no operand of a conditional expression comes after the first.
 pub(crate) fn no_branches(list: &[Branch]) -> bool
     ensures { result ≡ is_nil (map view_branch list.now) }
 {
@@ -118,7 +118,7 @@ pub(crate) fn no_branches(list: &[Branch]) -> bool
     }
 }
 
-/// Nothing is read of an expression or called on it.
+/// Whether no property, index or call comes after an expression.
 pub(crate) fn no_parts(list: &[Postfix]) -> bool
     ensures { result ≡ is_nil (map view_postfix list.now) }
 {
@@ -128,7 +128,7 @@ pub(crate) fn no_parts(list: &[Postfix]) -> bool
     }
 }
 
-/// A closure comes next: the first of the parts, or what comes after all of them.
+/// Whether a closure comes next: the first part is one, or there are no parts and `after` says so.
 pub(crate) fn closure_next(parts: &[Postfix], after: bool) -> bool
     ensures { result ≡ is_closure_next (map view_postfix parts.now) after }
 {

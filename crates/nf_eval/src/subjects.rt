@@ -1,8 +1,8 @@
-//! What the first parts of a chain come to.
+//! Subjects: how far a chain of properties, indexes and calls was evaluated.
 
 use nf_value::{EvalFault, Place, Txt, Value};
 
-/// What is called.
+/// What a call calls.
 #[derive(Drop)]
 pub(crate) enum Called {
     /// Nothing: a method of null after `?.`.
@@ -13,32 +13,33 @@ pub(crate) enum Called {
     Function(Place, Txt),
     /// A function of `Math`, with the place of its name.
     Math(Place, Txt),
-    /// A value, which can't be called, with the place at which its arguments begin.
+    /// A value, which can't be called, with the place where its arguments begin.
     Value(Place),
 }
 
-/// What an expression came to that more parts may follow.
+/// The front of a chain, evaluated as far as is known before the next part is read.
 #[derive(Drop)]
 pub(crate) enum Subject {
     /// A value that can't be called.
     Value(Value),
     /// A name.
     Name(Place, Txt),
-    /// A property of a value, not yet read.
+    /// A value with `.name` after it, which isn't read yet.
     Property(Value, Place, Txt),
-    /// A property after `?.`, not yet read.
+    /// A value with `?.name` after it, which isn't read yet.
     Safe(Value, Place, Txt),
-    /// A name after `Math.`, not yet read.
+    /// `Math.name`, which isn't read yet.
     Math(Place, Txt),
-    /// A call with what it gives, or with nothing yet where a closure comes next, which is one argument more: with it there are so many.
+    /// A call with one argument less than this number, and its result. It has no result yet where a closure comes next, which is the argument that is
+    /// missing.
     Call(Called, usize, Option<Result<Value, EvalFault>>),
 }
 
-/// What is called where a closure comes next, and with how many arguments.
+/// A call whose last argument is the closure that comes next.
 #[derive(Drop)]
 pub(crate) struct Waiting {
     /// What is called.
     pub(crate) callee: Called,
-    /// How many arguments there are with the closure.
+    /// The number of arguments, the closure among them.
     pub(crate) count: usize,
 }

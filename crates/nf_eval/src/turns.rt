@@ -1,4 +1,4 @@
-//! How a conditional expression is read from the left.
+//! Reads a conditional expression from the left, and tells which operands are needed.
 
 ghost use Rattle.std.specs.Prelude.{◌≡◌, ◌≤◌, suc, [], List};
 ghost use Rattle.nf_value.specs.declared.place.Place.{Place as Spot};
@@ -13,29 +13,29 @@ use nf_ast::BranchOperator;
 use nf_placed::fault_at;
 use nf_value::{EvalKind, EvalRefusal, Place, Value, truth};
 
-/// How far a conditional expression was read. Of the conditions that are true so many wait for their `:`.
+/// How far a conditional expression was read. The first number counts the conditions that were true and wait for their `:`.
 #[derive(Drop)]
 pub(crate) enum Turn {
     /// The operand before the next operator was needed, and has this value.
     Live(usize, Value),
-    /// This value was chosen before, and of what isn't needed so many conditions wait for their `:`.
+    /// This value was chosen, and operands are passed over. The second number counts the `?` among them that wait for their `:`.
     Chosen(usize, Value, usize),
-    /// A condition was false, and of what isn't needed so many conditions wait for their `:`.
+    /// A condition was false, and operands are passed over. The second number counts the `?` among them that wait for their `:`.
     Skipped(usize, usize),
 }
 
-/// What comes of the operand after an operator.
+/// Whether the operand after an operator is needed, with the numbers of `Turn`.
 #[derive(Drop)]
 pub(crate) enum Next {
     /// It is needed.
     Due(usize),
-    /// It isn't, since a value was chosen before it.
+    /// It isn't: a value was chosen before it.
     Chosen(usize, Value, usize),
-    /// It isn't, since a condition before it was false.
+    /// It isn't: a condition before it was false.
     Skipped(usize, usize),
 }
 
-/// What comes of the operand after the next operator. Fewer than 2^64 - 1 conditions may wait.
+/// Whether the operand after the next operator is needed. Fewer than 2^64 - 1 conditions may wait.
 pub(crate) fn after(operator: BranchOperator, turn: Turn) -> Next
     requires { suc (waits turn) ≤ usize.MAX }
     ensures reads { (env : Env) (p : Spot) (fs : List Frame) (e : Tree) → IsAt env fs e turn → IsNext env (framed p operator fs e) result }
@@ -97,7 +97,7 @@ fn answered(outer: usize, value: Value) -> Next
     Next::Due(0)
 }
 
-/// `:` after what isn't needed, where a value was chosen.
+/// `:` after operands that are passed over, since a value was chosen.
 fn chosen(outer: usize, value: Value, inner: usize) -> Next
     ensures reads { (env : Env) (p : Spot) (fs : List Frame) (e : Tree) → IsAt env fs e (Turn.Chosen outer value inner) → IsNext env (turned p fs e) result }
     ensures fits { next_waits result ≤ waits (Turn.Chosen outer value inner) }
@@ -108,7 +108,7 @@ fn chosen(outer: usize, value: Value, inner: usize) -> Next
     answered(outer, value)
 }
 
-/// `:` after what isn't needed, where a condition was false.
+/// `:` after operands that are passed over, since a condition was false.
 fn skipped(outer: usize, inner: usize) -> Next
     ensures reads { (env : Env) (p : Spot) (fs : List Frame) (e : Tree) → IsAt env fs e (Turn.Skipped outer inner) → IsNext env (turned p fs e) result }
     ensures fits { next_waits result ≤ waits (Turn.Skipped outer inner) }
@@ -123,7 +123,7 @@ fn skipped(outer: usize, inner: usize) -> Next
 ///
 /// # Errors
 ///
-/// `WrongKind` at no place, where nothing stands for a condition that is false. No text spells that.
+/// `WrongKind` at line 0, where a condition is false and has no `:`. No text of a script is read so.
 pub(crate) fn ended(turn: Turn) -> Result<Value, EvalRefusal>
     ensures { (env : Env) (fs : List Frame) (e : Tree) → IsAt env fs e turn → Evaluates ((meaning_of (ended_of fs e)).value env) result }
 {

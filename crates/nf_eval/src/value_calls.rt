@@ -1,4 +1,4 @@
-//! Calls whose arguments are values.
+//! Calls whose arguments are all values.
 
 ghost use Rattle.std.specs.Prelude.{◌≡◌, ◌≤◌, ◌+◌, suc, ℕ, List, Some, Ok};
 ghost use Rattle.nf_placed.specs.Placed.{Evaluates};
@@ -17,7 +17,7 @@ use nf_placed::{fault_at, math_value, method_value, native_value, paired};
 use nf_value::{EvalKind, EvalRefusal, Place, Vals, Value};
 use std::alloc::Global;
 
-/// What a call gives of values.
+/// The result of a call with these values.
 #[cycle(value)]
 pub(crate) fn of_values<N: Natives>(
     alloc: Global,
@@ -47,7 +47,7 @@ pub(crate) fn of_values<N: Natives>(
     }
 }
 
-/// What a function gives of values: the script's of that name, or else the program's.
+/// The result of the function of a name: the script's, or else the program's.
 #[cycle(value)]
 pub(crate) fn by_name<N: Natives>(
     alloc: Global,
@@ -71,7 +71,7 @@ pub(crate) fn by_name<N: Natives>(
     }
 }
 
-/// What a function of the script gives of values: its body, in which its parameters are the only names, and which calls those functions alone that were
+/// The result of a function of the script: the value of its body, which sees its parameters as the only names, and calls only the functions that were
 /// added before it.
 #[cycle(value)]
 pub(crate) fn by_script<N: Natives>(

@@ -1,4 +1,4 @@
-//! The values of expressions.
+//! The value of an expression by its kind.
 
 ghost use Rattle.std.specs.Prelude.{map, IfOk, OnOk, ◌≡◌, ◌++◌, ℕ, List};
 ghost use Rattle.nf_value.specs.View.{plain_of};
@@ -73,7 +73,7 @@ pub(crate) fn value<N: Natives>(
     }
 }
 
-/// What operators before a value make of it, the innermost first.
+/// Applies the operators before a value, the innermost first.
 fn prefixed(operators: &[Prefix], of: Value) -> Result<Value, EvalRefusal>
     ensures { Evaluates (prefixed_of operators.now (plain_of of)) result }
 {
@@ -86,7 +86,7 @@ fn prefixed(operators: &[Prefix], of: Value) -> Result<Value, EvalRefusal>
     Ok(value)
 }
 
-/// The values of expressions in a row, as far as a list within the limits goes.
+/// The values of a list's items. Once they weigh more than a list may, only their weight is kept.
 #[cycle(value)]
 pub(crate) fn items<N: Natives>(
     alloc: Global,
@@ -104,7 +104,7 @@ pub(crate) fn items<N: Natives>(
     Ok(values)
 }
 
-/// The keys and values of pairs in a row.
+/// The keys and values of a map's pairs.
 #[cycle(value)]
 pub(crate) fn entries<N: Natives>(
     alloc: Global,
@@ -136,7 +136,7 @@ fn key_of(alloc: Global, key: &Key) -> Result<Txt, Mem>
     }
 }
 
-/// The text of a template's parts, as far as a text within the limits goes.
+/// The text of a template. Once it is longer than a text may be, only its length is kept.
 #[cycle(value)]
 pub(crate) fn text<N: Natives>(
     alloc: Global,
@@ -160,7 +160,7 @@ pub(crate) fn text<N: Natives>(
     Ok(written)
 }
 
-/// Writes what a hole prints for a value.
+/// Writes the text of a hole.
 fn put_hole(alloc: Global, value: Value, in_process: bool, out: &mut Written) -> Result<(), Mem>
     ensures { (t : List ℕ) → IsWritten t out.old → OnOk result (IsWritten (t ++ hole_text in_process (plain_of value)) out.new) }
 {

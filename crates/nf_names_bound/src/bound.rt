@@ -1,4 +1,4 @@
-//! Whether something binds all that is used.
+//! Asks an environment for each use of an expression.
 
 ghost use Rattle.std.specs.Prelude.{◌≡◌, ◌++◌, ℕ, List, Option, IfOk};
 ghost use Rattle.nf_value.specs.Plain.{Plain};
@@ -15,10 +15,9 @@ use nf_names_used::{Use, UseKind, closure_uses, expr_uses};
 use nf_value::{Mem, Place};
 use std::alloc::Global;
 
-/// The first place, in the order of the text, of what an expression uses and an environment doesn't bind (own): a name without a value, an assignment
-/// to a name of no body within the expression, a function that is neither the environment's nor one of the program's, a pattern, or a plain string that
-/// is matched against, which isn't built, and a name that is defined a second time in one list of parameters or by `def` in one body. `None` where all is
-/// bound. Takes time by the number of uses, times the number of names.
+/// The place of the first use, in the order of the text, that the environment doesn't bind (own): a name without a value, an assignment to a name that no
+/// body within the expression defines, a function that neither the script nor the program has, a pattern (or a plain string that is matched against) that
+/// isn't built, or a name that is defined a second time in one list of parameters or between the same braces. `None` where all is bound. Takes time by the number of uses, times the number of names.
 ///
 /// # Errors
 ///
@@ -35,7 +34,7 @@ pub fn unbound<N: Natives>(
     Ok(first_unknown(&uses, env, natives))
 }
 
-/// The same of a closure, whose parameters are names of its own.
+/// The same for a closure, whose parameters are names of its own.
 ///
 /// # Errors
 ///

@@ -1,4 +1,4 @@
-//! Whether an environment binds all that an expression uses.
+//! Finds the first thing that an expression uses and its environment doesn't bind.
 #![tactic(auto)]
 
 mod bound;

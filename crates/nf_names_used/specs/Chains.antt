@@ -1,4 +1,4 @@
--- What lists of one level use.
+-- What the lists in nodes use: operands, parts and arms.
 use Rattle.std.specs.Prelude.{List, [], ◌∷◌, ◌++◌}
 use Rattle.nf_ast.specs.Tree as tree
 use Rattle.nf_ast.specs.Tree.{Tree}
@@ -18,7 +18,7 @@ abbrev pub branches_uses : List BranchTree → Names → List Use
 branches_uses [] names = []
 branches_uses (x ∷ xs) names = uses x.expr names ++ branches_uses xs names
 
--- what stands before a part: an object, a function or an expression
+-- the uses of the expression before a part: as a function or as `Math` it is no name. us are its uses as a value
 abbrev pub before_part : Tree → Tree → List Use → List Use
 before_part e (tree.property x n) us = object_uses e us
 before_part e (tree.call p x xs) us = callee_uses e us

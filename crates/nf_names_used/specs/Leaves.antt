@@ -1,4 +1,4 @@
--- What stands alone.
+-- Expressions that are just a name or a plain string.
 use Rattle.std.specs.Prelude.{ℕ, Bool, true, false, List, [], ◌∷◌}
 use Rattle.nf_value.specs.declared.place.Place.{Place}
 use Rattle.nf_ast.specs.Tree as tree

@@ -1,4 +1,4 @@
--- What an expression uses of what stands around it, in the order of the text.
+-- What an expression uses of its environment, in the order of the text.
 use Rattle.std.specs.Prelude.{ℕ, Bool, true, false, ◌||◌, List, [], ◌∷◌, ◌++◌, codes, if◌then◌else◌}
 use Rattle.nf_value.specs.declared.place.Place.{Place}
 use Rattle.nf_builtins.specs.Natives.{is_among}
@@ -17,7 +17,7 @@ use Rattle.nf_names_used.specs.declared.uses.UseKind.TheVariants as kind
 pub record Names : Type 0 where
   pub captured : List (List ℕ)
   pub own : List (List ℕ)
-  -- those that the statements between its braces have defined
+  -- those that a `def` between the present braces defined
   pub body : List (List ℕ)
 
 abbrev pub no_names : Names
@@ -29,11 +29,11 @@ is_seen n names = is_among n names.captured || is_among n names.own
 abbrev pub defined : List (List ℕ) → Names → Names
 defined ns names = record { captured = names.captured; own = names.own ++ ns; body = names.body ++ ns }
 
--- where statements begin that have braces of their own
+-- the names at the start of statements that have braces of their own
 abbrev pub begun : Names → Names
 begun names = record { captured = names.captured; own = names.own; body = [] }
 
--- a closure sees all names, and its parameters are its own, which no statement defines
+-- the names at the start of a closure: it captures all that are seen, and its parameters are its own, though no `def` defined them
 abbrev pub entered : List (List ℕ) → Names → Names
 entered params names = record { captured = names.captured ++ names.own; own = params; body = [] }
 
@@ -52,11 +52,11 @@ params_of _ = codes "it" ∷ []
 abbrev pub used : UseKind → Place → List ℕ → Use
 used k p n = record { kind = k; place = p; text = n }
 
--- a name that nothing within binds
+-- a name that is read and isn't seen
 abbrev pub name_uses : Place → List ℕ → Names → List Use
 name_uses p n names = if is_seen n names then [] else used kind.Name p n ∷ []
 
--- an assignment reaches the names of its own body alone
+-- a name that gets another value and isn't the body's own: an assignment reaches no other
 abbrev pub assigned_uses : Tree → Names → List Use
 assigned_uses n names = if is_among (name_in n) names.own then [] else used kind.Assigned (place_of n) (name_in n) ∷ []
 
@@ -64,12 +64,12 @@ assigned_uses n names = if is_among (name_in n) names.own then [] else used kind
 abbrev pub again_use : List (List ℕ) → Tree → List Use
 again_use known n = if is_among (name_in n) known then used kind.Again (place_of n) (name_in n) ∷ [] else []
 
--- names of one list, each known to those after it
+-- names of one list that are known, or have the name of one before them
 abbrev pub again_uses : List (List ℕ) → Tree → List Use
 again_uses known (cons n more) = again_use known n ++ again_uses (known ++ name_in n ∷ []) more
 again_uses known _ = []
 
--- parameters know each other alone
+-- parameters that have the name of one before them
 abbrev pub params_uses : Tree → List Use
 params_uses (tree.params ns) = again_uses [] ns
 params_uses _ = []

@@ -1,4 +1,4 @@
-//! Names that are defined a second time.
+//! Lists names that are defined a second time.
 
 ghost use Rattle.std.specs.Prelude.{◌≡◌, ◌++◌, option_map, OnOk};
 ghost use Rattle.nf_ast.specs.Tree.{name as name_tree};
@@ -11,7 +11,7 @@ use crate::uses::{Use, UseKind};
 use nf_value::{Mem, Place, Txt};
 use std::alloc::Global;
 
-/// A name, where it is among those that are known.
+/// Lists a name if it is among the known ones.
 pub(crate) fn put_again(
     place: Place,
     name: &Txt,
@@ -26,7 +26,7 @@ pub(crate) fn put_again(
     Ok(())
 }
 
-/// Each name of a list that is among those that are known, or among those before it.
+/// Lists each name that is among the known ones, or among the names before it.
 pub(crate) fn put_agains(
     names: &[(Place, Txt)],
     known: &[Txt],
@@ -43,7 +43,7 @@ pub(crate) fn put_agains(
     Ok(())
 }
 
-/// Each parameter of a closure that has the name of one before it.
+/// Lists each parameter of a closure that has the name of one before it.
 pub(crate) fn put_params(
     params: &Option<Vec<(Place, Txt)>>,
     alloc: Global,

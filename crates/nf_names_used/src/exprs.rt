@@ -1,4 +1,4 @@
-//! Uses of expressions.
+//! Lists the uses of expressions.
 
 ghost use Rattle.std.specs.Prelude.{◌≡◌, true, ◌∷◌, ◌++◌, [], map, IfOk, OnOk};
 ghost use Rattle.nf_ast.specs.View.{view, views, view_piece, view_pair, view_operand, view_branch, view_postfix, view_arg, trees};
@@ -14,14 +14,14 @@ use nf_ast::{Arg, Branch, Expr, Fragment, InfixOperator, Operand, Pair, Postfix}
 use nf_value::{Mem, Place, Txt};
 use std::alloc::Global;
 
-/// What an expression uses of what stands around it, in the order of the text (own): the names that nothing within it binds, the functions that it
-/// calls, the assignments to names of no body within it, the names that are defined a second time, and the texts of its patterns and of the plain
-/// strings that it matches against. A name directly before brackets or a closure is that of a function; `Math` before a dot, the name of a
-/// property, of an argument or of a pair is no use.
+/// What an expression uses of its environment, in the order of the text (own): names that it doesn't bind itself, functions that it calls, assignments
+/// to names that none of its bodies defines, names that it defines a second time, and the texts of patterns and of plain strings that it matches
+/// against. A name directly before brackets or a closure is a function's. `Math` before a dot and the name of a property, an argument or a pair are no
+/// uses.
 ///
-/// A name is defined a second time by a parameter that has the name of one before it, and by a `def` of a name that a `def` between the same braces
-/// has defined: that use stands before those of the closure's body, or of what the name gets. A parameter is no `def`, and an arm of an `if` and its
-/// `else` have braces of their own. Takes time by its size, times the number of names that are seen.
+/// A name is defined a second time by a parameter of the name of one before it, and by a `def` of a name that a `def` between the same braces defined.
+/// That use stands before the uses of the closure's body, or of the name's new value. A parameter counts as no `def`, and each arm of an `if`, and its
+/// `else`, has braces of its own. Takes time by the size of the expression, times the number of names that are seen.
 ///
 /// # Errors
 ///
@@ -69,7 +69,7 @@ pub(crate) fn put_expr(
     }
 }
 
-/// A name that is read, where nothing within binds it.
+/// Lists a name that is read, unless the expression binds it.
 fn put_name(place: Place, name: &Txt, seen: &Seen, out: &mut Vec<Use>) -> Result<(), Mem>
     ensures { OnOk result (out.new.items ≡ out.old.items ++ name_uses place name.now seen.now) }
 {
@@ -79,7 +79,7 @@ fn put_name(place: Place, name: &Txt, seen: &Seen, out: &mut Vec<Use>) -> Result
     put_use(UseKind::Name, place, name, out)
 }
 
-/// One use.
+/// Adds a use to the list.
 pub(crate) fn put_use(
     kind: UseKind,
     place: Place,
@@ -170,7 +170,7 @@ fn put_operands(rest: &[Operand], seen: &Seen, alloc: Global, out: &mut Vec<Use>
     Ok(())
 }
 
-/// A plain string that is matched against.
+/// Lists a plain string that is matched against.
 fn put_pattern(operator: InfixOperator, expr: &Expr, out: &mut Vec<Use>) -> Result<(), Mem>
     ensures { OnOk result (out.new.items ≡ out.old.items ++ pattern_uses operator (view expr.now)) }
 {
@@ -199,7 +199,7 @@ fn put_branches(rest: &[Branch], seen: &Seen, alloc: Global, out: &mut Vec<Use>)
     Ok(())
 }
 
-/// What stands before parts: an object, a function or an expression.
+/// Lists the uses of the expression before parts. As a function or as `Math` it is no name.
 #[cycle(uses)]
 fn put_head(
     first: &Expr,

@@ -1,4 +1,4 @@
-//! What stands alone, and before parts.
+//! Looks at single nodes: whether an expression is just a name or a plain string, and what the part after it makes of it.
 
 ghost use Rattle.std.specs.Prelude.{◌≡◌, List, map, if◌then◌else◌};
 ghost use Rattle.nf_ast.specs.Tree.{Tree};
@@ -10,7 +10,7 @@ ghost use Rattle.nf_names_used.specs.Chains.{before_part, before_parts, by_role}
 use nf_ast::{Expr, Postfix};
 use nf_value::{Place, Txt};
 
-/// What an expression is that stands alone.
+/// An expression that is just a name or a plain string, or any other.
 #[derive(Drop)]
 pub(crate) enum Leaf<'a> {
     /// A name.
@@ -21,7 +21,7 @@ pub(crate) enum Leaf<'a> {
     Other,
 }
 
-/// What an expression is.
+/// The leaf that an expression is, once nodes with one operand and no operator are looked through.
 pub(crate) fn read_leaf(expr: &Expr) -> Leaf<'_>
     ensures { view_leaf result ≡ leaf_of (view expr.now) }
 {
@@ -36,7 +36,7 @@ pub(crate) fn read_leaf(expr: &Expr) -> Leaf<'_>
     }
 }
 
-/// What this is where nothing stands beside it.
+/// The leaf, if it stands alone in its node.
 fn alone<'a>(is_alone: bool, leaf: Leaf<'a>) -> Leaf<'a>
     ensures { view_leaf result ≡ (if is_alone then view_leaf leaf.entry else other) }
 {
@@ -52,7 +52,7 @@ fn has_none<T>(parts: &[T]) -> bool
     }
 }
 
-/// As what an expression stands before a part.
+/// The role of an expression before a part.
 #[derive(Drop, Clone, Copy)]
 pub(crate) enum Role {
     /// Before a dot.
@@ -63,7 +63,7 @@ pub(crate) enum Role {
     Value,
 }
 
-/// As what an expression stands before these parts.
+/// The role of an expression before these parts.
 pub(crate) fn role_before(rest: &[Postfix]) -> Role
     ensures { (e : Tree) (us : List OneUse) → before_parts e (map view_postfix rest.now) us ≡ by_role result e us }
 {

@@ -1,4 +1,4 @@
-//! What expressions use of what stands around them.
+//! Lists what an expression uses of its environment: names, functions, patterns, and what it may not do to them.
 #![tactic(auto)]
 
 mod again;

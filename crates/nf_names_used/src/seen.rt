@@ -1,4 +1,4 @@
-//! Names that are seen.
+//! The names that an expression sees within the bodies that hold it.
 
 ghost use Rattle.std.specs.Prelude.{◌≡◌, ◌∷◌, ◌++◌, [], ℕ, List, IfOk, OnOk};
 ghost use Rattle.nf_ast.specs.View.{names as names_tree};
@@ -9,7 +9,7 @@ use nf_value::{Mem, Place, Txt};
 use std::alloc::Global;
 use std::marker::Model;
 
-/// The names of a body, those of them that the statements between its braces have defined, and the names around it.
+/// The names of a body, those of them that a `def` between the present braces defined, and the names around the body.
 #[derive(Drop)]
 pub(crate) struct Seen {
     captured: Vec<Txt>,
@@ -46,14 +46,14 @@ impl Seen {
         has_name(&self.captured, name) || has_name(&self.own, name)
     }
 
-    /// Whether a name is one of the body.
+    /// Whether a name is one of the body's own.
     pub(crate) fn owns(&self, name: &str) -> bool
         ensures { result ≡ is_among name.now self.now.own }
     {
         has_name(&self.own, name)
     }
 
-    /// The names that the statements between the braces have defined.
+    /// The names that a `def` between the present braces defined.
     pub(crate) fn body(&self) -> &[Txt]
         ensures { result.now ≡ self.now.body }
     {

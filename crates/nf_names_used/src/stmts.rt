@@ -106,7 +106,7 @@ fn put_stmts(stmts: &[Stmt], seen: &mut Seen, alloc: Global, out: &mut Vec<Use>)
     Ok(())
 }
 
-/// Statements that have braces of their own.
+/// Lists the uses of statements that have braces of their own.
 #[cycle(uses)]
 fn put_block(stmts: &[Stmt], seen: &Seen, alloc: Global, out: &mut Vec<Use>) -> Result<(), Mem>
     ensures { OnOk result (out.new.items ≡ out.old.items ++ uses (view_stmts stmts.now) (begun seen.now)) }
@@ -115,7 +115,7 @@ fn put_block(stmts: &[Stmt], seen: &Seen, alloc: Global, out: &mut Vec<Use>) -> 
     put_stmts(stmts, &mut inner, alloc, out)
 }
 
-/// A statement, with the names that it adds.
+/// Lists the uses of a statement, and adds the names that it defines.
 #[cycle(uses)]
 fn put_stmt(stmt: &Stmt, seen: &mut Seen, alloc: Global, out: &mut Vec<Use>) -> Result<(), Mem>
     ensures uses { OnOk result (out.new.items ≡ out.old.items ++ uses (view_stmt stmt.now) seen.old) }
@@ -150,7 +150,7 @@ fn put_stmt(stmt: &Stmt, seen: &mut Seen, alloc: Global, out: &mut Vec<Use>) -> 
     }
 }
 
-/// A name that gets another value, where it isn't the body's.
+/// Lists a name that gets another value, unless it is the body's own.
 fn put_assigned(place: Place, name: &Txt, seen: &Seen, out: &mut Vec<Use>) -> Result<(), Mem>
     ensures { OnOk result (out.new.items ≡ out.old.items ++ assigned_uses (tree.name place name.now) seen.now) }
 {

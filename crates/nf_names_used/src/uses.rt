@@ -1,8 +1,8 @@
-//! What is used.
+//! A use of the environment.
 
 use nf_value::{Place, Txt};
 
-/// As what a text is used.
+/// What kind of use it is.
 #[derive(Debug, Clone, Copy, PartialEq, Eq)]
 pub enum UseKind {
     /// A name that is read.
@@ -17,10 +17,10 @@ pub enum UseKind {
     Pattern,
 }
 
-/// A use of what stands around an expression.
+/// A use of the environment by an expression.
 #[derive(Drop)]
 pub struct Use {
-    /// As what it is used.
+    /// The kind of use.
     pub kind: UseKind,
     /// The place of the name's first letter (that of the second one, where a name is defined a second time), of the pattern's `~` or of the
     /// string's opening mark.

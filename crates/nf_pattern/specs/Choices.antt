@@ -1,4 +1,4 @@
--- What chosen parts of a pattern and each way to spell the rest match.
+-- Whether the chosen parts of a pattern, followed by one of the choices for the rest, match a name.
 use Rattle.std.specs.Prelude.{ℕ, Bool, List, ◌++◌}
 use Rattle.std.specs.List.{list_any}
 use Rattle.nf_pattern.specs.Glob.{is_plain_match}

@@ -1,4 +1,4 @@
--- Which paths are literal. A path is a list of characters.
+-- Which paths are literal, that is, hold no glob. A path is a list of characters.
 use Rattle.std.specs.Prelude.{ℕ, Bool, false, not, ◌&&◌, ◌||◌, ◌==◌, List, [], ◌∷◌}
 use Rattle.std.specs.List.{list_all, slice_split}
 use Rattle.nf_pattern.specs.Parting.{has}
@@ -17,6 +17,6 @@ has_alternatives (c ∷ cs) = ((c == opening) && has closing cs) || has_alternat
 abbrev pub is_literal_component : List ℕ → Bool
 is_literal_component cs = not (has star cs) && not (has question cs) && not (has_alternatives cs)
 
--- whether no component of a path has one of them
+-- whether all components of a path are literal
 abbrev pub is_literal_path : List ℕ → Bool
 is_literal_path path = list_all is_literal_component (slice_split (λ c. c == slash) path)

@@ -1,4 +1,4 @@
-//! Alternatives in a pattern.
+//! Finds the first `{a,b}` in a pattern and cuts it into its pieces.
 
 ghost use Rattle.std.specs.Prelude.{◌≡◌, [], ◌∷◌, ◌++◌, ◌+◌, ◌<◌, map, length, MatchOption, IfSome};
 ghost use Rattle.std.specs.Str.{chars};
@@ -17,7 +17,7 @@ pub(crate) struct Alternatives<'a> {
     pub(crate) after: &'a str,
 }
 
-/// The first alternatives of a pattern: they begin at the first `{`, if a `}` comes after it, and end at the first such `}`.
+/// The first alternatives of a pattern. They go from the first `{` to the first `}` after it; without such a `}` there are none.
 pub(crate) fn first_alternatives(pattern: &str) -> Option<Alternatives<'_>>
     ensures spelled { MatchOption result (plain_patterns (chars pattern.now) ≡ chars pattern.now ∷ [])
         (λ a. plain_patterns (chars pattern.now) ≡ map (λ rest. chars a.before.now ++ rest) (joined (pieces (chars a.within.now)) (plain_patterns (chars a.after.now)))) }
@@ -36,7 +36,7 @@ pub(crate) fn first_alternatives(pattern: &str) -> Option<Alternatives<'_>>
     }
 }
 
-/// The piece before the first comma, and what stands after that comma.
+/// The piece before the first comma and the text after that comma; nothing where there is no comma.
 pub(crate) fn first_piece(within: &str) -> Option<(&str, &str)>
     ensures pieces { MatchOption result (pieces (chars within.now) ≡ chars within.now ∷ [])
         (λ r. pieces (chars within.now) ≡ chars r.0.now ∷ pieces (chars r.1.now)) }

@@ -1,4 +1,4 @@
-//! Why a regular expression gives no pattern.
+//! Why a regular expression can't be built.
 
 ghost use Rattle.std.specs.Prelude.{◌≡◌};
 ghost use Rattle.nf_pattern.specs.declared.fault.PatternFault.TheVariants.{Mem as NoMemory};
@@ -9,10 +9,10 @@ use thiserror::Error;
 /// Why a regular expression can't be used (own).
 #[derive(Debug, Clone, Copy, PartialEq, Eq, Error)]
 pub enum PatternFault {
-    /// Its text is no regular expression, or one that is nested too deep.
+    /// Its text is no regular expression, or nests too deep.
     #[error("NoPattern")]
     NoPattern,
-    /// It would grow too large when it is built.
+    /// Built, it would be too large.
     #[error("TooLarge")]
     TooLarge,
     /// Want of memory.

@@ -1,4 +1,4 @@
-//! Globs of one path component.
+//! Matches a glob of one path component against a name, by trying each choice of its alternatives.
 
 ghost use Rattle.std.specs.Prelude.{◌≡◌, ◌++◌};
 ghost use Rattle.std.specs.Str.{chars};
@@ -18,21 +18,22 @@ use crate::plain::is_plain_match;
 /// piece, and any other `{`, `}` or comma, stands for itself. A dot that stands first in the name is taken neither by
 /// `*` nor by `?`, but by a dot of the pattern.
 ///
-/// Takes no memory. Without alternatives its time grows at most as the product of both lengths, and each group of
-/// alternatives multiplies it by its number of pieces. Its calls stand as deep as there are groups, so a pattern of more
-/// than some ten thousand groups can run out of stack.
+/// Takes no memory. Without alternatives its time grows at most as the product of both lengths; each group of
+/// alternatives multiplies it by its number of pieces. It calls itself once for each group, so a pattern of more than
+/// some ten thousand groups can run out of stack.
 pub fn glob(pattern: &str, name: &str) -> bool
     ensures { result ≡ is_match (chars pattern.now) (chars name.now) }
 {
     is_some_choice(&Parts::End, pattern, name)
 }
 
-/// Whether the chosen parts, the last one first, and then some choice of the rest of a pattern match a name.
+/// Whether the chosen parts (listed from the last to the first), followed by some choice of the rest of the pattern,
+/// match a name.
 fn is_some_choice<'a>(chosen: &'a Parts<'a>, rest: &'a str, name: &str) -> bool
     ensures { result ≡ some_match (chosen_characters chosen.now) (plain_patterns (chars rest.now)) (chars name.now) }
 {
     let Some(found) = first_alternatives(rest) else {
-        // Lent again, since the row after it is for this call alone.
+        // Lent again: the list after it lives for this call alone.
         return is_match_of_all(&*chosen, &Parts::Part(rest, &Parts::End), name);
     };
     let before = Parts::Part(found.before, chosen);
@@ -46,7 +47,7 @@ fn is_some_choice<'a>(chosen: &'a Parts<'a>, rest: &'a str, name: &str) -> bool
     is_some_choice(&Parts::Part(left, &before), found.after, name)
 }
 
-/// Whether the chosen parts, the last one first, and then some more match a name.
+/// Whether the chosen parts (listed from the last to the first), followed by the other parts, match a name.
 fn is_match_of_all<'a>(chosen: &'a Parts<'a>, others: &'a Parts<'a>, name: &str) -> bool
     ensures { result ≡ is_plain_match_of (chosen_characters chosen.now ++ characters others.now) (chars name.now) }
 {

@@ -1,4 +1,4 @@
-//! Literal paths.
+//! Tells whether a path is literal, that is, holds no glob.
 
 ghost use Rattle.std.specs.Prelude.{◌≡◌};
 ghost use Rattle.std.specs.Str.{chars};
@@ -6,8 +6,8 @@ ghost use Rattle.nf_pattern.specs.Literal.{is_literal_path};
 
 use crate::parts::first_char;
 
-/// Whether a path has no `*`, no `?` and no alternatives: no `{` with a `}` after it in its component (own; see `glob`).
-/// Components are parted by `/`. Takes no memory, and time by the length of the path.
+/// Whether a path is literal: it has no `*`, no `?`, and no `{` with a `}` after it in the same component (own; see
+/// `glob`). A `/` ends a component. Takes no memory, and time that grows with the length of the path.
 pub fn is_literal(path: &str) -> bool
     ensures { result ≡ is_literal_path (chars path.now) }
 {

@@ -1,20 +1,20 @@
-//! Texts and their characters, and parts of texts that are read as if they were one.
+//! Reads texts by characters, and parts of patterns in a row as one text.
 
 ghost use Rattle.std.specs.Prelude.{◌≡◌, ◌<◌, [], ◌∷◌, false, MatchOption};
 ghost use Rattle.std.specs.Str.{chars};
 ghost use Rattle.nf_pattern.specs.Parting.{has, IsParted};
 ghost use Rattle.nf_pattern.specs.Parts.{characters};
 
-/// Some parts of patterns in a row. They stand on the stack of the calls that chose them, so they take no memory.
+/// Parts of a pattern in a row. Each stands on the stack of the call that chose it, so they take no memory.
 #[derive(Clone, Copy)]
 pub(crate) enum Parts<'a> {
     /// No parts.
     End,
-    /// A part, and the others.
+    /// A part, and the parts after it.
     Part(&'a str, &'a Parts<'a>),
 }
 
-/// The first character of a text, and what follows it.
+/// The first character of a text, and the rest of the text.
 pub(crate) fn first_char(text: &str) -> Option<(char, &str)>
     ensures { MatchOption result (chars text.now ≡ []) (λ first. chars text.now ≡ first.0 ∷ chars first.1.now) }
 {
@@ -34,7 +34,7 @@ pub(crate) fn parted(text: &str, delimiter: char) -> Option<(&str, &str)>
     text.split_once(delimiter)
 }
 
-/// The first character of some parts in a row, and what follows it.
+/// The first character of parts in a row, and the rest of the parts.
 pub(crate) fn first_of<'a>(parts: &Parts<'a>) -> Option<(char, Parts<'a>)>
     ensures { MatchOption result (characters parts.now ≡ []) (λ first. characters parts.now ≡ first.0 ∷ characters first.1) }
 {

@@ -1,4 +1,5 @@
-//! Plain patterns: they have no alternatives.
+//! Matches plain patterns, which have no alternatives. A plain pattern is a list of symbols: `*`, `?`, and characters that
+//! stand for themselves.
 
 ghost use Rattle.std.specs.Prelude.{◌≡◌, ◌<◌, ◌≤◌, ◌+◌, [], ◌∷◌, length, IsSome, IfSome, MatchOption};
 ghost use Rattle.std.specs.Str.{chars};
@@ -15,14 +16,14 @@ pub(crate) struct Place<'a> {
     pub(crate) name: &'a str,
 }
 
-/// How far a plain pattern goes until its next `*`.
+/// What the symbols before the next `*` of a plain pattern do with the characters of a name.
 #[derive(Clone, Copy)]
 pub(crate) enum Reach<'a> {
-    /// It has no `*`, and takes all the characters.
+    /// There is no `*`, and the symbols take all the characters.
     Whole,
-    /// It doesn't take the characters that stand there.
+    /// The symbols don't take the characters.
     Nothing,
-    /// It comes to a `*`. What follows the `*` is left, and the characters from there on.
+    /// The symbols take some characters, and a `*` comes next. This is what follows the `*`, and the characters that are left.
     Star(Place<'a>),
 }
 
@@ -45,7 +46,8 @@ pub(crate) fn is_plain_match(pattern: &Parts<'_>, name: &str) -> bool
     }
 }
 
-/// What follows the dot that takes a leading dot.
+/// The rest of a plain pattern after the dot that takes a leading dot; nothing where no dot takes it. A `*` before the dot
+/// takes no character.
 fn after_dot<'a>(pattern: &Parts<'a>) -> Option<Parts<'a>>
     ensures { AfterDot (characters pattern.now) result }
 {
@@ -71,8 +73,8 @@ fn is_taken(place: &Place<'_>) -> bool
     }
 }
 
-/// Whether a plain pattern takes some end of the characters. A start of the pattern up to a `*` is tried at each place
-/// until it fits; from there on only what follows that `*` is tried.
+/// Whether a plain pattern takes some end of the characters. The symbols before the next `*` are tried at each character
+/// until they fit. From then on only what follows that `*` is tried.
 fn is_taken_later(place: &Place<'_>) -> bool
     ensures { result ≡ takes_some (characters place.now.pattern) (chars place.now.name.now) }
 {
@@ -89,7 +91,7 @@ fn is_taken_later(place: &Place<'_>) -> bool
     }
 }
 
-/// Goes through a plain pattern up to its next `*`.
+/// Takes characters by the symbols before the next `*`.
 fn next_star<'a>(place: &Place<'a>) -> Reach<'a>
     ensures { Reaches (characters place.now.pattern) (chars place.now.name.now) result }
 {
@@ -115,7 +117,7 @@ fn next_star<'a>(place: &Place<'a>) -> Reach<'a>
     }
 }
 
-/// How far an empty pattern goes.
+/// What no symbols do with the characters: they take all of them where there are none.
 fn at_end(name: &str) -> Reach<'_>
     ensures { Reaches [] (chars name.now) result }
 {
@@ -125,7 +127,7 @@ fn at_end(name: &str) -> Reach<'_>
     }
 }
 
-/// Whether a character of a pattern but `*` takes a character of a name.
+/// Whether a symbol other than `*` takes a character of a name.
 fn accepts(symbol: char, first: char) -> bool
     ensures { result ≡ takes_one symbol first }
 {

@@ -1,4 +1,4 @@
-//! Regular expressions that match whole texts.
+//! Regular expressions that match whole texts, built by the crate `regex`.
 
 ghost use Rattle.std.specs.Prelude.{◌≡◌, ℕ, List, Some, IfOk, IfErr, OnOk};
 ghost use Rattle.regex.specs.Patterns.{default_config};
@@ -13,8 +13,8 @@ use regex::{Error, Regex};
 use std::alloc::Global;
 use std::marker::Model;
 
-/// A regular expression that is built and matches whole texts (own; the Nextflow reference documentation gives one to an
-/// operator under "Operators", "filter"). Contracts see the text that it was built from.
+/// A built regular expression that matches whole texts (own; the Nextflow reference documentation gives one to an
+/// operator under "Operators", "filter"). Contracts see it as the text that it was built from.
 ///
 /// Its syntax is that of the crate `regex`, which has no look-around and no back-references.
 #[derive(Drop)]
@@ -41,9 +41,9 @@ impl WholeRe {
     ///
     /// # Errors
     ///
-    /// `NoPattern` only where the grammar of `regex` reads no regular expression in that text, or one that is nested too
-    /// deep (more than 250 levels); `TooLarge` only where it reads one within that limit, and the crate refused it for its
-    /// size; `Mem` for want of memory.
+    /// `NoPattern` only where the grammar of `regex` reads no regular expression in that text, or one that nests more than
+    /// 250 levels. `TooLarge` only where it reads one within that limit, which the crate then refused for its size. `Mem`
+    /// for want of memory.
     pub fn new(alloc: Global, re: &str) -> Result<WholeRe, PatternFault>
         ensures built { IfOk result (λ whole. whole ≡ re.now) }
         ensures pattern { OnOk result (IsPattern (wrapped re.now)) }
@@ -61,8 +61,8 @@ impl WholeRe {
         }
     }
 
-    /// Whether the regular expression `\A(?:re)\z` is found in a text (own). Its time is that of a search by `regex`: it
-    /// grows with the length of the text, times the size of the regular expression at most.
+    /// Whether the regular expression `\A(?:re)\z` is found in a text (own). Its time grows at most as the length of the text
+    /// times the size of the regular expression.
     ///
     /// # Errors
     ///

@@ -1,4 +1,4 @@
--- What parameters, patterns and statements do to names.
+-- What parameters, `def` and statements do to names, and what is read of names, keys and patterns in a tree.
 use Rattle.std.specs.Prelude.{◌≡◌, ℕ, ◌==◌, nat_lt, Bool, false, List, [], ◌∷◌, length, map, codes, if◌then◌else◌, Option, Some, None, Result, Ok, Err}
 use Rattle.std.specs.Global.{Vec}
 use Rattle.std.specs.Str.{bytes_eq}
@@ -15,7 +15,7 @@ use Rattle.nf_ast.specs.Tree.{Tree, empty, cons}
 use Rattle.nf_placed.specs.Placed.{Placed, fault}
 use Rattle.nf_placed.specs.Scope.{Env, defined}
 
--- what comes after a statement: the names and its value, or a value that was returned
+-- after a statement a body goes on, with an environment and the statement's value, or it returned a value
 pub data Flow : Type 0 where
   going : Env → Plain → Flow
   returned : Plain → Flow
@@ -28,7 +28,7 @@ abbrev pub name_in : Tree → List ℕ
 name_in (tree.name p n) = n
 name_in _ = []
 
--- the text of a key, or a pattern's or plain string's
+-- the text of a key
 abbrev pub key_text : Tree → List ℕ
 key_text (tree.name p n) = n
 key_text (tree.text p k s) = s
@@ -55,7 +55,7 @@ paired [] vs = []
 paired (n ∷ ns) [] = []
 paired (n ∷ ns) (v ∷ vs) = (n, v) ∷ paired ns vs
 
--- names that get the items of a list of that length
+-- names with the items of a list of as many
 abbrev pub split : Place → List (List ℕ) → Plain → Placed (List (List ℕ × Plain))
 split p ns (list vs) = if length ns == length (items_of vs) then Ok (paired ns (items_of vs)) else fault Arity p
 split p ns null = fault Arity p
@@ -65,7 +65,7 @@ split p ns (text t) = fault Arity p
 split p ns (file n d l) = fault Arity p
 split p ns (table ps) = fault Arity p
 
--- several parameters take the items of one list of that length
+-- several parameters take one list of as many items apart
 abbrev pub spread : Place → List (List ℕ) → List Plain → Placed (List (List ℕ × Plain))
 spread p ns [] = fault Arity p
 spread p ns (v ∷ []) = if nat_lt 1 (length ns) then split p ns v else fault Arity p

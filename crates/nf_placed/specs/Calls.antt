@@ -1,4 +1,4 @@
--- What calls give.
+-- The results of calls.
 use Rattle.std.specs.Prelude.{ℕ, ◌+◌, ◌==◌, true, false, List, [], ◌∷◌, ◌++◌, length, replicate, codes, if◌then◌else◌, Option, Some, None, option_map, Ok, Err}
 use Rattle.std.specs.Str.{bytes_eq}
 use Rattle.nf_value.specs.Plain.{Plain, null, truth, int, text, file, list, table}
@@ -19,7 +19,7 @@ use Rattle.nf_builtins.specs.Method.{method_name}
 use Rattle.nf_placed.specs.Placed.{Placed, ◌>>=◌, fault, made}
 use Rattle.nf_placed.specs.Scope.{Env, Function, function_in}
 
--- an argument: a value, or what a closure gives for its own arguments
+-- an argument: a value, or a closure as a function of its own arguments
 pub data Argument : Type 0 where
   plain : Plain → Argument
   block : (List Plain → Placed Plain) → Argument
@@ -40,18 +40,18 @@ pub data Callee : Type 0 where
 abbrev pub with_one : Plain → Option (List Plain) → Option (List Plain)
 with_one v vs = option_map (λ ws. v ∷ ws) vs
 
--- the values, where no argument is a closure
+-- the values of arguments, if none is a closure
 abbrev pub values_in : List Argument → Option (List Plain)
 values_in [] = Some []
 values_in (plain v ∷ more) = with_one v (values_in more)
 values_in (block f ∷ more) = None
 
--- what comes of values; a closure among them is this fault
+-- a call of what takes values: a closure among the arguments is this fault
 abbrev pub by_values : Place → EvalKind → Option (List Plain) → (List Plain → Placed Plain) → Placed Plain
 by_values p k None f = fault k p
 by_values p k (Some vs) f = f vs
 
--- ---- a closure where none is taken: it is of the wrong kind, unless there is no such call, or none of so many arguments
+-- ---- a closure where none is taken is of the wrong kind, but that there is no such method, or none of so many arguments, comes first
 
 abbrev pub before_kinds : EvalKind → EvalKind
 before_kinds NoMethod = NoMethod
@@ -62,7 +62,8 @@ abbrev pub closure_kind : Outcome → EvalKind
 closure_kind (Ok v) = WrongKind
 closure_kind (Err k) = before_kinds k
 
--- a row looks at its receiver and at the number of its arguments before their kinds, so it is told by as many nulls
+-- the kind of the fault of method k for n arguments with a closure among them. It looks at its receiver and at the number of arguments first, so its
+-- outcome for n nulls tells
 abbrev pub unfit : Method → Plain → ℕ → EvalKind
 unfit k recv n = closure_kind (answer_of k recv (replicate n null))
 
@@ -93,7 +94,7 @@ abbrev pub images_of : (List Plain → Placed Plain) → List Plain → Placed (
 images_of f [] = Ok []
 images_of f (v ∷ vs) = f (v ∷ []) >>= λ w. images_of f vs >>= λ ws. Ok (w ∷ ws)
 
--- a value, unless it passes a limit
+-- a value, if it is within the limits
 abbrev pub limited_at : Place → Placed Plain → Placed Plain
 limited_at p r = r >>= λ v. made p (Ok v)
 
@@ -166,7 +167,7 @@ abbrev pub by_function : Option Function → Place → List ℕ → Env → List
 by_function (Some f) p n env vs = if length vs == f.arity then f.gives vs else fault Arity p
 by_function None p n env vs = native_call p n env.titles env.answer vs
 
--- a closure among so many arguments; a function of the program takes any number
+-- the kind of the fault of a call with a closure among its arguments. A function of the program takes values in any number
 abbrev pub unfit_title : Option ℕ → EvalKind
 unfit_title None = NoMethod
 unfit_title (Some id) = WrongKind
@@ -179,7 +180,7 @@ unfit_function None n env k = unfit_title (id_from 0 n env.titles)
 abbrev pub function_call : Place → List ℕ → Env → List Argument → Placed Plain
 function_call p n env args = by_values p (unfit_function (function_in n env.functions) n env (length args)) (values_in args) (λ vs. by_function (function_in n env.functions) p n env vs)
 
--- what is called gets its arguments, which aren't evaluated where nothing is called
+-- a call with its arguments, which aren't evaluated where nothing is called
 abbrev pub called : Callee → (Env → Placed (List Argument)) → Env → Placed Plain
 called nothing args env = Ok null
 called (method v p n) args env = args env >>= λ xs. method_call p n v xs

@@ -1,4 +1,4 @@
--- What operators give on values.
+-- The values of operators, given the values of their operands.
 use Rattle.std.specs.Prelude.{not, Ok, Err}
 use Rattle.nf_value.specs.Plain.{Plain, truth}
 use Rattle.nf_value.specs.Truth.{truth_of}
@@ -13,7 +13,8 @@ use Rattle.nf_infix.specs.Product.{times, remainder, negative}
 use Rattle.nf_infix.specs.Compare.{less, at_most, greater, at_least, same, differs, is_in}
 use Rattle.nf_infix.specs.Range.{range}
 
--- an operator between two values. `||` and `&&` may not need their second operand, `==~` wants a pattern, and `|` belongs to workflows
+-- an infix operator on the values of both operands. Four have no value here: `||` and `&&` may not need their second operand, `==~` wants a pattern, and
+-- `|` belongs to workflows
 abbrev pub infix_of : InfixOperator → Plain → Plain → Outcome
 infix_of infix_operator.Or v w = Err WrongKind
 infix_of infix_operator.And v w = Err WrongKind
@@ -32,7 +33,7 @@ infix_of infix_operator.Minus v w = minus v w
 infix_of infix_operator.Times v w = times v w
 infix_of infix_operator.Remainder v w = remainder v w
 
--- an operator before a value
+-- a prefix operator
 abbrev pub prefix_of : PrefixOperator → Plain → Outcome
 prefix_of before.Not v = Ok (truth (not (truth_of v)))
 prefix_of before.Minus v = negative v

@@ -15,7 +15,7 @@ use Rattle.nf_texts.specs.Outcome.{Outcome, limited}
 abbrev pub Placed : Type 0 → Type 0
 Placed A = Result A EvalFault
 
--- what comes after the first part, unless that has a fault
+-- goes on with the value, or keeps the fault
 infixl 10 ◌>>=◌
 abbrev pub ◌>>=◌ : {A B : Type 0} → Placed A → (A → Placed B) → Placed B
 (Ok x) >>= f = f x
@@ -29,7 +29,7 @@ abbrev pub at_place : {A : Type 0} → Place → Result A EvalKind → Placed A
 at_place p (Ok x) = Ok x
 at_place p (Err k) = fault k p
 
--- a value that is made at a place, unless it passes a limit
+-- a value that is made at a place, if it is within the limits
 abbrev pub made : Place → Outcome → Placed Plain
 made p (Ok v) = at_place p (limited v)
 made p (Err k) = fault k p
@@ -40,7 +40,7 @@ Evaluates o (Ok v) = o ≡ Ok (plain_of v)
 Evaluates o (Err (refusal.Fault e)) = o ≡ Err e
 Evaluates o (Err refusal.Mem) = Unit {0}
 
--- what a call at a place makes of an answer without one
+-- the fault of a call, which gets the place
 abbrev pub refusal_of : Place → CallFault → EvalRefusal
 refusal_of p (call.Kind k) = refusal.Fault (record { kind = k; place = p })
 refusal_of p call.Mem = refusal.Mem

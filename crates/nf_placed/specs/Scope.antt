@@ -1,17 +1,18 @@
--- What names stand for.
+-- Environments: what names, functions and patterns stand for.
 use Rattle.std.specs.Prelude.{ℕ, Bool, List, [], ◌∷◌, ◌++◌, length, map, drop, ◌-◌, if◌then◌else◌, Option, Some, None}
 use Rattle.std.specs.Str.{bytes_eq}
 use Rattle.nf_value.specs.Plain.{Plain, null}
 use Rattle.nf_placed.specs.Placed.{Placed}
 
--- a function: its name, and what it gives for its arguments, where a fault of its own body has its place there
+-- a function: its name, the number of its parameters, and its result for its arguments. A fault of its body has its place in that body
 pub record Function : Type 0 where
   pub name : List ℕ
   pub arity : ℕ
   pub gives : List Plain → Placed Plain
 
--- the names of a body with their values, the latest first, and those that a closure saw around it when it was made; functions, where each calls
--- only those after it; the texts of the patterns that are built; the names and answers of a program's functions; and whether it is a process's
+-- the names of a body with their values, the latest first; the names that the closure captured when it was made; the functions of the script, each of
+-- which calls only those after it in the list; the texts of the built patterns; the names and answers of the program's functions; and whether the
+-- environment belongs to a process
 pub record Env : Type 0 where
   pub names : List (List ℕ × Plain)
   pub captured : List (List ℕ × Plain)
@@ -51,11 +52,11 @@ rebound_in n v (b ∷ bs) = if bytes_eq b.0 n then (n, v) ∷ bs else b ∷ rebo
 abbrev pub rebound : List ℕ → Plain → Env → Env
 rebound n v env = with_names (rebound_in n v env.names) env
 
--- the names of a body around another, with the values that they have after it
+-- after braces the names of the body around them are left, with the values that they have now
 abbrev pub left_by : Env → Env → Env
 left_by outer inner = with_names (drop (length inner.names - length outer.names) inner.names) outer
 
--- what a closure that is made here starts with: no names of its own, and all that are seen here
+-- a closure that is made here starts with no names of its own, and captures all names that are seen here
 abbrev pub inside : Env → Env
 inside env = record env { names = []; captured = env.names ++ env.captured }
 

@@ -1,4 +1,4 @@
-//! Calls of methods with closures.
+//! Calls of methods with a closure among the arguments: which method it is, or what is wrong with the call.
 
 ghost use Rattle.std.specs.Prelude.{◌≡◌, ◌<◌, List, length, replicate, slice_get, Some, None, IfOk};
 ghost use Rattle.nf_value.specs.Plain.{Plains, null, list};
@@ -30,14 +30,14 @@ pub enum BlockMethod {
     Collect,
 }
 
-/// Which method `a.f(x)` is that has the name at a place, where at least one of so many arguments is a closure: it goes over the items of the receiver,
-/// and the closure is the only argument. Takes time by the number of methods, and that of a method for so many nulls.
+/// The method that `a.f(x)` calls with a closure among its `count` arguments. It calls that closure, its only argument, for the items of the receiver.
+/// Takes time by the number of methods, and the time of a method for `count` nulls.
 ///
 /// # Errors
 ///
-/// What the call comes to otherwise, at its place, and of these the first: `NoMethod` where no method has the name, the receiver has none of that name,
-/// or it is read without parentheses; `Arity` where it takes another number of arguments, as one that takes a closure takes one; `WrongKind` where it
-/// takes no closure. `Mem` where there is no memory to tell.
+/// At the place of the name, the first of these: `NoMethod` where no method has the name, the receiver has no such method, or it is read without
+/// parentheses; `Arity` where the method takes another number of arguments (one that takes a closure takes nothing else); `WrongKind` where it takes no
+/// closure. `Mem` where there is no memory to find out.
 pub fn block_method(
     alloc: Global,
     place: Place,
@@ -75,7 +75,8 @@ fn block_row(
     }
 }
 
-/// What is wrong with a closure among so many arguments of a row that takes values.
+/// The kind of the fault of a call with a closure among its `count` arguments, where the method takes values. The method is called with nulls: it looks
+/// at its receiver and at the number of its arguments before it looks at their kinds.
 fn call_kind(
     alloc: Global,
     row: usize,
@@ -114,7 +115,7 @@ fn kind_before(fault: CallFault) -> Result<EvalKind, Mem>
     }
 }
 
-/// A fault that comes before the kinds of arguments, or else that a closure is of the wrong kind.
+/// The kind of a fault that comes before the kinds of arguments are looked at; else `WrongKind`, since a closure is of the wrong kind.
 fn before_kinds(kind: EvalKind) -> EvalKind
     ensures { result ≡ before_kinds_of kind }
 {
@@ -155,9 +156,8 @@ fn over_list(place: Place, method: Method, count: usize) -> Result<BlockMethod, 
     }
 }
 
-/// What `Math.f(x)` comes to that has the name at a place, where at least one of so many arguments is a closure: at its place `NoMethod` where `Math`
-/// has no such function, `Arity` where it takes another number of arguments, and else `WrongKind`; `Mem` where there is no memory to tell. Takes time by
-/// the number of methods.
+/// The fault of `Math.f(x)` with a closure among its `count` arguments. At the place of the name: `NoMethod` where `Math` has no such function, `Arity`
+/// where it takes another number of arguments, and else `WrongKind`. `Mem` where there is no memory to find out. Takes time by the number of methods.
 pub fn math_block(alloc: Global, place: Place, name: &str, count: usize) -> EvalRefusal
     ensures { IsFaultOfBlocks (math_call place name.now) count result }
 {
@@ -167,7 +167,7 @@ pub fn math_block(alloc: Global, place: Place, name: &str, count: usize) -> Eval
     }
 }
 
-/// What is wrong with a closure among so many arguments of a function of `Math`.
+/// The kind of that fault.
 fn math_kind(alloc: Global, name: &str, count: usize) -> Result<EvalKind, Mem>
     ensures { IfOk result (λ kind. (p : Place) (args : List Argument) → length args ≡ count → values_in args ≡ None → math_call p name.now args ≡ fault kind p) }
 {

@@ -1,4 +1,4 @@
-//! What calls, operators and the parts of expressions give at their places.
+//! The values of calls, operators and parts of expressions, whose faults get the place where they stand in the text.
 #![tactic(auto)]
 
 mod blocks;

@@ -1,4 +1,4 @@
-//! Calls of methods with values.
+//! Calls of methods, and of functions of `Math`, with values alone.
 
 ghost use Rattle.std.specs.Prelude.{◌≡◌, ◌<◌, List, map, slice_get, Some};
 ghost use Rattle.nf_value.specs.Plain.{Plain};
@@ -77,7 +77,7 @@ fn row_value(
     }
 }
 
-/// What is wrong with values where a closure is due.
+/// The kind of the fault of a method that takes a closure and got values alone.
 fn without_block(recv: &Value, args: &Vals) -> EvalKind
     ensures { (p : Place) (k : Method) → on_items p k (plain_of recv.now) (map plain args.now) ≡ fault result p }
 {

@@ -1,4 +1,4 @@
-//! Functions of the program.
+//! Calls of the functions that the program adds.
 
 ghost use Rattle.std.specs.Prelude.{◌≡◌, ◌<◌, ℕ, length, Some, None, MatchOption};
 ghost use Rattle.nf_value.specs.declared.fault.EvalRefusal.TheVariants.{Fault};
@@ -34,7 +34,7 @@ pub fn native_value<N: Natives>(
     }
 }
 
-/// What the function of that number answers, unless it passes a limit.
+/// The answer of the function of that number, if it is within the limits.
 fn answer<N: Natives>(alloc: Global, id: u32, args: &Vals, natives: &N) -> Result<Value, CallFault>
     requires id { id < length (N.titles natives.now) }
     requires kept { N.keeps natives.now }
@@ -44,9 +44,9 @@ fn answer<N: Natives>(alloc: Global, id: u32, args: &Vals, natives: &N) -> Resul
     judged(value)
 }
 
-/// What `f(x)` comes to that has the name at a place and is no function of the script, where at least one argument is a closure: at its place `NoMethod`
-/// where the program has no function of that name, and else `WrongKind`, since such a function takes values in any number. Takes time by the number of
-/// the program's functions, and no memory.
+/// The fault of `f(x)` with a closure among its arguments, where `f` is no function of the script. At the place of the name: `NoMethod` where the program
+/// has no such function, and else `WrongKind`, since its functions take values, in any number. Takes time by the number of the program's functions, and
+/// no memory.
 pub fn native_block<N: Natives>(place: Place, name: &str, natives: &N) -> EvalRefusal
     ensures { result ≡ Fault (record { kind = unfit_title (id_from 0 name.now (N.titles natives.now)); place = place }) }
 {

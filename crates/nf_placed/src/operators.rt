@@ -1,4 +1,4 @@
-//! Operators at their places.
+//! Infix operators, `==~` and prefix operators on values, with their faults at the operator's place.
 
 ghost use Rattle.nf_value.specs.View.{plain_of};
 ghost use Rattle.nf_texts.specs.Outcome.{Gives};
@@ -17,13 +17,13 @@ use nf_pattern::WholeRe;
 use nf_value::{EvalKind, EvalRefusal, Place, Value, truth};
 use std::alloc::Global;
 
-/// What an operator between two values gives, where both are evaluated and none of them has to be a pattern (Nextflow reference documentation, "Syntax",
+/// The value of an infix operator that takes the values of both operands (Nextflow reference documentation, "Syntax",
 /// "Binary expressions").
 ///
 /// # Errors
 ///
-/// The fault of the operator at its place: `WrongKind` of values that it isn't for, and always of `||`, `&&`, `==~` and `|`, which are no operators of two
-/// values; `Overflow`, `DivZero`, `TooLarge` and `TooDeep` as `nf_infix` has them. `Mem` where there is no memory for the value.
+/// The fault of the operator at its place: `WrongKind` for values that it doesn't take, and always for `||`, `&&`, `==~` and `|`, which aren't evaluated
+/// by this function; `Overflow`, `DivZero`, `TooLarge` and `TooDeep` as `nf_infix` has them. `Mem` where there is no memory for the value.
 pub fn infix_value(
     alloc: Global,
     place: Place,
@@ -80,11 +80,11 @@ pub fn matches_value(
     placed(place, matches(alloc, value, re))
 }
 
-/// What an operator before a value gives (Nextflow reference documentation, "Syntax", "Unary expressions").
+/// The value of a prefix operator (Nextflow reference documentation, "Syntax", "Unary expressions").
 ///
 /// # Errors
 ///
-/// The fault of the operator at its place: `WrongKind` of `-` before what is no number, `Overflow` where its negation leaves 64 signed bits (own). Takes
+/// The fault of the operator at its place: `WrongKind` for `-` before what is no number, `Overflow` where the negation leaves 64 signed bits (own). Takes
 /// no memory.
 pub fn prefix_value(
     place: Place,

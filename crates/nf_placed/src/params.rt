@@ -1,4 +1,4 @@
-//! Names that get values.
+//! Gives names their values: the parameters of a call, and the names of a `def` with several.
 
 ghost use Rattle.std.specs.Prelude.{◌≡◌, ◌∷◌, [], map, length, codes, option_map, IfOk};
 ghost use Rattle.nf_value.specs.Plain.{list as list_plain, plains_of};
@@ -10,12 +10,12 @@ use crate::places::fault_at;
 use nf_value::{EvalKind, EvalRefusal, Mem, Place, Txt, Vals, Value};
 use std::alloc::Global;
 
-/// The parameters of a closure with the arguments that they get, in the order of the parameters (Nextflow reference documentation, "Syntax",
-/// "Closure"): `it` where there is no arrow, and of several parameters each an item, where the only argument is a list of so many.
+/// The parameters of a closure with their values, in their order (Nextflow reference documentation, "Syntax", "Closure"). A closure without an arrow has
+/// the parameter `it`. Several parameters take one list of as many items apart.
 ///
 /// # Errors
 ///
-/// `Arity` at the place where the parameters are of another number (own). `Mem` where there is no memory for them.
+/// `Arity` at the place for another number of arguments than that (own). `Mem` where there is no memory for them.
 pub fn bound(
     alloc: Global,
     place: Place,
@@ -90,11 +90,11 @@ fn spread_one(
     }
 }
 
-/// Names with the items of a list that they get (Nextflow reference documentation, "Syntax", "Variable declaration").
+/// Names with the items of a list as their values (Nextflow reference documentation, "Syntax", "Variable declaration").
 ///
 /// # Errors
 ///
-/// `Arity` at the place where the value is no list of so many items (own). `Mem` where there is no memory for them.
+/// `Arity` at the place where the value is no list of as many items as there are names (own). `Mem` where there is no memory for them.
 pub fn split(
     alloc: Global,
     place: Place,

@@ -1,4 +1,4 @@
-//! Tables whose rows are found by their names.
+//! A table whose rows are found by their names.
 #![tactic(auto)]
 
 mod table;

@@ -1,11 +1,11 @@
-//! Tables whose rows are found by their names.
+//! The table, and what its rows have to have.
 
 ghost use Rattle.std.specs.Prelude.{◌≡◌, true, length, map, slice_get, Some, MatchOption};
 ghost use Rattle.nf_table.specs.Table.{rises, HasNone};
 
 use std::marker::Model;
 
-/// What has a name.
+/// A row with a name.
 pub trait Named {
     ghost label: { Self → List ℕ };
 
@@ -43,7 +43,7 @@ impl<R: Named, const N: usize> Table<R, N> {
         Table { entries: rows }
     }
 
-    /// The place, from 0, of the row of that name, or none where no row has it. Takes time by the number of rows.
+    /// The place, counted from 0, of the row of that name; `None` where no row has it. Its time grows with the number of rows.
     pub fn find(&self, name: &str) -> Option<usize>
         ensures { MatchOption result (HasNone (map R.label self.now) name.now) (λ i. slice_get (map R.label self.now) i ≡ Some name.now) }
     {

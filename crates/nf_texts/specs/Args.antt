@@ -1,4 +1,4 @@
--- The receiver and the arguments of a call.
+-- What the receiver and the arguments of a call have to be, and the fault of others.
 use Rattle.std.specs.Prelude.{ℕ, ℤ, List, [], ◌∷◌, Result, Ok, Err}
 use Rattle.nf_value.specs.Plain.{Plain, null, truth, int, text, file, list, table, Plains, no_items, item, PlainPairs}
 use Rattle.nf_value.specs.declared.fault.EvalKind.{EvalKind}
@@ -56,7 +56,7 @@ table_or k (text t) = Err k
 table_or k (file n d l) = Err k
 table_or k (list vs) = Err k
 
--- a row is read on one kind of value: its receiver
+-- a method of one kind of value takes no other receiver
 abbrev pub on_text : Plain → Result (List ℕ) EvalKind
 on_text = text_or NoMethod
 

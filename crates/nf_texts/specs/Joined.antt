@@ -1,4 +1,4 @@
--- Texts of values, one after another.
+-- `join` and `toString`.
 use Rattle.std.specs.Prelude.{ℕ, List, Ok, Err}
 use Rattle.std.specs.List.{join_by}
 use Rattle.nf_value.specs.Plain.{Plain, null, text}
@@ -7,7 +7,7 @@ use Rattle.nf_value.specs.declared.fault.EvalKind.TheVariants.{NoMethod}
 use Rattle.nf_texts.specs.Outcome.{Outcome, ◌>>=◌}
 use Rattle.nf_texts.specs.Args.{on_list, no_args, text_arg}
 
--- the texts of these values with a text between each two
+-- the texts of these values, with the first text between each two
 abbrev pub joined : List ℕ → List Plain → List ℕ
 joined between vs = join_by value_text between vs
 

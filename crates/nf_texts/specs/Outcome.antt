@@ -13,13 +13,13 @@ use Rattle.nf_texts.specs.declared.fault.CallFault.TheVariants as fault
 abbrev pub Outcome : Type 0
 Outcome = Result Plain EvalKind
 
--- what comes after the first part, unless that has a fault
+-- goes on with the value, or keeps the fault
 infixl 10 ◌>>=◌
 abbrev pub ◌>>=◌ : {A B : Type 0} → Result A EvalKind → (A → Result B EvalKind) → Result B EvalKind
 (Ok x) >>= f = f x
 (Err k) >>= f = Err k
 
--- the value, unless it weighs more than 16,777,216 or is deeper than 64
+-- the value if it is within the limits: it weighs at most 16,777,216 (the length of its code), and is at most 64 deep
 abbrev pub limited : Plain → Outcome
 limited v = if nat_lt (2 ^ 24) (length (code v)) then Err TooLarge else if nat_lt 64 (depth_of v) then Err TooDeep else Ok v
 
@@ -29,7 +29,7 @@ Answers o (Ok v) = o ≡ Ok (plain_of v)
 Answers o (Err (fault.Kind k)) = o ≡ Err k
 Answers o (Err fault.Mem) = Unit {0}
 
--- the same of a value before it is limited
+-- the call gives this value if it is within the limits, and else has that fault
 abbrev pub Gives : Outcome → Result Value CallFault → Type 0
 Gives o r = Answers (o >>= limited) r
 

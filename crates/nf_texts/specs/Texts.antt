@@ -1,4 +1,4 @@
--- What texts can do. They are counted in characters.
+-- What the methods of texts give. Places and counts are in characters.
 use Rattle.std.specs.Prelude.{ℕ, zero, suc, ℤ, pos, negsuc, nat_eq, nat_le, ◌+◌, ◌-◌, ◌==◌, Bool, List, [], ◌∷◌, ◌++◌, length, take, drop, reverse, Result, Ok, Err, Option, Some, None, is_some, if◌then◌else◌}
 use Rattle.std.specs.List.{starts_with, ends_with, list_any, slice_split, flat_map}
 use Rattle.std.specs.Str.{chars, encode_utf8_all, str_to_ascii_lowercase, str_to_ascii_uppercase}
@@ -61,7 +61,7 @@ to_lower_case recv args = on_text recv >>= λ t. no_args args >>= λ _. Ok (text
 abbrev pub to_upper_case : Plain → List Plain → Outcome
 to_upper_case recv args = on_text recv >>= λ t. no_args args >>= λ _. Ok (text (str_to_ascii_uppercase t))
 
--- the characters from one place, and before another
+-- the characters from the place i on, and those of them before the place j
 abbrev pub part_from : List ℕ → ℕ → Outcome
 part_from cs i = if nat_le i (length cs) then Ok (text_of (drop i cs)) else Err WrongKind
 
@@ -78,7 +78,7 @@ substring_of cs (i ∷ j ∷ k ∷ more) = Err Arity
 abbrev pub substring : Plain → List Plain → Outcome
 substring recv args = on_text recv >>= λ t. substring_of (chars t) args
 
--- the place, counted from k, of the first characters that begin with the text n
+-- the first place at which the text n stands in these characters, of which the first has the place k
 abbrev pub place_from : ℕ → List ℕ → List ℕ → Option ℕ
 place_from k n [] = if starts_with nat_eq [] n then Some k else None
 place_from k n (c ∷ cs) = if starts_with nat_eq (encode_utf8_all (c ∷ cs)) n then Some k else place_from (k + 1) n cs
@@ -98,7 +98,7 @@ text_contains t args = text_arg args >>= λ n. Ok (truth (is_some (place_of n t)
 abbrev pub text_index_of : List ℕ → List Plain → Outcome
 text_index_of t args = text_arg args >>= λ n. Ok (int (place_number (place_of n t)))
 
--- each a replaced by b, from left to right, after the first bytes are passed over
+-- each a replaced by b, from left to right. The first k bytes are passed over: they belong to an a that was replaced
 abbrev pub replaced_after : List ℕ → List ℕ → ℕ → List ℕ → List ℕ
 replaced_after a b k [] = []
 replaced_after a b (suc k) (c ∷ cs) = replaced_after a b k cs
@@ -119,7 +119,7 @@ abbrev pub without_blanks : List ℕ → List ℕ
 without_blanks [] = []
 without_blanks (c ∷ cs) = if nat_le c 32 then without_blanks cs else c ∷ cs
 
--- the same at both ends
+-- and at the end
 abbrev pub trimmed : List ℕ → List ℕ
 trimmed cs = reverse (without_blanks (reverse (without_blanks cs)))
 
@@ -127,7 +127,7 @@ trimmed cs = reverse (without_blanks (reverse (without_blanks cs)))
 abbrev pub trim : Plain → List Plain → Outcome
 trim recv args = on_text recv >>= λ t. no_args args >>= λ _. Ok (text_of (trimmed (chars t)))
 
--- whether it is one of these characters
+-- whether c is one of these characters
 abbrev pub is_one_of : List ℕ → ℕ → Bool
 is_one_of cs c = list_any (λ d. d == c) cs
 
@@ -135,11 +135,11 @@ is_one_of cs c = list_any (λ d. d == c) cs
 abbrev pub blanks : List ℕ
 blanks = 32 ∷ 9 ∷ 10 ∷ []
 
--- a part as a text, but no empty one
+-- a part as a text; an empty part gives none
 abbrev pub token_of : List ℕ → List Plain
 token_of part = if length part == 0 then [] else text_of part ∷ []
 
--- the parts between separators as texts, without empty ones
+-- the parts between separators, without empty ones
 abbrev pub token_texts : (ℕ → Bool) → List ℕ → List Plain
 token_texts p cs = flat_map token_of (slice_split p cs)
 

@@ -1,4 +1,7 @@
-//! The receiver and the arguments of a call.
+//! Checks the receiver and the arguments of a call, and takes out what they hold.
+//!
+//! A receiver of another kind is the fault `NoMethod`, another number of arguments `Arity`, and an argument of another kind
+//! `WrongKind`.
 
 ghost use Rattle.std.specs.Prelude.{◌≡◌, ◌∷◌, [], Ok, Err, MatchResult};
 ghost use Rattle.nf_value.specs.View.{plain_of};
@@ -9,7 +12,7 @@ ghost use Rattle.nf_value.specs.declared.fault.EvalKind.TheVariants.{WrongKind, 
 
 use nf_value::{EvalKind, FileRef, Pairs, Txt, Vals, Value};
 
-/// The receiver, which has to be a text.
+/// The text that the receiver has to be.
 pub fn on_text(recv: &Value) -> Result<&Txt, EvalKind>
     ensures { MatchResult result (λ t. on_text_of (plain_of recv.now) ≡ Ok t.now) (λ k. on_text_of (plain_of recv.now) ≡ Err k) }
 {
@@ -19,7 +22,7 @@ pub fn on_text(recv: &Value) -> Result<&Txt, EvalKind>
     }
 }
 
-/// The receiver, which has to be a list.
+/// The list that the receiver has to be.
 pub fn on_list(recv: &Value) -> Result<&Vals, EvalKind>
     ensures { MatchResult result (λ l. on_list_of (plain_of recv.now) ≡ Ok l.now) (λ k. on_list_of (plain_of recv.now) ≡ Err k) }
 {
@@ -29,7 +32,7 @@ pub fn on_list(recv: &Value) -> Result<&Vals, EvalKind>
     }
 }
 
-/// The receiver, which has to be a file.
+/// The file that the receiver has to be.
 pub fn on_file(recv: &Value) -> Result<&FileRef, EvalKind>
     ensures { MatchResult result (λ f. on_file_of (plain_of recv.now) ≡ Ok f.now.name) (λ k. on_file_of (plain_of recv.now) ≡ Err k) }
 {
@@ -39,7 +42,7 @@ pub fn on_file(recv: &Value) -> Result<&FileRef, EvalKind>
     }
 }
 
-/// The receiver, which has to be a map.
+/// The map that the receiver has to be.
 pub fn on_map(recv: &Value) -> Result<&Pairs, EvalKind>
     ensures { MatchResult result (λ p. on_table_of (plain_of recv.now) ≡ Ok (plain_pairs_of p.now)) (λ k. on_table_of (plain_of recv.now) ≡ Err k) }
 {
@@ -49,7 +52,7 @@ pub fn on_map(recv: &Value) -> Result<&Pairs, EvalKind>
     }
 }
 
-/// That there is no argument.
+/// Checks that there is no argument.
 pub fn no_args(args: &Vals) -> Result<(), EvalKind>
     ensures { result ≡ no_args_of args.now }
 {
@@ -69,7 +72,7 @@ pub fn one_arg(args: &Vals) -> Result<&Value, EvalKind>
     }
 }
 
-/// An argument that has to be a text.
+/// The text that an argument has to be.
 pub fn as_text(value: &Value) -> Result<&Txt, EvalKind>
     ensures { MatchResult result (λ t. text_or WrongKind (plain_of value.now) ≡ Ok t.now) (λ k. text_or WrongKind (plain_of value.now) ≡ Err k) }
 {
@@ -79,7 +82,7 @@ pub fn as_text(value: &Value) -> Result<&Txt, EvalKind>
     }
 }
 
-/// An argument that has to be a number.
+/// The number that an argument has to be.
 pub fn as_int(value: &Value) -> Result<i64, EvalKind>
     ensures { result ≡ int_or WrongKind (plain_of value.now) }
 {
@@ -89,21 +92,21 @@ pub fn as_int(value: &Value) -> Result<i64, EvalKind>
     }
 }
 
-/// The only argument, a text.
+/// The only argument, which has to be a text.
 pub fn text_arg(args: &Vals) -> Result<&Txt, EvalKind>
     ensures { MatchResult result (λ t. text_arg_of args.now ≡ Ok t.now) (λ k. text_arg_of args.now ≡ Err k) }
 {
     as_text(one_arg(args)?)
 }
 
-/// The only argument, a number.
+/// The only argument, which has to be a number.
 pub fn int_arg(args: &Vals) -> Result<i64, EvalKind>
     ensures { result ≡ int_arg_of args.now }
 {
     as_int(one_arg(args)?)
 }
 
-/// Both arguments, numbers.
+/// The two arguments, which have to be numbers.
 pub fn int_args(args: &Vals) -> Result<(i64, i64), EvalKind>
     ensures { result ≡ int_args_of args.now }
 {
@@ -121,7 +124,7 @@ fn int_pair(first: &Value, second: &Value) -> Result<(i64, i64), EvalKind>
     Ok((first, second))
 }
 
-/// The receiver, which has to be a number.
+/// The number that the receiver has to be.
 pub fn on_int(recv: &Value) -> Result<i64, EvalKind>
     ensures { result ≡ int_or NoMethod (plain_of recv.now) }
 {
@@ -131,14 +134,14 @@ pub fn on_int(recv: &Value) -> Result<i64, EvalKind>
     }
 }
 
-/// The only argument, a count.
+/// The only argument, which has to be a number that isn't negative.
 pub fn count_arg(args: &Vals) -> Result<u64, EvalKind>
     ensures { result ≡ count_arg_of args.now }
 {
     count_of(int_arg(args)?)
 }
 
-/// A number that isn't negative.
+/// The count that a number is; a negative one is the fault `WrongKind`.
 pub fn count_of(number: i64) -> Result<u64, EvalKind>
     ensures { result ≡ count_of_int number }
 {
@@ -148,14 +151,14 @@ pub fn count_of(number: i64) -> Result<u64, EvalKind>
     }
 }
 
-/// An argument that has to be a number that isn't negative.
+/// The count that an argument has to be: a number that isn't negative.
 pub fn as_count(value: &Value) -> Result<u64, EvalKind>
     ensures { result ≡ count_or_fault (plain_of value.now) }
 {
     count_of(as_int(value)?)
 }
 
-/// Both arguments, texts.
+/// The two arguments, which have to be texts.
 pub fn text_args(args: &Vals) -> Result<(&Txt, &Txt), EvalKind>
     ensures { MatchResult result (λ r. text_args_of args.now ≡ Ok (r.0.now, r.1.now)) (λ k. text_args_of args.now ≡ Err k) }
 {

@@ -1,4 +1,4 @@
-//! Texts and their characters.
+//! Counts, takes and finds characters (Unicode scalar values) of texts.
 
 ghost use Rattle.std.specs.Prelude.{◌≡◌, IfSome, ◌<◌, ◌^◌, IfOk, string_bytes, length, take, drop, reverse, nat_eq};
 ghost use Rattle.std.specs.List.{starts_with, ends_with};
@@ -7,7 +7,7 @@ ghost use Rattle.nf_texts.specs.Texts.{place_of as place_of_text};
 
 use std::alloc::{AllocError, Global};
 
-/// How many characters there are.
+/// The number of characters.
 pub fn char_count(text: &str) -> usize
     ensures count { result ≡ length (chars text.now) }
     ensures small { result < 2 ^ 63 }
@@ -15,14 +15,14 @@ pub fn char_count(text: &str) -> usize
     text.chars().count()
 }
 
-/// The first characters.
+/// The first `count` characters.
 pub fn first_chars(alloc: Global, text: &str, count: usize) -> Result<String, AllocError>
     ensures { IfOk result (λ s. string_bytes s ≡ encode_utf8_all (take count (chars text.now))) }
 {
     text.chars().take(count).collect(alloc)
 }
 
-/// What follows the first characters.
+/// All characters but the first `count`.
 pub fn later_chars(alloc: Global, text: &str, count: usize) -> Result<String, AllocError>
     ensures { IfOk result (λ s. string_bytes s ≡ encode_utf8_all (drop count (chars text.now))) }
 {
@@ -36,7 +36,7 @@ pub fn reversed(alloc: Global, text: &str) -> Result<String, AllocError>
     text.chars().rev().collect(alloc)
 }
 
-/// The characters from one place on, a count of them at most.
+/// At most `count` characters, from the place `from` on.
 pub fn inner_chars(
     alloc: Global,
     text: &str,
@@ -62,7 +62,7 @@ pub fn is_end(text: &str, end: &str) -> bool
     text.ends_with(end)
 }
 
-/// The place, in characters, of the first part that is this text.
+/// The place, counted in characters from 0, at which `part` first stands in the text.
 pub fn place_of(text: &str, part: &str) -> Option<usize>
     ensures place { result ≡ place_of_text part.now text.now }
     ensures small { IfSome result (λ k. k < 2 ^ 63) }

@@ -1,4 +1,4 @@
-//! Why a call has no value.
+//! The error of a call.
 
 ghost use Rattle.std.specs.Prelude.{◌≡◌};
 ghost use Rattle.nf_texts.specs.declared.fault.CallFault.TheVariants.{Kind as OfKind, Mem as NoMemory};
@@ -10,7 +10,7 @@ use thiserror::Error;
 /// Why a call has no value (own).
 #[derive(Debug, Clone, Copy, PartialEq, Eq, Error)]
 pub enum CallFault {
-    /// The call has this fault.
+    /// The fault of the call itself.
     #[error("{0}")]
     Kind(EvalKind),
     /// There was no memory for the value.

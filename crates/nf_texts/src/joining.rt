@@ -1,4 +1,4 @@
-//! Values as texts, and lists as one text.
+//! `toString()` and `join(t)`.
 
 ghost use Rattle.std.specs.Prelude.{◌≡◌, ◌++◌, ◌≤◌, ◌^◌, ◌+◌, min, length, OnOk, IfOk, string_bytes, map};
 ghost use Rattle.nf_value.specs.View.{plain_of};
@@ -13,7 +13,7 @@ use crate::limits::{capped_len, text_fault};
 use nf_value::{EvalKind, Mem, Txt, Vals, Value, text_of};
 use std::alloc::Global;
 
-/// `toString()`: the text of the value.
+/// `toString()`: the text of the value. Null has no such method.
 pub fn to_text(alloc: Global, recv: &Value, args: &Vals) -> Result<Value, CallFault>
     ensures { Gives (to_text_of (plain_of recv.now) args.now) result }
 {
@@ -27,7 +27,7 @@ pub fn to_text(alloc: Global, recv: &Value, args: &Vals) -> Result<Value, CallFa
     }
 }
 
-/// `join(t)`: the texts of the items with a text between each two.
+/// `join(t)`: the texts of the items, with `t` between each two.
 pub fn join(alloc: Global, recv: &Value, args: &Vals) -> Result<Value, CallFault>
     ensures { Gives (list_join (plain_of recv.now) args.now) result }
 {

@@ -1,4 +1,4 @@
-//! How long the texts of values are, told before they are made.
+//! The lengths of values' texts, which are counted before the texts are made, so that no text beyond the limits takes memory.
 
 ghost use Rattle.std.specs.Prelude.{◌≡◌, ◌≤◌, ◌^◌, ◌+◌, min, length};
 ghost use Rattle.std.specs.Fmt.{signed_decimal};
@@ -10,7 +10,7 @@ use crate::limits::{LONGEST, capped_len};
 use itoa::Buffer;
 use nf_value::{Pairs, Vals, Value};
 
-/// How many bytes the text of a value has, or where lengths stop.
+/// The number of bytes of the text of a value, `LONGEST` at most.
 #[cycle(text_len)]
 pub fn text_len(value: &Value) -> u64
     ensures { result ≡ min (length (value_text (plain_of value.now))) (2 ^ 32) }
@@ -34,7 +34,7 @@ fn number_len(number: i64) -> u64
     buffer.format(number).len() as u64
 }
 
-/// The sum of two lengths that are capped.
+/// The sum of two such lengths, `LONGEST` at most.
 pub fn sum_len(len: u64, more: u64) -> u64
     requires len { len ≤ 2 ^ 32 }
     requires more { more ≤ 2 ^ 32 }

@@ -1,4 +1,5 @@
-//! What methods on texts give, and what all methods share: faults, arguments, limits and the lengths of values' texts.
+//! The methods of texts, and what all methods share: faults, the checks of receivers and arguments, the limits of values,
+//! and the lengths of values' texts.
 #![tactic(auto)]
 
 pub mod args;

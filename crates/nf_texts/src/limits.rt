@@ -17,7 +17,7 @@ pub const MOST_WEIGHT: u64 = 16_777_216;
 /// How deep a value may be.
 const MOST_DEPTH: u64 = 64;
 
-/// This fault of a value, if it passes a limit.
+/// `TooLarge` for a value that weighs too much, and else `TooDeep` for one that is too deep.
 fn fault_of(value: &Value) -> Result<(), EvalKind>
     ensures { MatchResult result (λ _. limited (plain_of value.now) ≡ Ok (plain_of value.now)) (λ k. limited (plain_of value.now) ≡ Err k) }
 {
@@ -30,7 +30,7 @@ fn fault_of(value: &Value) -> Result<(), EvalKind>
     Ok(())
 }
 
-/// The value, unless it passes a limit.
+/// The value, if it is within the limits.
 pub fn judged(value: Value) -> Result<Value, CallFault>
     ensures { Gives (Ok (plain_of value)) result }
 {
@@ -38,7 +38,7 @@ pub fn judged(value: Value) -> Result<Value, CallFault>
     Ok(value)
 }
 
-/// A copy of the value, unless it passes a limit, which is told before it is copied.
+/// A copy of the value, if it is within the limits, which is checked before it is copied.
 pub fn copied(value: &Value) -> Result<Value, CallFault>
     ensures { Gives (Ok (plain_of value.now)) result }
 {
@@ -46,7 +46,7 @@ pub fn copied(value: &Value) -> Result<Value, CallFault>
     Ok(value.copy()?)
 }
 
-/// A count as a number. No count in memory is larger than a number can be.
+/// A count as a number of a script. No count of what is in memory is larger than such a number can be.
 pub fn count_value(count: usize) -> Result<Value, CallFault>
     requires { count < 2 ^ 63 }
     ensures { Gives (Ok (int (pos count))) result }
@@ -54,7 +54,7 @@ pub fn count_value(count: usize) -> Result<Value, CallFault>
     judged(Value::Int(count as i64))
 }
 
-/// A text as a value, unless it passes a limit, which is told before it is copied.
+/// A text as a value, if it is within the limits, which is checked before it is copied.
 pub fn text_value(alloc: Global, text: &str) -> Result<Value, CallFault>
     ensures { Gives (Ok (text_plain text.now)) result }
 {
@@ -62,10 +62,10 @@ pub fn text_value(alloc: Global, text: &str) -> Result<Value, CallFault>
     Ok(Value::Text(Txt::of(String::from_str(alloc, text)?)))
 }
 
-/// Where lengths and weights that are counted stop: far above what a value within the limits can have.
+/// Lengths and weights are counted up to this number, which is far above the limits.
 pub const LONGEST: u64 = 1 << 32;
 
-/// The sum of two lengths, or where they stop.
+/// The sum of two lengths, `LONGEST` at most.
 pub fn capped_len(len: u64, more: usize) -> u64
     requires { len ≤ 2 ^ 32 }
     ensures { result ≡ min (len + more) (2 ^ 32) }
@@ -74,7 +74,7 @@ pub fn capped_len(len: u64, more: usize) -> u64
     len + (more as u64).min(room)
 }
 
-/// The fault of a text of this many bytes, if it passes a limit.
+/// The fault of a text of this many bytes, if it would weigh too much.
 pub fn text_fault(len: u64) -> Result<(), EvalKind>
     requires { len ≤ 2 ^ 32 }
     ensures { (t : List ℕ) → min (length t) (2 ^ 32) ≡ len → MatchResult result (λ _. limited (text_plain t) ≡ Ok (text_plain t)) (λ k. limited (text_plain t) ≡ Err k) }
@@ -85,7 +85,7 @@ pub fn text_fault(len: u64) -> Result<(), EvalKind>
     Ok(())
 }
 
-/// How many bytes the head of a text's code has.
+/// The number of bytes of the head of a code: a letter, a count in decimal digits, and a colon.
 fn head_len(len: u64) -> u64
     ensures len { result ≡ length (head_code (codes "s") len) }
     ensures small { result ≤ 1024 }
@@ -94,7 +94,7 @@ fn head_len(len: u64) -> u64
     buffer.format(len).len() as u64 + 2
 }
 
-/// What a text weighs, or where lengths stop.
+/// The weight of a text, `LONGEST` at most.
 pub fn text_weight(text: &str) -> u64
     ensures { result ≡ min (length (code (text_plain text.now))) (2 ^ 32) }
 {
@@ -102,7 +102,7 @@ pub fn text_weight(text: &str) -> u64
     (head_len(len) + len).min(LONGEST)
 }
 
-/// The fault of a list of this many texts that weigh so much, if it passes a limit.
+/// The fault of a list of this many texts that weigh so much together, if the list would weigh too much.
 pub fn list_fault(count: u64, weight: u64) -> Result<(), EvalKind>
     requires count { count ≤ 2 ^ 32 }
     requires weight { weight ≤ 2 ^ 32 }

@@ -1,4 +1,4 @@
-//! Texts in which parts are replaced.
+//! Replaces each `from` in a text by `to`.
 
 ghost use Rattle.std.specs.Prelude.{◌≡◌, ◌<◌, ◌^◌, IfOk, string_bytes, length, min};
 ghost use Rattle.nf_texts.specs.Texts.{replaced as replaced_of};
@@ -6,7 +6,7 @@ ghost use Rattle.nf_texts.specs.Texts.{replaced as replaced_of};
 use crate::limits::capped_len;
 use std::alloc::{AllocError, Global};
 
-/// How many bytes the text has once each part is replaced, or where lengths stop.
+/// The number of bytes of the text with each `from` replaced, `LONGEST` at most.
 pub fn replaced_len(text: &str, from: &str, to: &str) -> u64
     requires { 0 < length from.now }
     ensures { result ≡ min (length (replaced_of from.now to.now text.now)) (2 ^ 32) }
@@ -21,7 +21,7 @@ pub fn replaced_len(text: &str, from: &str, to: &str) -> u64
     capped_len(len, left.len())
 }
 
-/// The text with each part replaced, from left to right.
+/// The text with each `from` replaced by `to`, from left to right.
 pub fn replaced(alloc: Global, text: &str, from: &str, to: &str) -> Result<String, AllocError>
     requires { 0 < length from.now }
     ensures { IfOk result (λ s. string_bytes s ≡ replaced_of from.now to.now text.now) }

@@ -1,4 +1,4 @@
-//! Rows on texts, which are counted in characters.
+//! The methods of texts. Places and counts are in characters.
 
 ghost use Rattle.std.specs.Str.{chars};
 ghost use Rattle.nf_value.specs.View.{plain_of};
@@ -25,7 +25,7 @@ pub fn take(alloc: Global, text: &Txt, args: &Vals) -> Result<Value, CallFault>
     judged(Value::Text(Txt::of(front)))
 }
 
-/// `drop(n)`: what follows the first n characters.
+/// `drop(n)`: all characters but the first n.
 pub fn drop(alloc: Global, text: &Txt, args: &Vals) -> Result<Value, CallFault>
     ensures { Gives (text_drop text.now args.now) result }
 {
@@ -34,7 +34,7 @@ pub fn drop(alloc: Global, text: &Txt, args: &Vals) -> Result<Value, CallFault>
     judged(Value::Text(Txt::of(rest)))
 }
 
-/// `startsWith(t)`: whether the text begins with another.
+/// `startsWith(t)`: whether the text begins with `t`.
 pub fn starts_with(recv: &Value, args: &Vals) -> Result<Value, CallFault>
     ensures { Gives (text_starts_with (plain_of recv.now) args.now) result }
 {
@@ -43,7 +43,7 @@ pub fn starts_with(recv: &Value, args: &Vals) -> Result<Value, CallFault>
     judged(Value::Truth(is_front(text.as_str(), front.as_str())))
 }
 
-/// `endsWith(t)`: whether the text ends with another.
+/// `endsWith(t)`: whether the text ends with `t`.
 pub fn ends_with(recv: &Value, args: &Vals) -> Result<Value, CallFault>
     ensures { Gives (text_ends_with (plain_of recv.now) args.now) result }
 {
@@ -107,7 +107,7 @@ pub fn to_upper_case(alloc: Global, recv: &Value, args: &Vals) -> Result<Value, 
     judged(Value::Text(Txt::of(upper)))
 }
 
-/// `contains(t)`: whether the text has another in it.
+/// `contains(t)`: whether `t` stands in the text.
 pub fn contains(text: &Txt, args: &Vals) -> Result<Value, CallFault>
     ensures { Gives (text_contains text.now args.now) result }
 {
@@ -115,7 +115,7 @@ pub fn contains(text: &Txt, args: &Vals) -> Result<Value, CallFault>
     judged(Value::Truth(place_of(text.as_str(), part.as_str()).is_some()))
 }
 
-/// `indexOf(t)`: the place of the first part that is another text, or -1.
+/// `indexOf(t)`: the place at which `t` first stands in the text, or -1.
 pub fn index_of(text: &Txt, args: &Vals) -> Result<Value, CallFault>
     ensures { Gives (text_index_of text.now args.now) result }
 {
@@ -126,7 +126,8 @@ pub fn index_of(text: &Txt, args: &Vals) -> Result<Value, CallFault>
     }
 }
 
-/// `substring(i)` and `substring(i, j)`: the characters from one place on, and those from one place and before another.
+/// `substring(i)`: the characters from the place `i` on. `substring(i, j)`: those of them before the place `j`. A place beyond the text, and `i` above
+/// `j`, are the fault `WrongKind`.
 pub fn substring(alloc: Global, recv: &Value, args: &Vals) -> Result<Value, CallFault>
     ensures { Gives (substring_of (plain_of recv.now) args.now) result }
 {
@@ -168,7 +169,7 @@ fn part_between(alloc: Global, text: &Txt, from: u64, to: u64) -> Result<Value, 
     judged(Value::Text(Txt::of(part)))
 }
 
-/// `replace(a, b)`: the text with each a replaced by b, from left to right.
+/// `replace(a, b)`: the text with each `a` replaced by `b`, from left to right. An empty `a` is the fault `WrongKind`.
 pub fn replace(alloc: Global, recv: &Value, args: &Vals) -> Result<Value, CallFault>
     ensures { Gives (replace_of (plain_of recv.now) args.now) result }
 {

@@ -1,4 +1,4 @@
-//! Texts cut at separators.
+//! `tokenize()`: cuts a text at separators.
 
 ghost use Rattle.std.specs.Prelude.{◌≡◌, ◌<◌, ◌^◌, [], ◌∷◌, ◌++◌, MatchOption, IfSome, OnOk, IfOk, length, min, map, Ok, Err, MatchResult};
 ghost use Rattle.std.specs.List.{slice_split};
@@ -16,7 +16,7 @@ use crate::limits::{list_fault, text_weight};
 use nf_value::{EvalKind, Mem, Txt, Vals, Value};
 use std::alloc::Global;
 
-/// `tokenize()` and `tokenize(t)`: the parts between blanks, tabs and line ends, or between any characters of a text, without empty parts.
+/// `tokenize()`: the parts between blanks, tabs and line ends. `tokenize(t)`: the parts between characters of `t`. Empty parts are left out.
 pub fn tokenize(alloc: Global, recv: &Value, args: &Vals) -> Result<Value, CallFault>
     ensures { Gives (tokenize_of (plain_of recv.now) args.now) result }
 {
@@ -44,7 +44,7 @@ fn tokens(alloc: Global, text: &str, separators: &str) -> Result<Value, CallFaul
     Ok(Value::List(Vals::of(token_values(alloc, text, separators)?)))
 }
 
-/// The fault of the list of all parts, if it passes a limit.
+/// The fault of the list of all parts, if it would weigh too much.
 fn tokens_fault(text: &str, separators: &str) -> Result<(), EvalKind>
     ensures { let v = tokens_by separators.now text.now in MatchResult result (λ _. limited v ≡ Ok v) (λ k. limited v ≡ Err k) }
 {
@@ -53,7 +53,7 @@ fn tokens_fault(text: &str, separators: &str) -> Result<(), EvalKind>
     list_fault(count, weight)
 }
 
-/// How many parts there are, or where lengths stop.
+/// The number of parts, `LONGEST` at most.
 fn token_count(text: &str, separators: &str) -> u64
     ensures { result ≡ min (length (token_texts (is_one_of (chars separators.now)) (chars text.now))) (2 ^ 32) }
 {
@@ -66,7 +66,7 @@ fn token_count(text: &str, separators: &str) -> u64
     sum_len(count, part_count(left))
 }
 
-/// What the parts weigh, or where lengths stop.
+/// The weight of all parts together, `LONGEST` at most.
 fn tokens_weight(text: &str, separators: &str) -> u64
     ensures { result ≡ min (length (all_code (plains_of (token_texts (is_one_of (chars separators.now)) (chars text.now))))) (2 ^ 32) }
 {
@@ -79,7 +79,7 @@ fn tokens_weight(text: &str, separators: &str) -> u64
     sum_len(weight, part_weight(left))
 }
 
-/// The parts as texts.
+/// The parts as values.
 fn token_values(alloc: Global, text: &str, separators: &str) -> Result<Vec<Value>, Mem>
     ensures { IfOk result (λ v. map plain_of v.items ≡ token_texts (is_one_of (chars separators.now)) (chars text.now)) }
 {
@@ -118,14 +118,14 @@ fn push_part(alloc: Global, parts: &mut Vec<Value>, part: &str) -> Result<(), Me
     Ok(())
 }
 
-/// Whether it is one of the separators.
+/// Whether a character is one of the separators.
 fn is_separator(separators: &str, character: char) -> bool
     ensures { result ≡ is_one_of (chars separators.now) character }
 {
     separators.chars().any(|separator| separator == character)
 }
 
-/// What stands before the first separator, and what stands after it.
+/// The text before the first separator, and the text after it; nothing where there is no separator.
 fn cut<'a>(text: &'a str, separators: &str) -> Option<(&'a str, &'a str)>
     ensures parts { MatchOption result (slice_split (is_one_of (chars separators.now)) (chars text.now) ≡ chars text.now ∷ [])
         (λ r. slice_split (is_one_of (chars separators.now)) (chars text.now) ≡ chars r.0.now ∷ slice_split (is_one_of (chars separators.now)) (chars r.1.now)) }

@@ -1,10 +1,10 @@
-//! Texts without blanks at their ends.
+//! Takes blanks off both ends of a text: characters up to U+0020.
 
 ghost use Rattle.std.specs.Prelude.{◌≡◌, [], ◌∷◌, ◌++◌, MatchOption, reverse};
 ghost use Rattle.std.specs.Str.{chars, encode_utf8_all};
 ghost use Rattle.nf_texts.specs.Texts.{without_blanks as without_blanks_of, trimmed};
 
-/// The first character of a text, and what follows it.
+/// The first character of a text, and the rest of the text.
 pub fn first_char(text: &str) -> Option<(char, &str)>
     ensures { MatchOption result (chars text.now ≡ []) (λ first. chars text.now ≡ first.0 ∷ chars first.1.now) }
 {
@@ -15,7 +15,7 @@ pub fn first_char(text: &str) -> Option<(char, &str)>
     }
 }
 
-/// The last character of a text, and what stands before it.
+/// The last character of a text, and the text before it.
 fn last_char(text: &str) -> Option<(char, &str)>
     ensures { MatchOption result (chars text.now ≡ []) (λ last. chars text.now ≡ chars last.1.now ++ last.0 ∷ []) }
 {
