@@ -1,4 +1,4 @@
--- What each row gives.
+-- The outcome of each method.
 use Rattle.std.specs.Prelude.{◌≡◌, ◌<◌, ℕ, List, Bool, true, false, Err, IfSome, slice_get}
 use Rattle.nf_value.specs.Plain.{Plain, null, truth, int, text, file, list, table, PlainPairs}
 use Rattle.nf_value.specs.declared.fault.EvalKind.TheVariants.{NoMethod}

@@ -1,4 +1,4 @@
--- What files can do, by their names.
+-- The outcomes of the methods of files, which are parts of their names.
 use Rattle.std.specs.Prelude.{ℕ, ◌==◌, Bool, List, [], ◌∷◌, length, if◌then◌else◌, Ok, Option, Some, None}
 use Rattle.std.specs.List.{before_first}
 use Rattle.nf_value.specs.Plain.{Plain, text}

@@ -1,4 +1,4 @@
--- What lists can do.
+-- The outcomes of the methods of lists.
 use Rattle.std.specs.Prelude.{ℤ, pos, ◌+ℤ◌, ◌==◌, Bool, not, List, [], ◌∷◌, ◌++◌, length, take, drop, reverse, filter, fold, Result, Ok, Err, if◌then◌else◌}
 use Rattle.std.specs.List.{list_any, position_from}
 use Rattle.std.specs.Ordering.{eq_by_cmp, is_gt}

@@ -1,4 +1,4 @@
--- What maps can do.
+-- The outcomes of the methods of maps.
 use Rattle.std.specs.Prelude.{ℕ, pos, nat_eq, ◌==◌, Bool, false, ◌||◌, List, Ok}
 use Rattle.std.specs.Cmp.Lexicographic.{pointwise}
 use Rattle.nf_value.specs.Plain.{Plain, text, int, truth, list, Plains, no_items, item, PlainPairs, no_pairs, pair}

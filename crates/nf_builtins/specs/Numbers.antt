@@ -1,4 +1,4 @@
--- What numbers can do.
+-- The outcomes of the methods of numbers and of the functions of `Math`.
 use Rattle.std.specs.Prelude.{ℕ, ℤ, pos, negsuc, neg_ℤ, int_le, int_lt, int_div, ◌^◌, ◌==◌, nat_lt, nat_le, Bool, ◌&&◌, not, length, drop, List, slice_index, if◌then◌else◌, Ok, Err, Option, Some, None, is_some}
 use Rattle.std.specs.Str.{all_ascii_digits}
 use Rattle.std.specs.Str.Parse.{digits_value}

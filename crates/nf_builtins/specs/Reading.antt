@@ -1,4 +1,4 @@
--- On what rows are read, against what they give.
+-- That the table says rightly which values have a method: those for which the method has an outcome other than `NoMethod`.
 use Rattle.std.specs.Prelude.{◌≡◌, Bool, true, false, ◌&&◌, not, List, Result, Ok, Err}
 use Rattle.nf_value.specs.Plain.{Plain}
 use Rattle.nf_value.specs.declared.fault.EvalKind.{EvalKind}

@@ -1,4 +1,4 @@
--- On what values a row is read, and how.
+-- Which values have a method, and how it is called.
 use Rattle.std.specs.Prelude.{Bool, true, false}
 use Rattle.nf_value.specs.Plain.{Plain, null, int, text, file, list, table}
 use Rattle.nf_builtins.specs.declared.rows.Form.{Form}

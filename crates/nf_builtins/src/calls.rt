@@ -12,14 +12,14 @@ use nf_texts::{CallFault, joining, texts, tokens};
 use nf_value::{EvalKind, Vals, Value};
 use std::alloc::Global;
 
-/// What the row of that number gives for a receiver and its arguments (Nextflow reference, "Standard library: types"). A row of `Math`
-/// reads no receiver. A row that takes a closure is the evaluator's, and no such row may be called here.
+/// Calls the method of a row of the table (Nextflow reference, "Standard library: types"). A function of `Math` ignores the receiver. Methods that take a
+/// closure are the evaluator's and may not be called here.
 ///
 /// # Errors
 ///
-/// Of several that stand together the first of these comes: `NoMethod` where the row isn't read on the receiver, `Arity` for another number
-/// of arguments, `WrongKind` for an argument of another kind, a negative count, a place outside of a text, an empty list without a first item
-/// or an empty text to be replaced; then `DivZero`, `Overflow` and `NotNumber` by the row. `TooLarge` comes where the value would weigh more than
+/// The first of these: `NoMethod` where the receiver has no such method; `Arity` for another number of arguments; `WrongKind` for an argument of another
+/// kind, a negative count, a place outside of a text, an empty list without a first item, or an empty text to be replaced; then `DivZero`, `Overflow` and
+/// `NotNumber`, by the method. `TooLarge` comes where the value would weigh more than
 /// 16,777,216, and else `TooDeep` where it would be deeper than 64. `Mem` where there is no memory for it.
 pub fn call(alloc: Global, row: usize, recv: &Value, args: &Vals) -> Result<Value, CallFault>
     requires { IsPlainRow row }

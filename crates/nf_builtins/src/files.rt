@@ -1,4 +1,4 @@
-//! Rows on files, by their names.
+//! The properties and methods of files, which are parts of their names.
 
 ghost use Rattle.std.specs.Prelude.{◌≡◌, [], MatchOption};
 ghost use Rattle.nf_value.specs.View.{plain_of};
@@ -57,7 +57,7 @@ fn base_of(name: &str) -> &str
     }
 }
 
-/// The last extension.
+/// What follows the last dot, or nothing. A dot at the front begins no extension.
 fn end_of(name: &str) -> &str
     ensures { result.now ≡ extension_of name.now }
 {

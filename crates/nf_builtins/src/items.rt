@@ -1,4 +1,4 @@
-//! Items of lists.
+//! Counts, copies and searches the items of lists.
 
 ghost use Rattle.std.specs.Prelude.{◌≡◌, ◌<◌, ◌^◌, IfOk, IfSome, map, length, take, drop, reverse, MatchOption, []};
 ghost use Rattle.std.specs.List.{position_from, list_any};
@@ -8,7 +8,7 @@ ghost use Rattle.nf_builtins.specs.Lists.{greatest, least, is_same, firsts_of, g
 use nf_value::{Mem, Vals, Value};
 use std::alloc::Global;
 
-/// How many items there are.
+/// The number of items.
 pub(crate) fn count(list: &Vals) -> usize
     ensures count { result ≡ length list.now }
     ensures small { result < 2 ^ 63 }
@@ -23,7 +23,7 @@ fn count_in(items: &[Value]) -> usize
     items.len()
 }
 
-/// Whether the item is among them.
+/// Whether the item is in the list.
 pub(crate) fn has(list: &Vals, item: &Value) -> bool
     ensures { result ≡ list_any (λ w. is_same w (plain_of item.now)) list.now }
 {
@@ -38,7 +38,7 @@ pub(crate) fn place_of(list: &Vals, item: &Value) -> Option<usize>
     place_in(list.items(), item)
 }
 
-/// The first items, a count of them at most.
+/// The first `count` items.
 pub(crate) fn front(alloc: Global, list: &Vals, count: usize) -> Result<Vals, Mem>
     ensures { IfOk result (λ v. v ≡ take count list.now) }
 {
@@ -47,7 +47,7 @@ pub(crate) fn front(alloc: Global, list: &Vals, count: usize) -> Result<Vals, Me
     Ok(Vals::of(copies(alloc, &items[..count])?))
 }
 
-/// What follows the first items.
+/// All items but the first `count`.
 pub(crate) fn rest(alloc: Global, list: &Vals, count: usize) -> Result<Vals, Mem>
     ensures { IfOk result (λ v. v ≡ drop count list.now) }
 {
@@ -86,7 +86,7 @@ pub(crate) fn least_of(list: &Vals) -> Option<&Value>
     least_in(list.items())
 }
 
-/// Whether the item is among them.
+/// Whether the item is in the list.
 fn has_in(items: &[Value], item: &Value) -> bool
     ensures { result ≡ list_any (λ w. is_same w (plain_of item.now)) (map plain_of items.now) }
 {

@@ -1,4 +1,4 @@
-//! What the values of a script can do: the methods of texts, numbers, lists, maps and files, and functions that a program adds.
+//! The methods of values: texts, numbers, lists, maps and files. And the functions that a program adds.
 #![tactic(auto)]
 
 mod calls;

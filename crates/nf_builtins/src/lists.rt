@@ -1,4 +1,4 @@
-//! Rows on lists.
+//! The methods of lists.
 
 ghost use Rattle.nf_value.specs.View.{plain_of};
 ghost use Rattle.nf_texts.specs.Outcome.{Gives};

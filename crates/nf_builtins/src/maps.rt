@@ -1,4 +1,4 @@
-//! Rows on maps.
+//! The methods of maps.
 
 ghost use Rattle.std.specs.Prelude.{◌≡◌, ◌<◌, ◌^◌, IfOk, map};
 ghost use Rattle.nf_value.specs.Plain.{plains_of, plain_pairs_of};

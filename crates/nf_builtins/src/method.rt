@@ -1,4 +1,4 @@
-//! What methods there are, and their names.
+//! The methods, and their names.
 
 ghost use Rattle.std.specs.Prelude.{◌≡◌};
 ghost use Rattle.nf_builtins.specs.Method.{method_name};

@@ -8,7 +8,7 @@ use nf_value::{Txt, Vals, Value};
 use std::alloc::Global;
 use std::marker::Model;
 
-/// Functions of names of their own, which are no keywords and no methods, each with what it answers (own).
+/// The functions that a program adds, each with its answer (own). Their names are no keywords and no names of methods.
 pub trait Natives {
     ghost use Rattle.std.specs.Prelude.{List, ℕ, Option};
     ghost use Rattle.nf_value.specs.Plain.{Plain};
@@ -40,7 +40,7 @@ pub trait Natives {
         ensures { AnswersNative (answer self.now id args.now) result };
 }
 
-/// What functions answer, by their numbers. It has no method: contracts alone speak of it.
+/// The answers of functions, by the functions' numbers. It has no method: only contracts speak of it.
 pub trait NativeBook {
     ghost use Rattle.std.specs.Prelude.{List, ℕ, Option};
     ghost use Rattle.nf_value.specs.Plain.{Plain};
@@ -48,7 +48,7 @@ pub trait NativeBook {
     ghost told: { Self → ℕ → List Plain → Option Plain };
 }
 
-/// Names that functions may have.
+/// Names that a program's functions may have.
 #[derive(Drop)]
 struct Names {
     entries: Vec<Txt>,
@@ -89,7 +89,7 @@ impl Names {
     }
 }
 
-/// Functions that are kept as one closure beside what they answer. That the closure answers so is asked where it is called.
+/// Functions that are run by one closure. `book` says what they answer; that the closure answers so has to hold where it is called.
 #[derive(Drop)]
 pub struct StoredNatives<B, F> {
     names: Names,
@@ -98,7 +98,7 @@ pub struct StoredNatives<B, F> {
 }
 
 impl<B: NativeBook, F: Fn(Global, u32, &Vals) -> Result<Value, CallFault>> StoredNatives<B, F> {
-    /// The functions of these names, as the book tells them, where the closure answers so. Takes no memory.
+    /// The functions of these names, with the answers of the book, run by the closure. Takes no memory.
     pub fn new(names: Vec<Txt>, book: B, run: F) -> StoredNatives<B, F>
         requires proper { are_native_names names.items ≡ true }
         requires few { length names.items < 2 ^ 32 }

@@ -1,4 +1,4 @@
-//! Rows on numbers, and the texts of numbers.
+//! The methods of numbers, the functions of `Math`, and the texts that spell numbers.
 
 ghost use Rattle.std.specs.Prelude.{◌≡◌};
 ghost use Rattle.nf_value.specs.View.{plain_of};

@@ -10,12 +10,12 @@ use nf_texts::CallFault;
 use nf_value::{EvalKind, Mem, Txt, Vals, Value};
 use std::alloc::{AllocError, Global};
 
-/// How wide `zeroPad` fills a number.
+/// The largest width that `zeroPad` takes.
 const WIDEST: i64 = 64;
 
-/// What the program's own functions answer (own): 0, `clamp(x, lo, hi)`, is the nearest number from lo to hi, and has no answer where lo is above
-/// hi; 1, `zeroPad(x, width)`, is the decimal text of a number that isn't negative, filled with zeros on the left to that width, and has no answer for a
-/// negative number or a width outside of 0 to 64. Other arguments have no answer.
+/// The answers of the program's own functions (own). 0, `clamp(x, lo, hi)`: the number from lo to hi that is nearest to x; no answer where lo is above hi.
+/// 1, `zeroPad(x, width)`: the decimal text of x, filled with zeros on the left to that width; no answer for a negative x or a width outside of 0 to 64.
+/// Arguments of another number or kind have no answer.
 #[derive(Debug, Clone, Copy, PartialEq, Eq)]
 pub struct ProgramBook;
 
@@ -38,7 +38,7 @@ pub fn program_names(alloc: Global) -> Result<Vec<Txt>, Mem>
     Ok(names)
 }
 
-/// What the function of that number answers.
+/// The answer of the function of that number.
 ///
 /// # Errors
 ///

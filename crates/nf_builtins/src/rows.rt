@@ -1,4 +1,4 @@
-//! The rows of all methods.
+//! The table of methods: for each, on which values and how it is called.
 
 ghost use Rattle.std.specs.Prelude.{◌≡◌, IfOk};
 ghost use Rattle.nf_builtins.specs.Call.{builtin_rows};
@@ -11,7 +11,7 @@ use nf_table::{Named, Table};
 use nf_value::{Mem, Value};
 use std::alloc::Global;
 
-/// On what values a row is read. On all others it is no method.
+/// The values that have a method.
 #[derive(Debug, Clone, Copy, PartialEq, Eq)]
 pub enum On {
     /// On no value: a function of `Math`.
@@ -36,12 +36,12 @@ pub enum On {
     AnyButNull,
 }
 
-/// How a row is read.
+/// How a method is called.
 #[derive(Debug, Clone, Copy, PartialEq, Eq)]
 pub enum Form {
     /// A call with plain arguments in parentheses.
     Call,
-    /// A call with a closure, which is the evaluator's.
+    /// A call with a closure. The evaluator performs it.
     Closure,
     /// A property, without parentheses.
     Property,
@@ -50,11 +50,11 @@ pub enum Form {
 /// A row of the table of methods.
 #[derive(Debug, Clone, Copy, PartialEq, Eq)]
 pub struct Builtin {
-    /// What it does. Its name is the row's.
+    /// The method. The row has its name.
     pub method: Method,
-    /// On what values it is read.
+    /// The values that have it.
     pub on: On,
-    /// How it is read.
+    /// How it is called.
     pub form: Form,
 }
 
@@ -67,14 +67,14 @@ impl Named for Builtin {
 }
 
 impl Builtin {
-    /// Whether it takes a closure. Its calls are the evaluator's then.
+    /// Whether it takes a closure, so that the evaluator performs its calls.
     pub fn takes_closure(&self) -> bool
         ensures { result ≡ is_closure self.now.form }
     {
         matches!(self.form, Form::Closure)
     }
 
-    /// Whether it is read on a value.
+    /// Whether a value has it.
     pub fn is_on(&self, value: &Value) -> bool
         ensures { result ≡ is_on self.now.on (plain_of value.now) }
     {

@@ -1,4 +1,4 @@
-//! Totals of numbers, and the items of lists in lists.
+//! `sum()` and `flatten()`.
 
 ghost use Rattle.std.specs.Prelude.{◌≡◌, ◌++◌, ◌^◌, ◌≤ℤ◌, ◌+ℤ◌, pos, neg_ℤ, IfOk, map};
 ghost use Rattle.nf_value.specs.Plain.{plains_of};

@@ -1,4 +1,4 @@
--- Lists and maps that are written out.
+-- The values of list and map literals.
 use Rattle.std.specs.Prelude.{ℕ, List, [], Ok}
 use Rattle.nf_value.specs.Plain.{Plain, table, plain_pairs_of}
 use Rattle.nf_texts.specs.Outcome.{Outcome}

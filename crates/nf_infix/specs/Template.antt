@@ -15,7 +15,7 @@ is_file (text t) = false
 is_file (list vs) = false
 is_file (table ps) = false
 
--- the items of a list, and none of any other value
+-- the items of a list; none for any other value
 abbrev pub listed : Plain → List Plain
 listed (list vs) = items_of vs
 listed null = []
@@ -25,7 +25,7 @@ listed (text t) = []
 listed (file n d l) = []
 listed (table ps) = []
 
--- at least one file, and files alone
+-- one file or more, and nothing else
 abbrev pub are_files : List Plain → Bool
 are_files [] = false
 are_files (v ∷ vs) = list_all is_file (v ∷ vs)
@@ -39,10 +39,10 @@ abbrev pub with_blanks : List Plain → List ℕ
 with_blanks [] = []
 with_blanks (v ∷ vs) = value_text v ++ after_blanks vs
 
--- what a hole prints: the text of its value, but in a process files by their names with blanks between them
+-- the text of a hole: the text of its value, but in a process files' names with blanks between them
 abbrev pub hole_text : Bool → Plain → List ℕ
 hole_text in_process v = if in_process && are_files (listed v) then with_blanks (listed v) else value_text v
 
--- this text was written, as far as a text within the limits goes
+-- t was written. It is kept while it has at most 2 ^ 24 bytes
 abbrev pub IsWritten : List ℕ → Written → Type 0
 IsWritten t w = (w.len ≡ min (length t) (2 ^ 32)) × (w.len ≤ 2 ^ 24 → string_bytes w.text ≡ t)

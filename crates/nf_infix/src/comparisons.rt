@@ -1,4 +1,4 @@
-//! Comparisons.
+//! The operators that compare: `<`, `<=`, `>`, `>=`, `==`, `!=`, `==~` and `in`.
 
 ghost use Rattle.std.specs.Prelude.{◌≡◌, map};
 ghost use Rattle.nf_value.specs.Plain.{plain_pairs_of};
@@ -59,7 +59,7 @@ pub fn at_least(left: &Value, right: &Value) -> Result<Value, CallFault>
     judged(Value::Truth(compare(left, right)?.is_ge()))
 }
 
-/// How two numbers or two texts compare.
+/// The order of two numbers or two texts.
 fn compare(left: &Value, right: &Value) -> Result<Ordering, EvalKind>
     ensures { result ≡ compared (plain_of left.now) (plain_of right.now) }
 {
@@ -111,7 +111,7 @@ pub fn differs(left: &Value, right: &Value) -> Result<Value, CallFault>
 ///
 /// # Errors
 ///
-/// `WrongKind` where it is no text (own), `Mem` for want of memory, which each search needs for itself.
+/// `WrongKind` where the value is no text (own). `Mem` for want of memory, which each search needs for itself.
 pub fn matches(alloc: Global, value: &Value, re: &WholeRe) -> Result<Value, CallFault>
     ensures { Gives (matches_of (plain_of value.now) re.now) result }
 {
@@ -141,7 +141,7 @@ fn has_item(list: &Vals, item: &Value) -> bool
     has_in(list.items(), item)
 }
 
-/// Whether the item is among them.
+/// Whether the item is among the items.
 pub(crate) fn has_in(items: &[Value], item: &Value) -> bool
     ensures { result ≡ in_items (plain_of item.now) (map plain_of items.now) }
 {

@@ -1,4 +1,4 @@
-//! The values of a list that is built step by step.
+//! Gathers the values of a list one by one, and keeps none once the list is too heavy.
 
 ghost use Rattle.std.specs.Prelude.{[], ◌∷◌, ◌++◌, List, OnOk};
 ghost use Rattle.nf_value.specs.Plain.{Plain};
@@ -12,8 +12,8 @@ use nf_texts::limits::{LONGEST, MOST_WEIGHT};
 use nf_value::{EvalKind, Mem, Value, weight};
 use std::alloc::Global;
 
-/// The values of a list as far as they were gathered (Nextflow reference documentation, "Syntax", "List"). Once they weigh more together than a value
-/// may, none is kept, but their weight is counted, so that no list takes memory without bound.
+/// The values of a list that were gathered so far (Nextflow reference documentation, "Syntax", "List"). Once they weigh more together than a value may,
+/// none is kept and only their weight is counted, so no list takes memory without bound.
 #[derive(Drop)]
 pub struct Gathered {
     values: Vec<Value>,

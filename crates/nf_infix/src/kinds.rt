@@ -1,4 +1,4 @@
-//! Operands of one kind.
+//! Takes a number or a text out of an operand. Another kind of value is the fault `WrongKind`.
 
 ghost use Rattle.std.specs.Prelude.{◌≡◌, Ok, Err, MatchResult};
 ghost use Rattle.nf_value.specs.View.{plain_of};
@@ -7,7 +7,7 @@ ghost use Rattle.nf_texts.specs.Args.{int_or, text_or};
 
 use nf_value::{EvalKind, Txt, Value};
 
-/// An operand that has to be a number.
+/// The number that an operand has to be.
 pub(crate) fn int_in(value: &Value) -> Result<i64, EvalKind>
     ensures { result ≡ int_or WrongKind (plain_of value.now) }
 {
@@ -17,7 +17,7 @@ pub(crate) fn int_in(value: &Value) -> Result<i64, EvalKind>
     }
 }
 
-/// An operand that has to be a text.
+/// The text that an operand has to be.
 pub(crate) fn text_in(value: &Value) -> Result<&Txt, EvalKind>
     ensures { MatchResult result (λ t. text_or WrongKind (plain_of value.now) ≡ Ok t.now) (λ k. text_or WrongKind (plain_of value.now) ≡ Err k) }
 {

@@ -1,4 +1,5 @@
-//! What the operators of expressions give on values.
+//! The values of infix and prefix operators, indexes, properties, lists, maps and templates, given the values of their
+//! operands.
 #![tactic(auto)]
 
 mod comparisons;

@@ -1,4 +1,4 @@
-//! Lists and maps that are written out.
+//! The values of list and map literals.
 
 ghost use Rattle.std.specs.Prelude.{◌≡◌, [], IfOk, map};
 ghost use Rattle.nf_value.specs.View.{plain_of, pair_of};

@@ -1,4 +1,4 @@
-//! Pairs that are put into maps.
+//! Puts pairs into maps, whose pairs stand in the order of their keys.
 
 ghost use Rattle.std.specs.Prelude.{◌≡◌, ◌∷◌, ◌++◌, ◌+◌, ◌≤◌, ◌<◌, IfOk, OnOk, MatchResult, map, take, drop, length};
 ghost use Rattle.nf_value.specs.Plain.{Plain};
@@ -37,7 +37,7 @@ fn put(pairs: &mut Vec<(Txt, Value)>, key: Txt, value: Value) -> Result<(), Mem>
     Ok(())
 }
 
-/// Where a key stands, or else where it would.
+/// The place where a key stands; as an `Err` the place where it would stand.
 fn place_of(pairs: &[(Txt, Value)], key: &str) -> Result<usize, usize>
     ensures within { MatchResult result (λ i. i < length pairs.now) (λ i. i ≤ length pairs.now) }
     ensures place { (v : Plain) → MatchResult result (λ i. put_of (key.now, v) (map pair_of pairs.now) ≡ take i (map pair_of pairs.now) ++ (key.now, v) ∷ drop (i + 1) (map pair_of pairs.now)) (λ i. put_of (key.now, v) (map pair_of pairs.now) ≡ take i (map pair_of pairs.now) ++ (key.now, v) ∷ drop i (map pair_of pairs.now)) }

@@ -1,4 +1,4 @@
-//! Products and remainders.
+//! `*`, `%`, and `-` before a number.
 
 ghost use Rattle.std.specs.Prelude.{◌≡◌};
 ghost use Rattle.nf_value.specs.View.{plain_of};

@@ -1,4 +1,4 @@
-//! Properties.
+//! `a.name` of maps and files.
 
 ghost use Rattle.std.specs.Prelude.{◌≡◌, ◌<◌, true, false, IfSome, slice_get};
 ghost use Rattle.nf_value.specs.Plain.{file as file_plain};
@@ -14,7 +14,7 @@ use nf_texts::limits::{copied, judged};
 use nf_value::{EvalKind, Vals, Value};
 use std::alloc::Global;
 
-/// Where the rows of files' properties stand in the table of methods.
+/// The numbers of the rows of files' properties in the table of methods.
 const BASE_NAME: usize = 4;
 
 const EXTENSION: usize = 11;

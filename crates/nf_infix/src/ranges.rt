@@ -1,4 +1,4 @@
-//! Ranges.
+//! `a..b`.
 
 ghost use Rattle.std.specs.Prelude.{◌≡◌, ◌≢◌, ◌+ℤ◌, MatchResult, map};
 ghost use Rattle.nf_value.specs.Plain.{int};

@@ -1,4 +1,4 @@
-//! What is read of a value.
+//! `a[b]` of lists and maps.
 
 ghost use Rattle.std.specs.Prelude.{◌≡◌, map, MatchOption};
 ghost use Rattle.nf_value.specs.Plain.{null, plain_pairs_of};
@@ -11,8 +11,8 @@ use nf_builtins::CallFault;
 use nf_texts::limits::{copied, judged};
 use nf_value::{EvalKind, Pairs, Vals, Value};
 
-/// `a[b]`: the item of a list at a place, which is counted from 0 and where -1 is that of the last, or the value of a key of a map; null where there
-/// is none (Nextflow reference documentation, "Syntax", "Index expression"; that other places below 0 are outside is this project's own choice).
+/// `a[b]`: the item of a list at a place, or the value of a key of a map; null where there is none (Nextflow reference documentation, "Syntax", "Index
+/// expression"). Places are counted from 0, and -1 is the place of the last item; no other place below 0 has an item (own).
 ///
 /// # Errors
 ///

@@ -1,4 +1,4 @@
-//! Sums and differences.
+//! `+` and `-` between two values.
 
 ghost use Rattle.std.specs.Prelude.{◌≡◌, ◌++◌, ◌∷◌, [], IfOk, filter};
 ghost use Rattle.nf_value.specs.Plain.{plain_pairs_of};
@@ -49,7 +49,7 @@ fn plus_text(alloc: Global, left: &Txt, right: &Value) -> Result<Value, CallFaul
     judged(Value::Text(longer(alloc, left, right)?))
 }
 
-/// A text with that of a value after it.
+/// A text followed by the text of a value.
 fn longer(alloc: Global, left: &Txt, right: &Value) -> Result<Txt, Mem>
     ensures { IfOk result (λ t. t ≡ left.now ++ value_text (plain_of right.now)) }
 {
@@ -65,7 +65,7 @@ fn plus_list(left: Vals, right: Value) -> Result<Value, CallFault>
     judged(Value::List(with_items(left, right)?))
 }
 
-/// A list with the items of another, or another value, after its own.
+/// A list followed by the items of another, or by one other value.
 fn with_items(list: Vals, right: Value) -> Result<Vals, Mem>
     ensures { IfOk result (λ v. v ≡ list ++ added_items (plain_of right)) }
 {
@@ -101,7 +101,7 @@ fn plus_map(left: Pairs, right: Value) -> Result<Value, CallFault>
     }
 }
 
-/// `a - b` (Nextflow reference documentation, "Syntax", "Binary expressions"): the difference of two numbers, or the items of a list that another hasn't.
+/// `a - b` (Nextflow reference documentation, "Syntax", "Binary expressions"): the difference of two numbers, or the items of a list that aren't in another.
 /// Takes time by the product of their lengths.
 ///
 /// # Errors
@@ -136,7 +136,7 @@ fn minus_list(left: Vals, right: &Value) -> Result<Value, CallFault>
     }
 }
 
-/// The items of a list that another hasn't.
+/// The items of a list that aren't in another.
 fn without(list: Vals, others: &Vals) -> Vals
     ensures { result ≡ filter (is_missing others.now) list }
 {

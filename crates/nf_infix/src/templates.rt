@@ -1,4 +1,4 @@
-//! The text of a template.
+//! Writes the text of a template piece by piece, and stops keeping it once it is too long.
 
 ghost use Rattle.std.specs.Prelude.{◌≡◌, ◌++◌, [], ℕ, List, map, OnOk, Ok};
 ghost use Rattle.std.specs.List.{list_all};
@@ -13,8 +13,8 @@ use nf_texts::limits::{LONGEST, MOST_WEIGHT, judged};
 use nf_value::{EvalKind, Mem, Txt, Value, text_of};
 use std::alloc::Global;
 
-/// The text of a template as far as it was written (Nextflow reference documentation, "Syntax", "Dynamic string"). What passes the limit of a value
-/// isn't kept, but counted, so that no template takes memory without bound.
+/// The text of a template that was written so far (Nextflow reference documentation, "Syntax", "Dynamic string"). What is longer than a text may be isn't
+/// kept but counted, so no template takes memory without bound.
 #[derive(Drop)]
 pub struct Written {
     text: String,
@@ -49,8 +49,8 @@ impl Written {
         Ok(())
     }
 
-    /// Writes what a hole prints: the text of its value, but in a process a list of at least one file, and of files alone, by their names with a
-    /// blank between each two (own).
+    /// Writes the text of a hole: the text of its value. But in a process a list of one file or more, and of nothing else, is written as the files' names
+    /// with a blank between each two (own).
     ///
     /// # Errors
     ///
@@ -102,7 +102,7 @@ impl Written {
     }
 }
 
-/// The items of a list, and none of any other value.
+/// The items of a list; none for any other value.
 fn listed(value: &Value) -> &[Value]
     ensures { map plain_of result.now ≡ listed_of (plain_of value.now) }
 {
