@@ -1,4 +1,4 @@
 pub mod Places
 pub mod TopPlaces
-pub mod Told
+pub mod Printed
 pub mod Reading

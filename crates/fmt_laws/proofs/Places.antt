@@ -1,4 +1,4 @@
--- The canonical text of an expression or statement doesn't depend on its places.
+-- The canonical text of a script doesn't depend on its places: expressions and statements.
 use Rattle.std.proofs.Common.{◌≡◌, ℕ, Bool, true, false, List, [], ◌∷◌, ◌++◌, refl, ap, ◌∙◌}
 use Rattle.std.specs.Prelude.{not, ◌&&◌, codes, nat_lt}
 use Rattle.nf_token.specs.declared.token.Keyword.TheVariants as k
@@ -6,11 +6,12 @@ use Rattle.nf_token.specs.declared.token.Mark.TheVariants as m
 use Rattle.nf_token.specs.declared.token.TemplateKind.{TemplateKind}
 use Rattle.nf_ast.specs.Tree as tree
 use Rattle.nf_ast.specs.Tree.{Tree}
-use Rattle.nf_printer.specs.Ink as ink
-use Rattle.nf_printer.specs.Ink.{Ink, mark}
+use Rattle.nf_writer.specs.Ink as ink
+use Rattle.nf_writer.specs.Ink.{Ink, mark, spaced}
 use Rattle.nf_printer.specs.Levels.{level, left_level, right_level, prefix_level, postfix_level, needs, is_name, is_minus, prints, begins_round, round, within}
-use Rattle.nf_printer.specs.Lines.{Layout, inline, deeper, between, after_last, is_expr, is_short, first_before, closure_last}
-use Rattle.nf_printer.specs.Exprs.{comma, colon, equals, spaced, infix_inks, colon_alone, blank_after, else_before, inks, listed, parts, piece, pieces}
+use Rattle.nf_writer.specs.Lines.{Layout, inline, deeper, between, after_last}
+use Rattle.nf_printer.specs.Bodies.{is_expr, is_short, first_before, closure_last}
+use Rattle.nf_printer.specs.Exprs.{comma, colon, equals, infix_inks, colon_alone, blank_after, else_before, inks, listed, parts, piece, pieces}
 use Rattle.fmt_trees.specs.Bare.{bare}
 
 -- ---- lists of inks

@@ -1,4 +1,4 @@
--- What tokens of a canonical text come to.
+-- What the lexer and the parser give for the canonical text of a script that some text spells.
 use Rattle.std.proofs.Common.{◌≡◌, ◌≢◌, ◌≤◌, ◌<◌, ◌↔◌, ℕ, List, length, Result, Ok, Err, IfOk, sym, subst, ap, ◌∙◌, refl, arith}
 use Rattle.nf_value.specs.declared.place.Place.{Place}
 use Rattle.nf_token.specs.declared.token.Lexeme.{Lexeme}
@@ -13,7 +13,7 @@ use Rattle.fmt_trees.specs.Again.{SpellsAgain}
 use Rattle.nf_value.specs.declared.mem.Mem.{Mem}
 use Rattle.fmt_laws.specs.declared.again.Again.{Again}
 use Rattle.fmt_laws.specs.Again.{IsSpelled, IsSame, IsReadAgain, IsLexLimit, IsWithinLimits, Formats}
-use Rattle.fmt_laws.proofs.Told.{is_told}
+use Rattle.fmt_laws.proofs.Printed.{is_spelled_again}
 use Rattle.fmt_laws.proofs.TopPlaces.{same_text}
 
 -- a text has one list of tokens, and none where it breaks a rule
@@ -26,15 +26,15 @@ NeverBoth = (text : List ℕ) (t : List Lexeme × Place) (f : LexFault) → IsTo
 abbrev pub OneTree : Type 0
 OneTree = (ts : List Lexeme) (v w : Tree) → Spells ts v → Spells ts w → v ≡ w
 
--- the tokens of the canonical text spell the tree again
+-- the tokens that the lexer lists of the canonical text spell the tree
 pub spelled_again : OneList → (tree : Tree) → IsSpelled tree → (found : List Lexeme × Place) → IsTokensOf (canonical tree) found → SpellsAgain found.0 tree
 spelled_again one tree s found lexed =
-    let told = is_told tree s lexed.within in
+    let told = is_spelled_again tree s lexed.within in
     subst (λ (z : List Lexeme × Place). SpellsAgain z.0 tree) (one (canonical tree) (told.tokens, told.end) found told.lexed lexed) told.spells
 
 -- a canonical text that isn't too long breaks no rule of the tokens
 pub breaks_none : NeverBoth → (tree : Tree) → IsSpelled tree → length (canonical tree) ≤ most_bytes → (f : LexFault) → Breaks (canonical tree) f → ⊥
-breaks_none both tree s small f b = let told = is_told tree s small in both (canonical tree) (told.tokens, told.end) f told.lexed b
+breaks_none both tree s small f b = let told = is_spelled_again tree s small in both (canonical tree) (told.tokens, told.end) f told.lexed b
 
 small : {text : List ℕ} {f : LexFault} → Breaks text f → (f ≡ lex.ScriptTooLong → ⊥) → length text ≤ most_bytes
 small (too_long h) n = absurd (n refl)
@@ -50,7 +50,7 @@ lex_limit both tree s (lex.BigNumber p) b = breaks_none both tree s (small b (λ
 lex_limit both tree s lex.ScriptTooLong b = tt
 lex_limit both tree s lex.Mem b = tt
 
--- what is read of tokens that spell the tree again
+-- the parser reads these tokens as the tree, places aside, or they are too deep
 pub read_of : (r : Result Again Mem) (tree : Tree) (found : List Lexeme × Place) → IfOk r (λ a. (t : Tree) → IsTokensOf (canonical t) found → SpellsAgain found.0 t → IsReadAgain t a) → IsTokensOf (canonical tree) found → SpellsAgain found.0 tree → IfOk r (IsReadAgain tree)
 read_of (Ok a) tree found h lexed told = h tree lexed told
 read_of (Err e) tree found h lexed told = tt
@@ -61,10 +61,10 @@ same_as tree u v e h = let parts : bare v ≡ bare tree = ap bare (sym e) ∙ h 
 formatted_from : {text out : List ℕ} → (f : Formats text out) → IsSpelled f.tree
 formatted_from {text} f = record { text = text; tokens = f.tokens; end = f.end; lexed = f.lexed; whole = f.spelled.whole }
 
--- within the limits what was formatted is formatted to itself
+-- a canonical text within the limits is its own canonical text
 pub fixed : (text out : List ℕ) → Formats text out → IsWithinLimits out → Formats out out
 fixed text out f h =
-    let told = is_told f.tree (formatted_from f) (subst (λ z. length z ≤ most_bytes) f.printed h.bytes) in
+    let told = is_spelled_again f.tree (formatted_from f) (subst (λ z. length z ≤ most_bytes) f.printed h.bytes) in
     let lexed : IsTokensOf out (told.tokens, told.end) = subst (λ z. IsTokensOf z (told.tokens, told.end)) (sym f.printed) told.lexed in
     record {
       tokens = told.tokens;

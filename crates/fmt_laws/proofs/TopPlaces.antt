@@ -1,14 +1,15 @@
--- The canonical text of a script doesn't depend on its places.
+-- The canonical text of a script doesn't depend on its places: sections and tops.
 use Rattle.std.proofs.Common.{◌≡◌, ℕ, Bool, true, false, List, [], ◌∷◌, ◌++◌, refl, ap, sym, ◌∙◌}
 use Rattle.std.specs.Prelude.{codes, if◌then◌else◌}
 use Rattle.nf_token.specs.declared.token.Keyword.TheVariants as k
 use Rattle.nf_token.specs.declared.token.Mark.TheVariants as m
 use Rattle.nf_ast.specs.Tree as tree
 use Rattle.nf_ast.specs.Tree.{Tree}
-use Rattle.nf_printer.specs.Ink.{Ink, mark, keyword, blank, line, inked}
+use Rattle.nf_writer.specs.Ink.{Ink, mark, keyword, blank, line, inked}
 use Rattle.nf_printer.specs.Levels.{begins_round, round}
 use Rattle.nf_printer.specs.Exprs.{comma, equals, inks, listed, parts}
-use Rattle.nf_printer.specs.Tops.{outside, inside, inner_line, word, part, on_lines, braced, headed, section, statements, body_section, first_begins_round, args_before, args_after, directive_args, directive, value_part, value_parts, some_value, output, task, process_parts, workflow_parts, maybe_name, top, tops, canonical}
+use Rattle.nf_writer.specs.Lines.{outside}
+use Rattle.nf_printer.specs.Tops.{inside, inner_line, word, part, on_lines, braced, headed, section, statements, body_section, first_begins_round, args_before, args_after, directive_args, directive, value_part, value_parts, some_value, output, task, process_parts, workflow_parts, maybe_name, top, tops, canonical}
 use Rattle.fmt_trees.specs.Bare.{bare}
 use Rattle.fmt_laws.proofs.Places.{both, three, join, is_expr_bare, round_bare, inks_bare, listed_bare, parts_bare}
 
@@ -279,7 +280,7 @@ tops_bare : (xs : Tree) (before : List Ink) → tops (bare xs) before ≡ tops x
 tops_bare (tree.cons x xs) before = both (λ y z. before ++ y ++ line [] ∷ z) (top_bare x) (tops_bare xs (line [] ∷ []))
 tops_bare _ before = refl
 
--- the canonical text of a tree is that of the tree with no place told
+-- a tree has the canonical text of the same tree without places
 pub canonical_bare : (xs : Tree) → canonical (bare xs) ≡ canonical xs
 canonical_bare xs = ap (λ z. inked z) (tops_bare xs [])
 

@@ -1,4 +1,4 @@
--- What reading the canonical text of a script gives.
+-- What is said of a script that is printed and read again, and of a text that is formatted twice.
 use Rattle.std.specs.Prelude.{◌≡◌, ℕ, ◌<◌, ◌≤◌, List, length}
 use Rattle.nf_value.specs.declared.place.Place.{Place}
 use Rattle.nf_token.specs.declared.token.Lexeme.{Lexeme}
@@ -26,24 +26,24 @@ pub record IsSpelled (tree : Tree) : Type 0 where
   pub whole : Whole tokens tree
 
 -- the canonical text has tokens, and these spell the tree again, limits on brackets and chains aside
-pub record IsTold (tree : Tree) : Type 0 where
+pub record IsSpelledAgain (tree : Tree) : Type 0 where
   pub tokens : List Lexeme
   pub end : Place
   pub lexed : IsTokensOf (canonical tree) (tokens, end)
   pub spells : SpellsAgain tokens tree
 
 -- the same of a canonical text of any length
-pub record IsToldAtLength (tree : Tree) : Type 0 where
+pub record IsSpelledAgainAtLength (tree : Tree) : Type 0 where
   pub tokens : List Lexeme
   pub lexed : IsLexed (canonical tree) tokens
   pub spells : SpellsAgain tokens tree
 
--- one tree but for its places, with one canonical text
+-- two trees that differ in their places alone, with one canonical text
 pub record IsSame (tree other : Tree) : Type 0 where
   pub parts : bare other ≡ bare tree
   pub text : canonical other ≡ canonical tree
 
--- a reading of the canonical text passes a limit of the grammar, here first
+-- the canonical text passes a limit on brackets or chains, first at this place
 pub record GoesTooDeep (tree : Tree) (p : Place) : Type 0 where
   pub tokens : List Lexeme
   pub end : Place
@@ -55,7 +55,7 @@ IsReadAgain tree (again.Same script) = IsSame tree (view_script script)
 IsReadAgain tree again.TooLong = most_bytes < length (canonical tree)
 IsReadAgain tree (again.TooDeep place) = GoesTooDeep tree place
 
--- ---- why a canonical text isn't read
+-- ---- which faults a canonical text can have: it is too long or too deep, or memory ran out
 
 abbrev pub IsLexLimit : LexFault → Type 0
 IsLexLimit lex.ScriptTooLong = Unit {0}
@@ -86,7 +86,7 @@ pub record Formats (text out : List ℕ) : Type 0 where
   pub spelled : Spells tokens tree
   pub printed : out ≡ canonical tree
 
--- the text passes no limit of a script: its bytes, its brackets, its chains
+-- the text is within the limits of a script: its bytes, its brackets, its chains
 pub record IsWithinLimits (text : List ℕ) : Type 0 where
   pub bytes : length text ≤ most_bytes
   pub shallow : (tokens : List Lexeme) (end : Place) → IsTokensOf text (tokens, end) → (rest : List Lexeme) → Passes tokens rest → ⊥

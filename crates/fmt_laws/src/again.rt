@@ -1,4 +1,4 @@
-//! A script is printed and read again.
+//! Prints a script and reads what was printed.
 
 ghost use Rattle.std.specs.Prelude.{IfOk};
 ghost use Rattle.nf_lexer.specs.Tokens.{IsTokensOf};
@@ -17,20 +17,22 @@ use nf_token::Tokens;
 use nf_value::{Mem, Place};
 use std::alloc::Global;
 
-/// What reading the canonical text of a script gives (own).
+/// What reading a printed script gives (own).
 #[derive(Drop)]
 pub enum Again {
-    /// The script: the same tree but for the places of its parts, so that its canonical text is the same.
+    /// The same script: its tree differs in the places of its parts alone, and its canonical text is the same.
     Same(Script),
     /// The canonical text has more than 1,048,576 bytes.
     TooLong,
-    /// The canonical text passes a limit on brackets or on the parts of a chain, first at this place.
+    /// The canonical text has too many brackets open or too long a chain, first at this place.
     TooDeep(Place),
 }
 
-/// Prints a script in its canonical text, and reads that text (own). For a script that some text spells, what is read is the script
-/// again, unless its canonical text passes a limit that the other text didn't: brackets that aren't needed are gone, so that two chains may
-/// become one, and lines are indented.
+/// Prints a script and reads what was printed (own). The result shows that formatting never changes a script: what is read is the same
+/// script, or the printed text passes a limit.
+///
+/// The caller shows that the tokens of some text spell the script. The printed text can pass a limit that this text kept: without the
+/// brackets that change nothing, two chains may become one, and indented lines are longer.
 ///
 /// # Errors
 ///
@@ -48,7 +50,7 @@ pub fn read_again(alloc: Global, script: &Script) -> Result<Again, Mem>
     }
 }
 
-/// What a canonical text without tokens is: too long, unless memory ran out.
+/// Why a canonical text has no tokens: it is too long, unless memory ran out.
 fn not_lexed(fault: LexFault) -> Result<Again, Mem>
     requires limit { IsLexLimit fault }
     ensures long { IfOk result (IsTooLong fault) }
@@ -71,7 +73,7 @@ fn read(alloc: Global, found: &Tokens) -> Result<Again, Mem>
     }
 }
 
-/// What tokens that spell a script are where it isn't read: past a limit, unless memory ran out.
+/// Why tokens that spell a script weren't read: they pass a limit, unless memory ran out.
 fn not_read(fault: ParseFault) -> Result<Again, Mem>
     requires limit { IsParseLimit fault }
     ensures deep { IfOk result (IsAtPlace fault) }

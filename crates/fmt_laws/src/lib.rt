@@ -1,4 +1,4 @@
-//! Formatting a script and reading what was written: it is the script again.
+//! The laws of formatting: what `fmt` writes is read as the same script, and formatting it once more changes nothing.
 #![tactic(auto)]
 
 mod again;

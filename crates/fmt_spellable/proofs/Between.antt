@@ -1,4 +1,4 @@
--- What is known of the bytes that are held stays so between strings, in holes and in comments.
+-- What is known of the bytes that the lexer holds stays true outside strings, in holes and in comments.
 use Rattle.std.proofs.Common.{◌≡◌, ℕ, Bool, true, false, cond, List, [], ◌∷◌, drop, refl, sym, subst}
 use Rattle.std.specs.Prelude.{nat_eq, not, ◌==◌, ◌&&◌, ◌||◌, take_while}
 use Rattle.std.specs.List.{starts_with}
@@ -43,7 +43,7 @@ neither true d h k = absurd cc
 neither false true h k = absurd cc
 neither false false h k = refl
 
--- what comes after the mark that opens it
+-- what comes after its first quote
 begins : (b : ℕ) (bs : List ℕ) → is_no_comment bs ≡ true → Within (Plain Slashes) (drop 1 (b ∷ bs)) []
 begins b bs h = subst (λ z. Within (Plain Slashes) z []) (sym (drop_nothing bs)) ((refl, λ _. refl), h)
 

@@ -1,4 +1,4 @@
--- What bytes that are added to a string change of how it begins and ends.
+-- How bytes that are added to a string change how it begins and ends.
 use Rattle.std.proofs.Common.{◌≡◌, ℕ, Bool, true, false, List, [], ◌∷◌, ◌++◌, take, refl, sym, ap, ◌∙◌, arith}
 use Rattle.std.specs.Prelude.{not, ◌==◌, ◌&&◌, ◌||◌, nat_eq}
 use Rattle.std.specs.List.{list_all, starts_with}

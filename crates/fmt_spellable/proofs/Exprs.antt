@@ -1,4 +1,4 @@
--- What the rows of expressions, closures and statements make.
+-- What the rules of expressions, closures and statements make.
 use Rattle.std.proofs.Common.{◌≡◌, ℕ, Bool, true, false, List, refl}
 use Rattle.nf_value.specs.declared.place.Place.{Place}
 use Rattle.nf_token.specs.declared.token.Lexeme.{Lexeme}
@@ -103,7 +103,7 @@ module _ {n : ℕ} (ih : (l : Level) → Good n (rule l) (Made (sort_of l))) whe
   after_good d band.Sum h = turns (λ i x q. next_good d band.Sum i q) h
   after_good d band.Term h = turns (λ i x q. next_good d band.Term i q) h
 
-  -- ---- conditionals, marks before an operand, and what stands after one
+  -- ---- conditional expressions, operators before an operand, and parts after one
   more_good : (d k : ℕ) {a : Tree} → Made expr a → Good n (or_more d k a) (Made expr)
   more_good d k h = arms
       (skip (λ q. seq (expr_good d _) (λ a f. skip (λ c. seq (expr_good d _) (λ b g. ret (record { shaped = shape.conditional h.shaped f.shaped g.shaped; fits = (h.fits, f.fits, g.fits) }))))))

@@ -1,4 +1,4 @@
--- What is known of the bytes that are held stays so in strings, patterns and templates.
+-- What is known of the bytes that the lexer holds stays true inside strings, patterns and templates.
 use Rattle.std.proofs.Common.{◌≡◌, ℕ, ◌<◌, true, false, cond, List, [], ◌∷◌, ◌++◌, length, drop, Option, Some, None, refl, sym, ap, ◌∙◌, subst, arith}
 use Rattle.std.specs.Prelude.{nat_eq, not, ◌==◌, ◌&&◌, ◌||◌, take_while}
 use Rattle.std.specs.List.{starts_with, list_all}

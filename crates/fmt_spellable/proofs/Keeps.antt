@@ -1,4 +1,4 @@
--- What is known of the bytes that are held, by what is open, and what each item is to keep of it.
+-- What is known of the bytes that the lexer holds, by what is open, and what each item has to keep of it.
 use Rattle.std.proofs.Common.{◌≡◌, ℕ, Bool, true, false, cond, List, [], ◌∷◌, ◌++◌, drop, Option, Some, refl}
 use Rattle.std.specs.Prelude.{not, ◌==◌, ◌&&◌}
 use Rattle.std.specs.Str.{IsUtf8}
@@ -101,7 +101,7 @@ held_around o bs (text start w) h = h.0
 
 -- ---- bytes that are added
 
--- a string's bytes and these, where all stays as it is to be
+-- the bytes of a string with these after them, where what is known stays true
 pub adds : (k : TextKind) (p : Place) (o : List Open) (bs rest x : List ℕ) (held : Held) (place : Place) → IsUtf8 x → ((w : List ℕ) → Within k bs w → Within k rest (w ++ x)) → Holding (Text k p ∷ o) bs held → Holding (Text k p ∷ o) rest (more held place x)
 adds (Plain Single) p o bs rest x nothing place u h g = absurd cc
 adds (Plain TripleSingle) p o bs rest x nothing place u h g = absurd cc

@@ -1,4 +1,4 @@
--- Every token of a text is fit, and no two texts of a template stand in a row.
+-- Every token that the lexer lists is fit, and no two texts of a template stand in a row.
 use Rattle.std.proofs.Common.{◌≡◌, ℕ, Bool, true, false, cond, List, [], ◌∷◌, length, Option, Some, None, refl, sym, ap, subst}
 use Rattle.std.specs.Prelude.{nat_eq, not, ◌==◌, codes}
 use Rattle.std.specs.List.{starts_with}

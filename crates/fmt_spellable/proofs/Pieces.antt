@@ -1,4 +1,4 @@
--- The parts of templates.
+-- The rules of templates make texts and holes that fit.
 use Rattle.std.proofs.Common.{◌≡◌, ℕ, Bool, true, false, List, [], ◌∷◌, Option, Some, refl}
 use Rattle.std.specs.Prelude.{◌&&◌}
 use Rattle.nf_token.specs.declared.token.Lexeme.{Lexeme}

@@ -1,4 +1,4 @@
--- What settling makes of fit pieces: fit tokens, and no two texts of a template in a row.
+-- Settling line ends keeps tokens fit, and never brings two texts of a template together.
 use Rattle.std.proofs.Common.{◌≡◌, Bool, true, false, cond, List, [], ◌∷◌, refl}
 use Rattle.std.specs.Prelude.{not, ◌&&◌}
 use Rattle.nf_token.specs.declared.token.Token.{Token}

@@ -1,4 +1,4 @@
--- What holds of the parts that rows share.
+-- What the parts of the grammar that many rules share make of fit tokens.
 use Rattle.std.proofs.Common.{◌≡◌, ℕ, Bool, List, ◌∷◌, Option, Some, refl}
 use Rattle.nf_token.specs.declared.token.Lexeme.{Lexeme}
 use Rattle.nf_grammar.specs.Gram.{token, gives, bind, either, only_where, many, rule}

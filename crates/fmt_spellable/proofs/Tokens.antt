@@ -1,4 +1,4 @@
--- What fit tokens stand for.
+-- What a fit token stands for in a tree fits.
 use Rattle.std.proofs.Common.{◌≡◌, ℕ, ℤ, Bool, true, false, List, [], ◌∷◌, Option, Some, None, subst}
 use Rattle.std.proofs.lemmas.Slice.Eq.{bytes_eq-Decides}
 use Rattle.nf_value.specs.declared.place.Place.{Place}
@@ -64,7 +64,7 @@ name_key h = of_shape h.shaped h.fits
     of_shape : {v : Tree} → Shaped a_name v → Fits v → Made key v
     of_shape named f = record { shaped = shape.by_name; fits = f }
 
--- ---- templates and marks
+-- ---- templates and operators
 
 pub data Opened : Tree → Type 0 where
   opened : {p : Place} {q : TemplateKind} → Opened (tree.template p q empty)

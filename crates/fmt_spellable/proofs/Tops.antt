@@ -1,4 +1,4 @@
--- What the rows of tops make.
+-- What the rules of processes, workflows and the other tops make.
 use Rattle.std.proofs.Common.{◌≡◌, ℕ, Bool, true, false, List, refl}
 use Rattle.std.specs.Prelude.{codes}
 use Rattle.nf_value.specs.declared.place.Place.{Place}

@@ -1,4 +1,4 @@
--- Every tree that fit tokens spell is of its rule's sort, and its words, numbers and strings are such as a text can spell.
+-- Every tree that a rule makes of fit tokens has the shape of that rule, and its names, numbers and strings fit.
 use Rattle.std.proofs.Common.{ℕ, List, arith}
 use Rattle.nf_token.specs.declared.token.Lexeme.{Lexeme}
 use Rattle.nf_grammar.specs.Gram.{rule}

@@ -1,4 +1,4 @@
--- Names, numbers and marks that a text has are fit tokens.
+-- The names, numbers and marks that the lexer reads are fit tokens.
 use Rattle.std.proofs.Common.{◌≡◌, ℕ, ◌≤◌, Bool, true, false, cond, List, [], ◌∷◌, Option, Some, None, refl, ap, ◌∙◌, arith}
 use Rattle.std.specs.Prelude.{nat_lt, take_while}
 use Rattle.std.specs.List.{list_all}

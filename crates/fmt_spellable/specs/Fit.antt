@@ -1,4 +1,4 @@
--- What tokens of a text hold.
+-- What holds of every token that the lexer lists.
 use Rattle.std.specs.Prelude.{◌≡◌, Bool, true, false, ◌&&◌, List, [], ◌∷◌}
 use Rattle.nf_token.specs.declared.token.Token.{Token}
 use Rattle.nf_token.specs.declared.token.Token.TheVariants as t
@@ -22,7 +22,7 @@ abbrev pub text_next : List Lexeme → Bool
 text_next [] = false
 text_next (x ∷ ts) = is_text x.token
 
--- each is fit, and no text of a template stands right after another
+-- each token is fit, and no two texts of a template stand in a row
 abbrev pub AreFit : List Lexeme → Type 0
 AreFit [] = Unit {0}
 AreFit (x ∷ ts) = FitToken x.token × ((is_text x.token && text_next ts) ≡ false) × AreFit ts

@@ -1,4 +1,4 @@
--- What the rules of the grammar make.
+-- What holds of every tree that a rule of the grammar makes of fit tokens.
 use Rattle.std.specs.Prelude.{List}
 use Rattle.nf_token.specs.declared.token.Lexeme.{Lexeme}
 use Rattle.nf_ast.specs.Tree.{Tree}
@@ -9,12 +9,12 @@ use Rattle.fmt_trees.specs.Shape.{Sort, Shaped}
 use Rattle.fmt_trees.specs.Shape as sort
 use Rattle.fmt_spellable.specs.Fit.{AreFit}
 
--- a tree of that sort, whose words, numbers and strings a text can spell
+-- the tree has this shape, and some text can spell its names, numbers and strings
 pub record Made (s : Sort) (x : Tree) : Type 0 where
   pub shaped : Shaped s x
   pub fits : Fits x
 
--- which sort of tree each rule makes
+-- the sort of tree that each rule makes
 abbrev pub sort_of : Level → Sort
 sort_of (level.Args d) = sort.row sort.arg
 sort_of (level.Arg d) = sort.arg
@@ -37,6 +37,6 @@ sort_of level.Parts = sort.inside
 sort_of level.Function = sort.top
 sort_of _ = sort.expr
 
--- the tree is of that sort, and the tokens after it are fit
+-- the tree is so made, and the tokens after it are fit
 abbrev pub Makes : Sort → Tree → List Lexeme → Type 0
 Makes s v r = Made s v × AreFit r

@@ -1,2 +1,2 @@
-//! Lemmas on what holds of every token of a text, and of every tree that tokens spell.
+//! Definitions and lemmas alone: every tree that the tokens of some text spell can be printed and read back.
 #![tactic(auto)]

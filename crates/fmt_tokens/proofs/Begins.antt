@@ -1,4 +1,4 @@
--- What the text of inks begins with.
+-- Which byte the text of some inks begins with.
 use Rattle.std.proofs.Common.{◌≡◌, ℕ, ℤ, pos, negsuc, ◌≤◌, ◌<◌, Bool, true, false, List, [], ◌∷◌, ◌++◌, length, refl, subst, arith}
 use Rattle.std.specs.Prelude.{not, ◌==◌, ◌||◌}
 use Rattle.std.specs.List.{list_all}
@@ -12,18 +12,18 @@ use Rattle.nf_token.specs.declared.token.TemplateKind.{TemplateKind}
 use Rattle.nf_token.specs.declared.token.TemplateKind.TheVariants.{Double, TripleDouble}
 use Rattle.nf_lexer.specs.Bytes.{begins_name, is_in_name}
 use Rattle.nf_lexer.specs.Word.{limit}
-use Rattle.nf_printer.specs.Ink as ink
-use Rattle.nf_printer.specs.Ink.{Ink, inked}
+use Rattle.nf_writer.specs.Ink as ink
+use Rattle.nf_writer.specs.Ink.{Ink, inked}
 use Rattle.nf_printer.specs.Levels.{within}
 use Rattle.fmt_tokens.specs.Fits.{is_word, IsName, IsNumber}
 use Rattle.fmt_tokens.proofs.Tests.{both}
 use Rattle.fmt_tokens.proofs.Codes.{digits_pass}
-use Rattle.fmt_tokens.proofs.Told.{inked_on}
+use Rattle.fmt_tokens.proofs.InkLists.{inked_on}
 use Rattle.fmt_tokens.proofs.Stands.{parts_tokens, Apart, Ends, apart_ends}
 
 -- ---- with what parts tokens
 
--- before what parts tokens it parts them too
+-- these inks may follow a token, before what may follow one
 abbrev pub Begins : List Ink → Type 0
 Begins xs = (rest : List ℕ) → Apart rest → Apart (inked xs ++ rest)
 
@@ -38,7 +38,7 @@ is_never_first b = b == 35 || b == 61 || b == 62
 pub record Starts (xs : List Ink) : Type 0 where
   pub starts : (rest : List ℕ) → Ends is_never_first rest → Ends is_never_first (inked xs ++ rest)
 
--- whatever follows
+-- the same, whatever follows
 pub record Fronts (xs : List Ink) : Type 0 where
   pub fronts : (rest : List ℕ) → Ends is_never_first (inked xs ++ rest)
 

@@ -1,4 +1,4 @@
--- What each token between strings is read as.
+-- How each token outside strings is read.
 use Rattle.std.proofs.Common.{◌≡◌, ℕ, ◌≤◌, ◌<◌, Bool, true, false, cond, List, [], ◌∷◌, ◌++◌, length, drop, Option, Some, None, refl, sym, ap, ◌∙◌, subst, arith}
 use Rattle.std.specs.Prelude.{not, ◌==◌, ◌&&◌, nat_lt, take_while, pos}
 use Rattle.std.specs.List.{list_all}
@@ -27,7 +27,7 @@ use Rattle.nf_lexer.specs.Place.{place_of}
 use Rattle.nf_token.specs.Spellings.{keywords}
 use Rattle.nf_lexer.specs.Word.{keyword_in, keyword_or_name, word_token, limit, number}
 use Rattle.nf_lexer.specs.First.{in_code, in_open, broken_or, fault_at, first}
-use Rattle.nf_printer.specs.Ink.{keyword_text}
+use Rattle.nf_writer.specs.Ink.{keyword_text}
 use Rattle.fmt_tokens.specs.Leads.{Leads, stays, goes}
 use Rattle.fmt_tokens.specs.Fits.{is_word}
 use Rattle.fmt_tokens.proofs.Strings.{no_fault}

@@ -1,4 +1,4 @@
--- A text cut at the bytes that don't stand for themselves.
+-- A text, cut at the bytes that need care when they are printed in a string.
 use Rattle.std.proofs.Common.{◌≡◌, ℕ, ◌<◌, ◌≤◌, Bool, true, false, cond, List, [], ◌∷◌, ◌++◌, length, drop, refl, ap, ◌∙◌, subst, arith}
 use Rattle.std.specs.Prelude.{take_while, get_or, ◌&&◌}
 use Rattle.std.specs.List.{list_all}
@@ -9,7 +9,7 @@ use Rattle.std.proofs.lemmas.List.Sums.{take_while-cons}
 use Rattle.std.proofs.lemmas.Str.{IsUtf8-take, IsUtf8-drop, IsCharBoundary-after_ascii}
 use Rattle.fmt_tokens.proofs.Tests.{both}
 
--- runs of bytes that pass the test, with a byte that doesn't after each but the last
+-- runs of bytes that pass the test, and after each but the last one byte that doesn't
 pub data Cut (p : ℕ → Bool) : List ℕ → Type 0 where
   done : (run : List ℕ) → list_all p run ≡ true → Cut p run
   more : (run : List ℕ) (c : ℕ) (w : List ℕ) → list_all p run ≡ true → p c ≡ false → Cut p w → Cut p (run ++ c ∷ w)
@@ -42,7 +42,7 @@ pub drop_nothing : (bs : List ℕ) → drop 0 bs ≡ bs
 drop_nothing [] = refl
 drop_nothing (b ∷ bs) = refl
 
--- an ASCII byte parts characters
+-- a byte of ASCII stands between characters
 boundary : (w : List ℕ) (c : ℕ) (rest : List ℕ) → c < 128 → IsCharBoundary (w ++ c ∷ rest) (length w)
 boundary w c rest h =
     let at : get_or (w ++ c ∷ rest) (length w) 0 ≡ c = get_or-append_seam w c rest 0 in

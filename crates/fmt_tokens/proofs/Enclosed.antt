@@ -1,12 +1,12 @@
--- What stands in brackets and braces.
+-- How what stands in brackets and braces is read.
 use Rattle.std.proofs.Common.{Bool, true, false, List, [], ◌∷◌, ◌++◌, refl}
 use Rattle.nf_token.specs.declared.token.Mark.TheVariants as m
 use Rattle.nf_lexer.specs.declared.open.Open.{Open}
 use Rattle.nf_lexer.specs.declared.open.Open.TheVariants.{Round, Square, Brace}
-use Rattle.nf_printer.specs.Ink.{Ink, inked, mark}
+use Rattle.nf_writer.specs.Ink.{Ink, inked, mark}
 use Rattle.nf_printer.specs.Levels.{round, within}
-use Rattle.nf_printer.specs.Lines.{Layout}
-use Rattle.fmt_tokens.proofs.Told.{told_on, Reads, weaker}
+use Rattle.nf_writer.specs.Lines.{Layout}
+use Rattle.fmt_tokens.proofs.InkLists.{told_on, Reads, weaker}
 use Rattle.fmt_tokens.proofs.Stands.{Stand, Lined, in_round, in_square, in_brace, Any, Apart, ends_any}
 use Rattle.fmt_tokens.proofs.Inks.{mark_told}
 

@@ -1,4 +1,4 @@
--- Fronts after each other.
+-- Two fronts of a text, read one after the other, are one front.
 use Rattle.std.proofs.Common.{ℕ, List, ◌++◌, Option}
 use Rattle.nf_lexer.specs.declared.fault.LexFault.{LexFault}
 use Rattle.nf_lexer.specs.declared.open.Open.{Open}

@@ -1,4 +1,4 @@
--- What each printed ink between strings is read as.
+-- How each ink outside strings is read.
 use Rattle.std.proofs.Common.{◌≡◌, ℕ, ℤ, pos, negsuc, Bool, true, false, List, [], ◌∷◌, ◌++◌, length, refl, sym, ap, ◌∙◌, subst}
 use Rattle.std.proofs.lemmas.List.{append-nil}
 use Rattle.nf_value.specs.declared.place.Place.{Place}
@@ -15,16 +15,16 @@ use Rattle.nf_lexer.specs.Open.{changed}
 use Rattle.nf_lexer.specs.Place.{place_of}
 use Rattle.nf_lexer.specs.Mark.{mark_token, mark_change}
 use Rattle.nf_lexer.specs.Word.{word_token}
-use Rattle.nf_printer.specs.Ink as ink
-use Rattle.nf_printer.specs.Ink.{Ink, ink_text, mark_text, keyword_text, mark, keyword, blank}
-use Rattle.nf_printer.specs.Lines.{Layout}
+use Rattle.nf_writer.specs.Ink as ink
+use Rattle.nf_writer.specs.Ink.{Ink, ink_text, mark_text, keyword_text, mark, keyword, blank}
+use Rattle.nf_writer.specs.Lines.{Layout}
 use Rattle.fmt_tokens.specs.Leads.{Leads}
 use Rattle.fmt_tokens.specs.Bits.{token, Gives}
-use Rattle.fmt_tokens.specs.Retold.{ink_bits}
+use Rattle.fmt_tokens.specs.InkTokens.{ink_bits}
 use Rattle.fmt_tokens.specs.Fits.{IsName, IsNumber}
 use Rattle.fmt_tokens.proofs.Codes.{is_code, fails_first, word_leads, keyword_is_word, keyword_token, name_token, number_leads}
 use Rattle.fmt_tokens.proofs.Marks.{goes_on, mark_leads, separator_leads, blank_leads}
-use Rattle.fmt_tokens.proofs.Told.{Told, Reads}
+use Rattle.fmt_tokens.proofs.InkLists.{Told, Reads}
 use Rattle.fmt_tokens.proofs.Stands.{Stand, Any, Apart, Ends, ends_any, ends_name, ends_number}
 
 -- ---- one ink
@@ -37,10 +37,10 @@ told_one source o p x rest v l g = record {
 }
 
 pub token_gives : (x : Token) (place : Place) → Gives (at (lexed x) place ∷ []) (token x ∷ [])
-token_gives x place = record { pieces = s.lexed (lexeme x place) ∷ []; joins = λ tail. refl; are = refl }
+token_gives x place = record { segments = s.lexed (lexeme x place) ∷ []; joins = λ tail. refl; are = refl }
 
 pub silent_gives : (place : Place) → Gives (at silent place ∷ []) []
-silent_gives place = record { pieces = []; joins = λ tail. refl; are = refl }
+silent_gives place = record { segments = []; joins = λ tail. refl; are = refl }
 
 -- ---- marks
 
@@ -51,7 +51,7 @@ mark_told source o p x rest i f e c =
     (subst (λ z. Leads source o (mark_text x ++ rest) (at (lexed (mark_token x o)) place ∷ []) z rest) c (mark_leads source x rest o i f))
     (subst (λ z. Gives (at (lexed (mark_token x o)) place ∷ []) (token z ∷ [])) e (token_gives (mark_token x o) place))
 
--- neither opens nor closes
+-- a mark that opens or closes brackets
 abbrev pub is_bracket : Mark → Bool
 is_bracket m.OpenRound = true
 is_bracket m.CloseRound = true
@@ -77,7 +77,7 @@ mark_keeps _ o h = refl
 pub mark_reads : {l : Layout} (x : Mark) → is_bracket x ≡ false → Reads (Stand l) (Ends (goes_on x)) (mark x ∷ [])
 mark_reads x h = record { told = λ source o rest s f. mark_told source o o x rest s.code f (mark_is x o h) (mark_keeps x o h) }
 
--- one that no longer mark begins with
+-- a mark that no longer mark begins with
 pub lone_reads : {l : Layout} (x : Mark) → is_bracket x ≡ false → goes_on x ≡ (λ b. false) → Reads (Stand l) Any (mark x ∷ [])
 lone_reads x h e = record { told = λ source o rest s f. mark_told source o o x rest s.code (ap (λ p. fails_first p rest) e ∙ ends_any rest) (mark_is x o h) (mark_keeps x o h) }
 

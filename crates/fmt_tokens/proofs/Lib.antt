@@ -8,7 +8,7 @@ pub mod Marks
 pub mod Plain
 pub mod Patterns
 pub mod Templates
-pub mod Told
+pub mod InkLists
 pub mod Stands
 pub mod Inks
 pub mod Margins

@@ -1,4 +1,4 @@
--- What a line end with its margin is read as, and what stands round the parts of a body.
+-- How a line end with its margin is read, and what stands before, between and after the parts of a body.
 use Rattle.std.proofs.Common.{◌≡◌, ℕ, Bool, true, false, cond, List, [], ◌∷◌, ◌++◌, length, None, refl, sym, ap, ◌∙◌, subst}
 use Rattle.std.specs.Prelude.{◌==◌, ◌&&◌, codes}
 use Rattle.std.specs.List.{list_all}
@@ -12,15 +12,16 @@ use Rattle.nf_lexer.specs.Separators as s
 use Rattle.nf_lexer.specs.Open.{outermost, line_fault, lets_lines_end}
 use Rattle.nf_lexer.specs.Place.{place_of}
 use Rattle.nf_lexer.specs.First.{line_item}
-use Rattle.nf_printer.specs.Ink.{Ink, line}
-use Rattle.nf_printer.specs.Lines.{Layout, lines, inline, deeper, before_first, between, first_before, closure_last}
+use Rattle.nf_writer.specs.Ink.{Ink, line}
+use Rattle.nf_writer.specs.Lines.{Layout, lines, inline, deeper, before_first, between}
+use Rattle.nf_printer.specs.Bodies.{first_before, closure_last}
 use Rattle.fmt_tokens.specs.Leads.{Leads, stays}
 use Rattle.fmt_tokens.specs.Bits.{ending, Gives}
 use Rattle.fmt_tokens.proofs.Tests.{both}
 use Rattle.fmt_tokens.proofs.Fronts.{leads_on}
 use Rattle.fmt_tokens.proofs.Codes.{is_code}
 use Rattle.fmt_tokens.proofs.Marks.{blank_leads, end_leads}
-use Rattle.fmt_tokens.proofs.Told.{Told, gives_on, Reads, on, weaker}
+use Rattle.fmt_tokens.proofs.InkLists.{Told, gives_on, Reads, on, weaker}
 use Rattle.fmt_tokens.proofs.Stands.{Stand, Lined, Any}
 use Rattle.fmt_tokens.proofs.Inks.{told_one, silent_gives, separator_reads, blank_reads}
 
@@ -40,7 +41,7 @@ blank_at : (source : List ℕ) (o : List Open) (b : ℕ) (bs : List ℕ) → is_
 blank_at source o b bs i e = subst (λ z. (place : Place) × Leads source o (z ∷ bs) (at silent place ∷ []) o bs) (sym e) (place_of source (length (32 ∷ bs)), blank_leads source bs o i)
 
 margin_leads : (source : List ℕ) (o : List Open) (m rest : List ℕ) → is_code o ≡ true → list_all is_space m ≡ true → (v : List Placed) × Leads source o (m ++ rest) v o rest × Gives v []
-margin_leads source o [] rest i h = ([], stays, record { pieces = []; joins = λ tail. refl; are = refl })
+margin_leads source o [] rest i h = ([], stays, record { segments = []; joins = λ tail. refl; are = refl })
 margin_leads source o (b ∷ m) rest i h =
     let e = both (b == 32) (list_all is_space m) h in
     let here = blank_at source o b (m ++ rest) i ((Decides-eqb b 32).0 e.0) in
@@ -48,7 +49,7 @@ margin_leads source o (b ∷ m) rest i h =
     (at silent here.0 ∷ more.0, leads_on here.1 more.1, gives_on (silent_gives here.0) more.2)
 
 end_gives : (o : List Open) (place : Place) → lets_lines_end o ≡ true → Gives (at (line_item o) place ∷ []) (ending ∷ [])
-end_gives o place h = subst (λ (z : Item). Gives (at z place ∷ []) (ending ∷ [])) (sym (ap (λ t. cond t line_end silent) h)) (record { pieces = s.line_end_at place ∷ []; joins = λ tail. refl; are = refl })
+end_gives o place h = subst (λ (z : Item). Gives (at z place ∷ []) (ending ∷ [])) (sym (ap (λ t. cond t line_end silent) h)) (record { segments = s.line_end_at place ∷ []; joins = λ tail. refl; are = refl })
 
 line_told : (source : List ℕ) (o : List Open) (m rest : List ℕ) → is_code o ≡ true → outermost line_fault o ≡ None → lets_lines_end o ≡ true → list_all is_space m ≡ true → Told source o o (line m ∷ []) rest
 line_told source o m rest i q n h =

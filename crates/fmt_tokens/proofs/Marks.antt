@@ -1,4 +1,4 @@
--- What each mark, blank and line end is read as.
+-- How each mark, blank and line end is read.
 use Rattle.std.proofs.Common.{◌≡◌, ℕ, Bool, true, false, cond, List, [], ◌∷◌, ◌++◌, length, drop, Some, None, refl, sym, ap, ◌∙◌}
 use Rattle.std.specs.Prelude.{◌==◌, ◌||◌}
 use Rattle.std.proofs.lemmas.List.{drop_at}
@@ -14,14 +14,14 @@ use Rattle.nf_lexer.specs.Open.{outermost, line_fault, changed}
 use Rattle.nf_lexer.specs.Place.{place_of}
 use Rattle.nf_lexer.specs.Mark.{past, mark_or, mark, mark_token, mark_change, marked}
 use Rattle.nf_lexer.specs.First.{line_item, in_code}
-use Rattle.nf_printer.specs.Ink.{mark_text}
+use Rattle.nf_writer.specs.Ink.{mark_text}
 use Rattle.fmt_tokens.specs.Leads.{Leads}
 use Rattle.fmt_tokens.proofs.Strings.{no_fault}
 use Rattle.fmt_tokens.proofs.Tests.{neither, not_not}
 use Rattle.fmt_tokens.proofs.Cuts.{drop_nothing}
 use Rattle.fmt_tokens.proofs.Codes.{is_code, fails_first, first_in_code, item_leads}
 
--- the bytes with which a longer mark goes on
+-- the bytes that make a longer mark of this one
 abbrev pub goes_on : Mark → ℕ → Bool
 goes_on m.Dot b = b == 46
 goes_on m.Minus b = b == 62
@@ -92,7 +92,7 @@ leads_by text x o b w rest e n h i f =
     (first_in_code o place b (w ++ rest) i (no_fault b o n) ∙ mark_code x o place b (w ++ rest) rest (ap (λ z. z ++ rest) e) (h place) f)
     (ap (λ z. drop z (b ∷ (w ++ rest))) (sym long) ∙ drop_at (b ∷ w) rest (length (b ∷ w)) refl)
 
--- a mark, before what no longer mark goes on with
+-- a mark, before a byte that makes no longer mark of it
 pub mark_leads : (text : List ℕ) (x : Mark) (rest : List ℕ) (o : List Open) → is_code o ≡ true → fails_first (goes_on x) rest ≡ true → Leads text o (mark_text x ++ rest) (at (lexed (mark_token x o)) (place_of text (length (mark_text x ++ rest))) ∷ []) (changed (mark_change x o) o) rest
 unfolding in_code
 mark_leads text m.OpenRound rest o i f = leads_by text m.OpenRound o 40 [] rest refl refl (λ place. refl) i f

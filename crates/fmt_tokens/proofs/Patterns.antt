@@ -1,4 +1,4 @@
--- What patterns are read as, with their marks.
+-- How a printed pattern is read, from its `~/` to its `/`.
 use Rattle.std.proofs.Common.{◌≡◌, ℕ, Bool, true, List, [], ◌∷◌, ◌++◌, length, refl, sym, ◌∙◌, subst}
 use Rattle.std.specs.Str.{IsUtf8}
 use Rattle.std.proofs.lemmas.List.{append_assoc}
@@ -13,7 +13,7 @@ use Rattle.nf_lexer.specs.Joined.{at}
 use Rattle.nf_lexer.specs.Open.{outermost, line_fault}
 use Rattle.nf_lexer.specs.Place.{place_of}
 use Rattle.nf_lexer.specs.First.{opens, in_code}
-use Rattle.nf_printer.specs.Ink.{escaped, quoted}
+use Rattle.nf_writer.specs.Ink.{escaped, quoted}
 use Rattle.fmt_tokens.specs.Leads.{Leads}
 use Rattle.fmt_tokens.specs.Fits.{ends_well}
 use Rattle.fmt_tokens.specs.Bits.{token, Gives}

@@ -1,4 +1,4 @@
--- What parts of expressions and statements are read as, joined from theirs.
+-- How the inks of each expression and statement are read, from how those of its parts are.
 use Rattle.std.proofs.Common.{◌≡◌, ℕ, Bool, true, false, List, [], ◌∷◌, ◌++◌, refl, ap}
 use Rattle.std.specs.Prelude.{not, codes}
 use Rattle.nf_token.specs.declared.token.Keyword.{Keyword}
@@ -12,23 +12,24 @@ use Rattle.nf_ast.specs.declared.marks.PrefixOperator.{PrefixOperator}
 use Rattle.nf_ast.specs.declared.marks.PrefixOperator.TheVariants as f
 use Rattle.nf_ast.specs.Tree as tree
 use Rattle.nf_ast.specs.Tree.{Tree}
-use Rattle.nf_printer.specs.Ink as ink
-use Rattle.nf_printer.specs.Ink.{Ink, inked, mark, keyword, blank}
-use Rattle.nf_printer.specs.Lines.{Layout, lines, inline, deeper, between, first_before, closure_last}
-use Rattle.nf_printer.specs.Exprs.{spaced, infix_inks, prefix_ink, comma, colon, equals, truth_ink, colon_alone, blank_after, else_before, inks, listed, parts}
+use Rattle.nf_writer.specs.Ink as ink
+use Rattle.nf_writer.specs.Ink.{Ink, inked, mark, keyword, blank, spaced}
+use Rattle.nf_writer.specs.Lines.{Layout, lines, inline, deeper, between}
+use Rattle.nf_printer.specs.Bodies.{first_before, closure_last}
+use Rattle.nf_printer.specs.Exprs.{infix_inks, prefix_ink, comma, colon, equals, truth_ink, colon_alone, blank_after, else_before, inks, listed, parts}
 use Rattle.fmt_tokens.specs.Fits.{IsName, IsNameTree}
 use Rattle.fmt_tokens.proofs.Marks.{goes_on}
-use Rattle.fmt_tokens.proofs.Told.{Reads, on, weaker, none}
+use Rattle.fmt_tokens.proofs.InkLists.{Reads, on, weaker, none}
 use Rattle.fmt_tokens.proofs.Stands.{Stand, Lined, deeper_lined, Any, Apart}
 use Rattle.fmt_tokens.proofs.Begins.{Begins, Starts, Fronts, apart_starts, starts_not, starts_minus, name_after_dot}
 use Rattle.fmt_tokens.proofs.Inks.{is_bracket, mark_reads, lone_reads, keyword_reads, name_reads, blank_reads}
 use Rattle.fmt_tokens.proofs.Enclosed.{apart, square_reads}
 
--- after what anything may follow
+-- two lists of inks, where anything may follow the first
 pub after : {P : List Open → Type 0} {R : List ℕ → Type 0} {xs ys : List Ink} → Reads P Any xs → Reads P R ys → Reads P R (xs ++ ys)
 after a b = on (λ rest r. tt) a b
 
--- ---- marks with the blanks round them
+-- ---- operators and marks with the blanks round them
 
 pub spaced_reads : {l : Layout} {Q : List ℕ → Type 0} (x : Ink) → ((rest : List ℕ) → Q (32 ∷ rest)) → Reads (Stand l) Q (x ∷ []) → Reads (Stand l) Any (spaced x)
 spaced_reads x f a = after blank_reads (on (λ rest r. f rest) a blank_reads)
@@ -67,7 +68,7 @@ infix_fronts x = record { fronts = λ rest. apart_starts (inked (infix_inks x) +
 pub operator_reads : {l : Layout} {xs ys : List Ink} (x : InfixOperator) → Reads (Stand l) Apart xs → Reads (Stand l) Apart ys → Reads (Stand l) Apart (xs ++ infix_inks x ++ ys)
 operator_reads {l} {xs} {ys} x a b = after (on (λ rest r. infix_begins x rest) a (infix_reads x)) b
 
--- an operand after the mark before it
+-- an operand with the operator before it
 pub prefixed_reads : {l : Layout} {xs : List Ink} (x : PrefixOperator) → Starts xs → Reads (Stand l) Apart xs → Reads (Stand l) Apart (prefix_ink x ∷ xs)
 prefixed_reads {l} {xs} f.Not h a = on (λ rest r. starts_not (inked xs ++ rest) (h.starts rest (apart_starts rest r))) (mark_reads m.Not refl) a
 prefixed_reads {l} {xs} f.Minus h a = on (λ rest r. starts_minus (inked xs ++ rest) (h.starts rest (apart_starts rest r))) (mark_reads m.Minus refl) a
@@ -118,17 +119,17 @@ colon_alone_reads _ = none
 pub map_reads : {l : Layout} {xs : List Ink} (t : Tree) → Reads (Stand l) Apart xs → Reads (Stand l) Apart (mark m.OpenSquare ∷ colon_alone t ++ xs ++ mark m.CloseSquare ∷ [])
 map_reads t a = apart (square_reads (after (colon_alone_reads t) a))
 
--- names before an arrow
+-- parameters before an arrow
 pub params_reads : {l : Layout} (t : Tree) → Reads (Stand l) Apart (listed t l []) → Reads (Stand l) Apart (blank ∷ listed t l [] ++ blank_after t ++ mark m.Arrow ∷ [])
 params_reads tree.empty a = blank_before (apart (lone_reads m.Arrow refl refl))
 params_reads _ a = blank_before (after (on (λ rest r. refl) a blank_reads) (apart (lone_reads m.Arrow refl refl)))
 
--- what stands after `else`, and the word before it
+-- `else` and what stands after it
 else_reads : {l : Layout} {xs : List Ink} (t : Tree) → Reads (Stand l) Apart xs → Reads (Stand l) Apart (inks t l false) → Reads (Stand l) Apart (xs ++ else_before t ++ inks t l false)
 else_reads tree.empty a b = on (λ rest r. r) (on (λ rest r. r) a none) b
 else_reads _ a b = after (on (λ rest r. refl) a (spaced_keyword k.Else)) b
 
--- a condition in brackets, what is done where it holds, and what where not
+-- an `if`: its condition in brackets, its block, and what stands after it
 pub choice_reads : {l : Layout} {xs ys : List Ink} (t : Tree) → Reads (Stand l) Any xs → Reads (Stand l) Apart ys → Reads (Stand l) Apart (inks t l false) → Reads (Stand l) Apart (keyword k.If ∷ blank ∷ xs ++ blank ∷ ys ++ else_before t ++ inks t l false)
 choice_reads t a b c = word_reads k.If (else_reads t (after a (blank_before b)) c)
 
@@ -175,6 +176,6 @@ last_begins true l rest a = refl
 last_begins false (lines n) rest a = refl
 last_begins false inline rest a = refl
 
--- what stands on a margin more
+-- a body, indented once more
 pub shallower : {l : Layout} {Q : List ℕ → Type 0} {xs : List Ink} → Reads (Lined (deeper l)) Q xs → Reads (Lined l) Q xs
 shallower {l} a = weaker (λ o s. deeper_lined l o s) (λ rest q. q) a

@@ -1,4 +1,4 @@
--- What a whole template is read as, from its parts.
+-- How a whole template is read: from its first quote, through its texts and holes, to its last.
 use Rattle.std.proofs.Common.{◌≡◌, ℕ, Bool, true, List, [], ◌∷◌, ◌++◌, length, Option, Some, None, refl, sym, ap, ◌∙◌, subst}
 use Rattle.std.specs.Prelude.{not, ◌==◌, ◌||◌}
 use Rattle.std.proofs.lemmas.List.{append_assoc, append-nil}
@@ -16,25 +16,25 @@ use Rattle.nf_lexer.specs.Joined.{Placed, at, nothing, joined, lexeme}
 use Rattle.nf_lexer.specs.Separators as s
 use Rattle.nf_lexer.specs.Place.{place_of}
 use Rattle.nf_token.specs.Spellings.{closing}
-use Rattle.nf_printer.specs.Ink as ink
-use Rattle.nf_printer.specs.Ink.{Ink, ink_text, inked, letter, with_letter, byte_text, escaped}
-use Rattle.nf_printer.specs.Lines.{Layout, inline, is_inline}
+use Rattle.nf_writer.specs.Ink as ink
+use Rattle.nf_writer.specs.Ink.{Ink, ink_text, inked, letter, with_letter, byte_text, escaped}
+use Rattle.nf_writer.specs.Lines.{Layout, inline, is_inline}
 use Rattle.fmt_tokens.specs.Leads.{Leads}
 use Rattle.fmt_tokens.specs.Bits.{Bit, token, Gives}
-use Rattle.fmt_tokens.specs.Retold.{inks_bits}
+use Rattle.fmt_tokens.specs.InkTokens.{inks_bits}
 use Rattle.fmt_tokens.specs.Fits.{IsPiece, is_some_text}
 use Rattle.fmt_tokens.proofs.Fronts.{leads_on}
-use Rattle.fmt_tokens.proofs.Written.{quote_mark, more_marks, closing_is, none_mark}
+use Rattle.fmt_tokens.proofs.Written.{quote, more_quotes, closing_is, none_quote}
 use Rattle.fmt_tokens.proofs.Strings.{Writes, text_found}
 use Rattle.fmt_tokens.proofs.Codes.{fails_first}
 use Rattle.fmt_tokens.proofs.Plain.{end_leads, differs}
 use Rattle.fmt_tokens.proofs.Templates.{opens_well, begin_leads, hole_leads, hole_end_leads, text_gives}
-use Rattle.fmt_tokens.proofs.Told.{Told, gives_on, told_on, Reads}
+use Rattle.fmt_tokens.proofs.InkLists.{Told, gives_on, told_on, Reads}
 use Rattle.fmt_tokens.proofs.Stands.{Stand, in_hole, Apart, ends_double}
 use Rattle.fmt_tokens.proofs.Inks.{told_one, token_gives}
 use Rattle.fmt_tokens.proofs.Quoted.{template_calm}
 
--- inside a template, inks that begin with a token of the template, up to its end
+-- inside a template: inks that begin with a token of it and go on to its last quote
 pub record Going (source : List ℕ) (q : TemplateKind) (p : Place) (o : List Open) (xs : List Ink) (rest : List ℕ) : Type 0 where
   pub first : Token
   pub place : Place
@@ -59,10 +59,10 @@ going_told {source} {q} {p} {o} {xs} {rest} g = record {
 -- ---- the end
 
 nothing_gives : Gives [] []
-nothing_gives = record { pieces = []; joins = λ tail. refl; are = refl }
+nothing_gives = record { segments = []; joins = λ tail. refl; are = refl }
 
-mark_special : (q : TemplateKind) → is_special (quote_mark (Template q)) ≡ true
-mark_special q = refl
+quote_special : (q : TemplateKind) → is_special (quote (Template q)) ≡ true
+quote_special q = refl
 
 pub going_end : (source : List ℕ) (q : TemplateKind) (p : Place) (o : List Open) (rest : List ℕ) → Going source q p o (ink.close_template q ∷ []) rest
 going_end source q p o rest =
@@ -76,10 +76,10 @@ going_end source q p o rest =
       leads = subst (λ z. Leads source (Text (Template q) p ∷ o) (z ++ rest) (at (lexed (t.CloseTemplate q)) e.2.0 ∷ []) o rest) (sym (append-nil (closing (Template q)))) whole;
       gives = nothing_gives;
       are = refl;
-      byte = quote_mark (Template q);
-      after = more_marks (Template q) ++ rest;
+      byte = quote (Template q);
+      after = more_quotes (Template q) ++ rest;
       begins = ap (λ z. z ++ rest) (append-nil (closing (Template q)) ∙ closing_is (Template q));
-      special = mark_special q;
+      special = quote_special q;
     }
 
 -- ---- a hole
@@ -118,7 +118,7 @@ two_give : (v : List Placed) (w : List ℕ) (r : Writes v w) (b : ℕ) (u : List
 two_give v w r b u e x p items left g =
     let two = text_gives v w r b u e x p in
     record {
-      pieces = s.lexed (lexeme (t.TemplateText w) two.0) ∷ s.lexed (lexeme x p) ∷ g.pieces;
+      segments = s.lexed (lexeme (t.TemplateText w) two.0) ∷ s.lexed (lexeme x p) ∷ g.segments;
       joins = λ tail. ap (joined nothing) (append_assoc v (at (lexed x) p ∷ items) tail) ∙ two.1 (items ++ tail) ∙ ap (λ z. s.lexed (lexeme (t.TemplateText w) two.0) ∷ s.lexed (lexeme x p) ∷ z) (g.joins tail);
       are = ap (λ z. token (t.TemplateText w) ∷ token x ∷ z) g.are;
     }
@@ -145,7 +145,7 @@ text_told l (b ∷ w) s h g = text_by l b w s h g
 
 first_double : (l : Bool) (b : ℕ) (bs : List ℕ) (x : Option ℕ) → letter (Template Double) l b ≡ x → differs 34 (with_letter b x ++ bs) ≡ true
 first_double l b bs (Some c) e = refl
-first_double l b bs None e = ap (λ t. not t || fails_first (λ c. c == 34) bs) (none_mark (Template Double) l b e)
+first_double l b bs None e = ap (λ t. not t || fails_first (λ c. c == 34) bs) (none_quote (Template Double) l b e)
 
 text_begins : (l : Bool) (w bs : List ℕ) → is_some_text w ≡ true → differs 34 (escaped (Template Double) l w ++ bs) ≡ true
 text_begins l [] bs h = absurd cc

@@ -1,4 +1,4 @@
--- What plain strings and patterns are read as, with their marks.
+-- How a printed string without holes is read, from its first quote to its last.
 use Rattle.std.proofs.Common.{◌≡◌, ℕ, Bool, true, false, List, [], ◌∷◌, ◌++◌, length, take, drop, Option, Some, None, refl, sym, ap, ◌∙◌, subst, arith}
 use Rattle.std.specs.Prelude.{nat_eq, not, ◌==◌, ◌||◌}
 use Rattle.std.specs.List.{starts_with}
@@ -22,13 +22,13 @@ use Rattle.nf_lexer.specs.Open.{outermost, line_fault}
 use Rattle.nf_lexer.specs.Place.{place_of}
 use Rattle.nf_token.specs.Spellings.{closing}
 use Rattle.nf_lexer.specs.First.{opens, slash, in_code, ended, has_escapes, in_text}
-use Rattle.nf_printer.specs.Ink.{letter, with_letter, byte_text, escaped, quoted}
+use Rattle.nf_writer.specs.Ink.{letter, with_letter, byte_text, escaped, quoted}
 use Rattle.fmt_tokens.specs.Leads.{Leads}
 use Rattle.fmt_tokens.specs.Fits.{ends_well, begins_slashed}
 use Rattle.fmt_tokens.specs.Bits.{Bit, token, Gives}
 use Rattle.fmt_tokens.proofs.Tests.{if_true, if_false, neither, not_not}
 use Rattle.fmt_tokens.proofs.Fronts.{leads_on}
-use Rattle.fmt_tokens.proofs.Written.{quote_mark, more_marks, closing_is, none_mark}
+use Rattle.fmt_tokens.proofs.Written.{quote, more_quotes, closing_is, none_quote}
 use Rattle.fmt_tokens.proofs.Strings.{Writes, writes_none, writes_more, first_in_text, no_fault, Calm, string_found}
 use Rattle.fmt_tokens.proofs.Codes.{is_code, fails_first, first_in_code, item_leads}
 
@@ -37,26 +37,26 @@ use Rattle.fmt_tokens.proofs.Codes.{is_code, fails_first, first_in_code, item_le
 pub closes_front : (w rest : List ℕ) → starts_with nat_eq (w ++ rest) w ≡ true
 closes_front w rest = (bytes_decides w (take (length w) (w ++ rest))).1 (sym (take_at w rest (length w) refl))
 
-mark_no_end : (k : TextKind) → (quote_mark k == 10) ≡ false
-mark_no_end (Plain Single) = refl
-mark_no_end (Plain TripleSingle) = refl
-mark_no_end (Plain Slashes) = refl
-mark_no_end Pattern = refl
-mark_no_end (Template k) = refl
+quote_no_end : (k : TextKind) → (quote k == 10) ≡ false
+quote_no_end (Plain Single) = refl
+quote_no_end (Plain TripleSingle) = refl
+quote_no_end (Plain Slashes) = refl
+quote_no_end Pattern = refl
+quote_no_end (Template k) = refl
 
-end_read : (k : TextKind) (place : Place) (rest : List ℕ) → in_text k place (quote_mark k) (more_marks k ++ rest) ≡ passes (ended k) Leave (length (closing k))
+end_read : (k : TextKind) (place : Place) (rest : List ℕ) → in_text k place (quote k) (more_quotes k ++ rest) ≡ passes (ended k) Leave (length (closing k))
 unfolding in_text
 end_read k place rest =
-    if_true (starts_with nat_eq (quote_mark k ∷ (more_marks k ++ rest)) (closing k)) _ _
+    if_true (starts_with nat_eq (quote k ∷ (more_quotes k ++ rest)) (closing k)) _ _
     (ap (λ z. starts_with nat_eq (z ++ rest) (closing k)) (sym (closing_is k)) ∙ closes_front (closing k) rest)
 
--- the marks that close what is open
+-- the last quotes
 pub end_leads : (source : List ℕ) (k : TextKind) (p : Place) (o : List Open) (rest : List ℕ) → (v : List Placed) × Leads source (Text k p ∷ o) (closing k ++ rest) v o rest × ((place : Place) × (v ≡ at (ended k) place ∷ []))
 end_leads source k p o rest =
-    let bs = quote_mark k ∷ (more_marks k ++ rest) in
+    let bs = quote k ∷ (more_quotes k ++ rest) in
     let place = place_of source (length bs) in
     let d : drop (length (closing k)) bs ≡ rest = ap (λ z. drop (length (closing k)) (z ++ rest)) (sym (closing_is k)) ∙ drop_at (closing k) rest (length (closing k)) refl in
-    let leads = item_leads source bs rest (Text k p ∷ o) (ended k) Leave (length (closing k)) (first_in_text k p place o (quote_mark k) (more_marks k ++ rest) (no_fault (quote_mark k) (Text k p ∷ o) (mark_no_end k)) ∙ end_read k place rest) d in
+    let leads = item_leads source bs rest (Text k p ∷ o) (ended k) Leave (length (closing k)) (first_in_text k p place o (quote k) (more_quotes k ++ rest) (no_fault (quote k) (Text k p ∷ o) (quote_no_end k)) ∙ end_read k place rest) d in
     (at (ended k) place ∷ [], subst (λ z. Leads source (Text k p ∷ o) (z ++ rest) (at (ended k) place ∷ []) o rest) (sym (closing_is k)) leads, (place, refl))
 
 -- ---- what the parts come to
@@ -67,21 +67,21 @@ writes_join _ _ (writes_more x place {v} {bs} r) start u tail = writes_join v bs
 
 plain_gives : (k : PlainKind) (v : List Placed) (w : List ℕ) (start place : Place) → Writes v w → Gives (at (written []) start ∷ (v ++ at (ended (Plain k)) place ∷ [])) (token (t.Plain k w) ∷ [])
 plain_gives k v w start place r = record {
-  pieces = s.lexed (lexeme (t.Plain k w) start) ∷ [];
+  segments = s.lexed (lexeme (t.Plain k w) start) ∷ [];
   joins = λ tail. ap (λ z. joined (text start []) z) (append_assoc v (at (ended (Plain k)) place ∷ []) tail) ∙ writes_join v w r start [] (at (ended (Plain k)) place ∷ tail);
   are = refl;
 }
 
 pub pattern_gives : (v : List Placed) (w : List ℕ) (start place : Place) → Writes v w → Gives (at (written []) start ∷ (v ++ at (ended Pattern) place ∷ [])) (token (t.Pattern w) ∷ [])
 pattern_gives v w start place r = record {
-  pieces = s.lexed (lexeme (t.Pattern w) start) ∷ [];
+  segments = s.lexed (lexeme (t.Pattern w) start) ∷ [];
   joins = λ tail. ap (λ z. joined (text start []) z) (append_assoc v (at (ended Pattern) place ∷ []) tail) ∙ writes_join v w r start [] (at (ended Pattern) place ∷ tail);
   are = refl;
 }
 
 -- ---- where it begins
 
--- one mark alone: what follows isn't two more of it
+-- one quote alone: two more of it don't follow
 abbrev pub differs : ℕ → List ℕ → Bool
 differs q [] = true
 differs q (c ∷ bs) = not (c == q) || fails_first (λ b. b == q) bs
@@ -126,35 +126,35 @@ slash_opens place (c ∷ bs) h =
     let e = neither (c == 47) (c == 42) (not_not (c == 47 || c == 42) h) in
     if_false (c == 47) _ _ e.0 ∙ if_false (c == 42) _ _ e.1
 
-plain_code : (k : PlainKind) (o : List Open) (place : Place) (bs : List ℕ) → opens_well k bs ≡ true → in_code o place (quote_mark (Plain k)) (more_marks (Plain k) ++ bs) ≡ opens (Plain k) place (length (closing (Plain k)))
+plain_code : (k : PlainKind) (o : List Open) (place : Place) (bs : List ℕ) → opens_well k bs ≡ true → in_code o place (quote (Plain k)) (more_quotes (Plain k) ++ bs) ≡ opens (Plain k) place (length (closing (Plain k)))
 unfolding in_code
 plain_code Single o place bs h = if_false (starts_with nat_eq (39 ∷ bs) (39 ∷ 39 ∷ 39 ∷ [])) _ _ (not_three 39 bs h)
 plain_code TripleSingle o place bs h = if_true (starts_with nat_eq (39 ∷ 39 ∷ 39 ∷ bs) (39 ∷ 39 ∷ 39 ∷ [])) (opens (Plain TripleSingle) place 3) (opens (Plain Single) place 1) (closes_front (39 ∷ 39 ∷ 39 ∷ []) bs)
 plain_code Slashes o place bs h = slash_opens place bs h
 
--- the marks that open a string
+-- the first quotes
 begin_leads : (source : List ℕ) (k : PlainKind) (o : List Open) (bs : List ℕ) → is_code o ≡ true → opens_well k bs ≡ true → (place : Place) × Leads source o (closing (Plain k) ++ bs) (at (written []) place ∷ []) (Text (Plain k) place ∷ o) bs
 begin_leads source k o bs i h =
-    let all = quote_mark (Plain k) ∷ (more_marks (Plain k) ++ bs) in
+    let all = quote (Plain k) ∷ (more_quotes (Plain k) ++ bs) in
     let place = place_of source (length all) in
     let d : drop (length (closing (Plain k))) all ≡ bs = ap (λ z. drop (length (closing (Plain k))) (z ++ bs)) (sym (closing_is (Plain k))) ∙ drop_at (closing (Plain k)) bs (length (closing (Plain k))) refl in
-    let leads = item_leads source all bs o (written []) (Enter (Text (Plain k) place)) (length (closing (Plain k))) (first_in_code o place (quote_mark (Plain k)) (more_marks (Plain k) ++ bs) i (no_fault (quote_mark (Plain k)) o (mark_no_end (Plain k))) ∙ plain_code k o place bs h) d in
+    let leads = item_leads source all bs o (written []) (Enter (Text (Plain k) place)) (length (closing (Plain k))) (first_in_code o place (quote (Plain k)) (more_quotes (Plain k) ++ bs) i (no_fault (quote (Plain k)) o (quote_no_end (Plain k))) ∙ plain_code k o place bs h) d in
     (place, subst (λ z. Leads source o (z ++ bs) (at (written []) place ∷ []) (Text (Plain k) place ∷ o) bs) (sym (closing_is (Plain k))) leads)
 
 -- ---- the whole
 
--- a string that a text can spell: what its bytes mean, and what it may begin and end with
+-- what is asked of a string that a text can spell: of its bytes, its first and its last
 abbrev pub begins_well : PlainKind → List ℕ → Bool
 begins_well Slashes w = begins_slashed w
 begins_well _ w = true
 
 first_single : (l : Bool) (b : ℕ) (bs : List ℕ) (x : Option ℕ) → letter (Plain Single) l b ≡ x → differs 39 (with_letter b x ++ bs) ≡ true
 first_single l b bs (Some c) e = refl
-first_single l b bs None e = ap (λ t. not t || fails_first (λ c. c == 39) bs) (none_mark (Plain Single) l b e)
+first_single l b bs None e = ap (λ t. not t || fails_first (λ c. c == 39) bs) (none_quote (Plain Single) l b e)
 
 first_slash : (l : Bool) (b : ℕ) (bs : List ℕ) (x : Option ℕ) → letter (Plain Slashes) l b ≡ x → not (b == 42) ≡ true → no_comment (with_letter b x ++ bs) ≡ true
 first_slash l b bs (Some c) e h = refl
-first_slash l b bs None e h = ap (λ t. not (t || b == 42)) (none_mark (Plain Slashes) l b e) ∙ h
+first_slash l b bs None e h = ap (λ t. not (t || b == 42)) (none_quote (Plain Slashes) l b e) ∙ h
 
 opening_fits : (k : PlainKind) (l : Bool) (w rest : List ℕ) → begins_well k w ≡ true → fails_first (λ c. c == 39) rest ≡ true → opens_well k (escaped (Plain k) l w ++ (closing (Plain k) ++ rest)) ≡ true
 opening_fits Single l [] rest b h = h
@@ -167,7 +167,7 @@ opening_fits Slashes l (c ∷ w) rest b h =
     ap no_comment (append_assoc (byte_text (Plain Slashes) l c) (escaped (Plain Slashes) l w) (47 ∷ rest))
     ∙ first_slash l c (escaped (Plain Slashes) l w ++ 47 ∷ rest) (letter (Plain Slashes) l c) refl b
 
--- what is read of these bytes, between tokens: items that come to these tokens
+-- outside strings, these bytes are read as items that come to these bits
 abbrev pub ReadAs : List ℕ → List Open → List ℕ → List ℕ → List Bit → Type 0
 ReadAs source o bs rest bits = (v : List Placed) × Leads source o bs v o rest × Gives v bits
 

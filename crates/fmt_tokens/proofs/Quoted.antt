@@ -1,4 +1,4 @@
--- What printed strings and patterns are read as.
+-- How an ink that is a string or a pattern is read.
 use Rattle.std.proofs.Common.{◌≡◌, ℕ, Bool, true, false, List, [], ◌∷◌, ◌++◌, Option, None, refl, ap, arith}
 use Rattle.std.specs.Prelude.{◌==◌}
 use Rattle.std.specs.List.{list_all}
@@ -17,16 +17,16 @@ use Rattle.nf_lexer.specs.declared.open.Open.TheVariants.{Text}
 use Rattle.nf_lexer.specs.Bytes.{is_not_line_feed}
 use Rattle.nf_lexer.specs.Open.{rather, outermost, line_fault}
 use Rattle.nf_lexer.specs.First.{has_escapes}
-use Rattle.nf_printer.specs.Ink as ink
-use Rattle.nf_printer.specs.Ink.{Ink, ink_text, letter}
-use Rattle.nf_printer.specs.Lines.{Layout, is_inline}
-use Rattle.fmt_tokens.specs.Retold.{ink_bits}
+use Rattle.nf_writer.specs.Ink as ink
+use Rattle.nf_writer.specs.Ink.{Ink, ink_text, letter}
+use Rattle.nf_writer.specs.Lines.{Layout, is_inline}
+use Rattle.fmt_tokens.specs.InkTokens.{ink_bits}
 use Rattle.fmt_tokens.specs.Fits.{IsPlain, IsSlashed, ends_well}
 use Rattle.fmt_tokens.proofs.Tests.{both}
 use Rattle.fmt_tokens.proofs.Strings.{Calm}
 use Rattle.fmt_tokens.proofs.Plain.{ReadAs, begins_well, plain_read}
 use Rattle.fmt_tokens.proofs.Patterns.{pattern_read}
-use Rattle.fmt_tokens.proofs.Told.{Told, Reads}
+use Rattle.fmt_tokens.proofs.InkLists.{Told, Reads}
 use Rattle.fmt_tokens.proofs.Stands.{Stand, Apart, ends_single}
 use Rattle.fmt_tokens.proofs.Inks.{told_one}
 

@@ -1,17 +1,18 @@
--- What stands at the top of a script is read as its bits.
+-- How the inks of processes, workflows and the other tops are read, and of a whole script.
 use Rattle.std.proofs.Common.{ℕ, pos, Bool, true, false, List, [], ◌∷◌, ◌++◌, refl, arith}
 use Rattle.std.specs.Prelude.{codes, if◌then◌else◌}
 use Rattle.nf_token.specs.declared.token.Keyword.TheVariants as k
 use Rattle.nf_token.specs.declared.token.Mark.TheVariants as m
 use Rattle.nf_ast.specs.Tree as tree
 use Rattle.nf_ast.specs.Tree.{Tree}
-use Rattle.nf_printer.specs.Ink.{Ink, inked, mark, blank, line}
+use Rattle.nf_writer.specs.Ink.{Ink, inked, mark, blank, line}
 use Rattle.nf_printer.specs.Levels.{begins_round}
-use Rattle.nf_printer.specs.Lines.{Layout, is_expr}
+use Rattle.nf_writer.specs.Lines.{Layout, outside}
+use Rattle.nf_printer.specs.Bodies.{is_expr}
 use Rattle.nf_printer.specs.Exprs.{comma, listed}
-use Rattle.nf_printer.specs.Tops.{outside, inside, inner_line, word, part, on_lines, braced, headed, section, statements, body_section, directive_args, directive, value_part, value_parts, some_value, output, task, process_parts, workflow_parts, maybe_name, dsl, top, tops, script}
+use Rattle.nf_printer.specs.Tops.{inside, inner_line, word, part, on_lines, braced, headed, section, statements, body_section, directive_args, directive, value_part, value_parts, some_value, output, task, process_parts, workflow_parts, maybe_name, dsl, top, tops, script}
 use Rattle.fmt_tokens.specs.Fits.{IsName, Fits}
-use Rattle.fmt_tokens.proofs.Told.{Reads, on, weaker, none}
+use Rattle.fmt_tokens.proofs.InkLists.{Reads, on, weaker, none}
 use Rattle.fmt_tokens.proofs.Stands.{Stand, Lined, deeper_stand, Any, Apart}
 use Rattle.fmt_tokens.proofs.Begins.{Begins, Starts, Fronts, fronts_on}
 use Rattle.fmt_tokens.proofs.Inks.{lone_reads, name_reads, number_reads, blank_reads}
@@ -28,7 +29,7 @@ inner_reads = before_reads inside refl
 part_reads : (t : Tree) → Fits t → Reads (Stand inside) Apart (part t)
 part_reads t f = tree_reads t inside false refl f
 
--- on the outside too
+-- the same outside of all braces
 outwards : {Q : List ℕ → Type 0} {xs : List Ink} → Reads (Stand inside) Q xs → Reads (Stand outside) Q xs
 outwards a = weaker (λ o s. deeper_stand outside o s) (λ rest q. q) a
 

@@ -1,4 +1,4 @@
--- The tokens of pieces are those of their bits.
+-- The tokens that the lexer makes of segments are those of their bits.
 use Rattle.std.proofs.Common.{◌≡◌, Bool, true, false, cond, List, [], ◌∷◌, refl, ap, ◌∙◌}
 use Rattle.std.specs.Prelude.{not, ◌&&◌, map}
 use Rattle.nf_token.specs.declared.token.Token.{Token}
@@ -7,7 +7,7 @@ use Rattle.nf_token.specs.declared.token.Lexeme.{Lexeme}
 use Rattle.nf_lexer.specs.Separators as s
 use Rattle.nf_lexer.specs.Separators.{Segment, is_separator}
 use Rattle.fmt_tokens.specs.Bits.{token_of, bit_of}
-use Rattle.fmt_tokens.specs.Retold as r
+use Rattle.fmt_tokens.specs.InkTokens as r
 
 last_awaits : (before : List Lexeme) → s.last_awaits_more before ≡ r.last_awaits_more (map token_of before)
 last_awaits [] = refl

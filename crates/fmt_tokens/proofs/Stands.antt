@@ -1,4 +1,4 @@
--- Where inks may stand: by what is open, and by what follows.
+-- Where an ink may stand: what may be open before it, and what may follow it.
 use Rattle.std.proofs.Common.{◌≡◌, ℕ, Bool, true, false, List, [], ◌∷◌, None, refl, ap, arith}
 use Rattle.std.specs.Prelude.{not, ◌==◌, ◌||◌}
 use Rattle.std.proofs.lemmas.Bool.Decides.{nat_tests}
@@ -7,17 +7,17 @@ use Rattle.nf_lexer.specs.declared.open.Open.{Open}
 use Rattle.nf_lexer.specs.declared.open.Open.TheVariants.{Round, Square, Brace, Hole}
 use Rattle.nf_lexer.specs.Bytes.{is_in_name}
 use Rattle.nf_lexer.specs.Open.{rather, outermost, line_fault, lets_lines_end}
-use Rattle.nf_printer.specs.Lines.{Layout, lines, inline, is_inline, deeper}
+use Rattle.nf_writer.specs.Lines.{Layout, lines, inline, is_inline, deeper}
 use Rattle.fmt_tokens.proofs.Codes.{is_code, fails_first}
 
 -- ---- what is open
 
--- tokens may stand here, and line ends where the layout has them
+-- a token may stand here, and a line end where the layout has line ends
 pub record Stand (l : Layout) (o : List Open) : Type 0 where
   pub code : is_code o ≡ true
   pub quiet : is_inline l ≡ false → outermost line_fault o ≡ None
 
--- line ends separate here
+-- line ends are separators here, and not inside brackets
 pub record Lined (l : Layout) (o : List Open) : Type 0 where
   pub stand : Stand l o
   pub ends : lets_lines_end o ≡ true
@@ -62,7 +62,7 @@ abbrev pub is_apart : List ℕ → Bool
 is_apart [] = true
 is_apart (b ∷ rest) = parts_tokens b
 
--- no token goes on into it
+-- these bytes make no token before them longer
 abbrev pub Apart : List ℕ → Type 0
 Apart rest = is_apart rest ≡ true
 

@@ -1,4 +1,4 @@
--- What a printed string is read as.
+-- How what is printed between the quotes of a string is read.
 use Rattle.std.proofs.Common.{◌≡◌, ℕ, ◌<◌, Bool, true, false, cond, List, [], ◌∷◌, ◌++◌, length, drop, Option, Some, None, refl, sym, ap, ◌∙◌, subst, arith}
 use Rattle.std.specs.Prelude.{not, ◌==◌, ◌&&◌}
 use Rattle.std.specs.List.{list_all}
@@ -24,19 +24,19 @@ use Rattle.nf_lexer.specs.Open.{outermost, line_fault}
 use Rattle.nf_lexer.specs.Place.{place_of}
 use Rattle.nf_token.specs.Spellings.{closing}
 use Rattle.nf_lexer.specs.First.{has_escapes, in_text, broken_or, fault_at, first}
-use Rattle.nf_printer.specs.Ink.{letter, with_letter, byte_text, escaped}
+use Rattle.nf_writer.specs.Ink.{letter, with_letter, byte_text, escaped}
 use Rattle.fmt_tokens.specs.Leads.{Leads, stays, goes}
 use Rattle.fmt_tokens.specs.Fits.{ends_well}
 use Rattle.fmt_tokens.proofs.Tests.{both, is_nothing}
 use Rattle.fmt_tokens.proofs.Cuts.{Cut, done, more, cut, run_before, utf8_before, utf8_from, utf8_after, drop_nothing}
-use Rattle.fmt_tokens.proofs.Written.{quote_mark, more_marks, closing_is, no_mark_next, none_mark, run_read, letter_read, special_read}
+use Rattle.fmt_tokens.proofs.Written.{quote, more_quotes, closing_is, no_slash_next, none_quote, run_read, letter_read, special_read}
 
--- these items are bytes that are written, and all of them these
+-- these items are the bytes of a text, all of them
 pub data Writes : List Placed → List ℕ → Type 0 where
   writes_none : Writes [] []
   writes_more : (w : List ℕ) (place : Place) {v : List Placed} {bs : List ℕ} → Writes v bs → Writes (at (written w) place ∷ v) (w ++ bs)
 
--- in what is open, the bytes up to the rest are read as these
+-- inside this string, the bytes before the rest are read as this text
 abbrev pub Found : List ℕ → List Open → List ℕ → List ℕ → List ℕ → Type 0
 Found text o bs rest w = (v : List Placed) × Leads text o bs v o rest × Writes v w
 
@@ -74,7 +74,7 @@ not_ten b h = grind (arith, nat_tests)
 special_ends : (c : ℕ) → is_special c ≡ true → is_ordinary c ≡ false
 special_ends c h = ap not h
 
--- a run of bytes that stand for themselves, before one that may mean something
+-- a run of bytes that are printed as they are, before one that may mean something
 run_found : (text : List ℕ) (k : TextKind) (l : Bool) (p : Place) (o : List Open) (run : List ℕ) (x : ℕ) (bs rest w : List ℕ) → list_all (stands k l) run ≡ true → IsUtf8 run → is_special x ≡ true → Found text (Text k p ∷ o) (x ∷ bs) rest w → Found text (Text k p ∷ o) (run ++ x ∷ bs) rest (run ++ w)
 run_found text k l p o [] x bs rest w h u s f = f
 run_found text k l p o (b ∷ run) x bs rest w h u s f =
@@ -136,7 +136,7 @@ escaped_parts k l run w rest c h =
     ∙ ap (λ z. (z ++ (byte_text k l c ++ escaped k l w)) ++ rest) (sym (plain_escaped k l run h))
     ∙ ap (λ z. z ++ rest) (sym (flat_map-append (byte_text k l) run (c ∷ w)))
 
--- ---- what a backslash and a line end between marks ask for
+-- ---- what is asked of a backslash and of a line end in a string
 
 ends_after : (run : List ℕ) (c : ℕ) (w : List ℕ) → ends_well (run ++ c ∷ w) ≡ true → ends_well (c ∷ w) ≡ true
 ends_after [] c w h = h
@@ -151,29 +151,29 @@ calm_after : (k : TextKind) (l : Bool) (f : Option LexFault) (run : List ℕ) (c
 calm_after k l f [] c w h = h
 calm_after k l f (b ∷ run) c w h = calm_after k l f run c w h.1
 
-slash_mark : (k : TextKind) → has_escapes k ≡ false → quote_mark k ≡ 47
-slash_mark (Plain Single) h = absurd cc
-slash_mark (Plain TripleSingle) h = absurd cc
-slash_mark (Plain Slashes) h = refl
-slash_mark Pattern h = refl
-slash_mark (Template k) h = absurd cc
+slash_quote : (k : TextKind) → has_escapes k ≡ false → quote k ≡ 47
+slash_quote (Plain Single) h = absurd cc
+slash_quote (Plain TripleSingle) h = absurd cc
+slash_quote (Plain Slashes) h = refl
+slash_quote Pattern h = refl
+slash_quote (Template k) h = absurd cc
 
-no_mark_by : (k : TextKind) (l : Bool) (d : ℕ) (bs : List ℕ) (x : Option ℕ) → letter k l d ≡ x → has_escapes k ≡ false → no_mark_next (with_letter d x ++ bs) ≡ true
-no_mark_by k l d bs (Some c) e h = refl
-no_mark_by k l d bs None e h = ap not (ap (λ z. d == z) (sym (slash_mark k h)) ∙ none_mark k l d e)
+no_slash_by : (k : TextKind) (l : Bool) (d : ℕ) (bs : List ℕ) (x : Option ℕ) → letter k l d ≡ x → has_escapes k ≡ false → no_slash_next (with_letter d x ++ bs) ≡ true
+no_slash_by k l d bs (Some c) e h = refl
+no_slash_by k l d bs None e h = ap not (ap (λ z. d == z) (sym (slash_quote k h)) ∙ none_quote k l d e)
 
-no_mark : (k : TextKind) (l : Bool) (w rest : List ℕ) → has_escapes k ≡ false → ends_well (92 ∷ w) ≡ true → no_mark_next (escaped k l w ++ rest) ≡ true
-no_mark k l [] rest h e = absurd cc
-no_mark k l (d ∷ w) rest h e =
-    ap no_mark_next (append_assoc (byte_text k l d) (escaped k l w) rest)
-    ∙ no_mark_by k l d (escaped k l w ++ rest) (letter k l d) refl h
+no_slash_comes : (k : TextKind) (l : Bool) (w rest : List ℕ) → has_escapes k ≡ false → ends_well (92 ∷ w) ≡ true → no_slash_next (escaped k l w ++ rest) ≡ true
+no_slash_comes k l [] rest h e = absurd cc
+no_slash_comes k l (d ∷ w) rest h e =
+    ap no_slash_next (append_assoc (byte_text k l d) (escaped k l w) rest)
+    ∙ no_slash_by k l d (escaped k l w ++ rest) (letter k l d) refl h
 
-no_mark_after : (k : TextKind) (l : Bool) (c : ℕ) (w rest : List ℕ) → (has_escapes k ≡ false → ends_well (c ∷ w) ≡ true) → (c == 92) ≡ true → has_escapes k ≡ false → no_mark_next (escaped k l w ++ rest) ≡ true
-no_mark_after k l c w rest e i h = no_mark k l w rest h (subst (λ z. ends_well (z ∷ w) ≡ true) ((Decides-eqb c 92).0 i) (e h))
+no_slash_after : (k : TextKind) (l : Bool) (c : ℕ) (w rest : List ℕ) → (has_escapes k ≡ false → ends_well (c ∷ w) ≡ true) → (c == 92) ≡ true → has_escapes k ≡ false → no_slash_next (escaped k l w ++ rest) ≡ true
+no_slash_after k l c w rest e i h = no_slash_comes k l w rest h (subst (λ z. ends_well (z ∷ w) ≡ true) ((Decides-eqb c 92).0 i) (e h))
 
 -- ---- the whole
 
-piece_found : (text : List ℕ) (k : TextKind) (l : Bool) (p : Place) (o : List Open) (run : List ℕ) (c : ℕ) (w bs rest : List ℕ) (x : Option ℕ) → letter k l c ≡ x → list_all (stands k l) run ≡ true → stands k l c ≡ false → IsUtf8 run → ((c == 10) ≡ true → letter k l c ≡ None → outermost line_fault (Text k p ∷ o) ≡ None) → ((c == 92) ≡ true → has_escapes k ≡ false → no_mark_next bs ≡ true) → Found text (Text k p ∷ o) bs rest w → Found text (Text k p ∷ o) (run ++ (with_letter c x ++ bs)) rest (run ++ c ∷ w)
+piece_found : (text : List ℕ) (k : TextKind) (l : Bool) (p : Place) (o : List Open) (run : List ℕ) (c : ℕ) (w bs rest : List ℕ) (x : Option ℕ) → letter k l c ≡ x → list_all (stands k l) run ≡ true → stands k l c ≡ false → IsUtf8 run → ((c == 10) ≡ true → letter k l c ≡ None → outermost line_fault (Text k p ∷ o) ≡ None) → ((c == 92) ≡ true → has_escapes k ≡ false → no_slash_next bs ≡ true) → Found text (Text k p ∷ o) bs rest w → Found text (Text k p ∷ o) (run ++ (with_letter c x ++ bs)) rest (run ++ c ∷ w)
 piece_found text k l p o run c w bs rest (Some d) e h s u calm m f =
     let place = place_of text (length (92 ∷ d ∷ bs)) in
     run_found text k l p o run 92 (d ∷ bs) rest (c ∷ w) h u refl
@@ -203,21 +203,21 @@ found_by text k l p o w x bs (more run c v h s tail) i u calm e =
     let later = utf8_after c v small (utf8_from run c v small u) in
     let left = found_by text k l p o v x bs tail i later here.1 (λ n. ends_tail c v (well n)) in
     subst (λ z. Found text (Text k p ∷ o) z (x ∷ bs) (run ++ c ∷ v)) (escaped_parts k l run v (x ∷ bs) c h)
-    (piece_found text k l p o run c v (escaped k l v ++ x ∷ bs) (x ∷ bs) (letter k l c) refl h s (utf8_before run c v small u) here.0 (no_mark_after k l c v (x ∷ bs) well) left)
+    (piece_found text k l p o run c v (escaped k l v ++ x ∷ bs) (x ∷ bs) (letter k l c) refl h s (utf8_before run c v small u) here.0 (no_slash_after k l c v (x ∷ bs) well) left)
 
--- what is printed between the marks of a string is read as its bytes, up to a byte that may mean something
+-- what is printed of a text in a string is read as that text, before a byte that may mean something
 pub text_found : (text : List ℕ) (k : TextKind) (l : Bool) (p : Place) (o : List Open) (w : List ℕ) (x : ℕ) (bs : List ℕ) → is_special x ≡ true → IsUtf8 w → Calm k l (outermost line_fault (Text k p ∷ o)) w → (has_escapes k ≡ false → ends_well w ≡ true) → Found text (Text k p ∷ o) (escaped k l w ++ x ∷ bs) (x ∷ bs) w
 text_found text k l p o w x bs i u calm e = found_by text k l p o w x bs (cut (stands k l) w) i u calm e
 
-mark_special : (k : TextKind) → is_special (quote_mark k) ≡ true
-mark_special (Plain Single) = refl
-mark_special (Plain TripleSingle) = refl
-mark_special (Plain Slashes) = refl
-mark_special Pattern = refl
-mark_special (Template k) = refl
+quote_special : (k : TextKind) → is_special (quote k) ≡ true
+quote_special (Plain Single) = refl
+quote_special (Plain TripleSingle) = refl
+quote_special (Plain Slashes) = refl
+quote_special Pattern = refl
+quote_special (Template k) = refl
 
--- up to the marks that close it
+-- the same up to the last quotes
 pub string_found : (text : List ℕ) (k : TextKind) (l : Bool) (p : Place) (o : List Open) (w rest : List ℕ) → IsUtf8 w → Calm k l (outermost line_fault (Text k p ∷ o)) w → (has_escapes k ≡ false → ends_well w ≡ true) → Found text (Text k p ∷ o) (escaped k l w ++ (closing k ++ rest)) (closing k ++ rest) w
 string_found text k l p o w rest u calm e =
     subst (λ z. Found text (Text k p ∷ o) (escaped k l w ++ (z ++ rest)) (z ++ rest) w) (sym (closing_is k))
-    (text_found text k l p o w (quote_mark k) (more_marks k ++ rest) (mark_special k) u calm e)
+    (text_found text k l p o w (quote k) (more_quotes k ++ rest) (quote_special k) u calm e)

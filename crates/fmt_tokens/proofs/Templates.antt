@@ -1,4 +1,4 @@
--- What the parts of templates are read as.
+-- How the quotes, texts and holes of a printed template are read.
 use Rattle.std.proofs.Common.{◌≡◌, ℕ, Bool, true, List, [], ◌∷◌, ◌++◌, length, refl, sym, ◌∙◌, subst}
 use Rattle.std.specs.Prelude.{nat_eq}
 use Rattle.std.specs.List.{starts_with}
@@ -75,7 +75,7 @@ hole_end_leads source o bs = mark_leads source m.CloseBrace bs (Hole ∷ o) refl
 text_before_is : (start : Place) (u : List ℕ) (b : ℕ) (w : List ℕ) (rest : List Segment) → u ≡ b ∷ w → text_before (text start u) rest ≡ s.lexed (lexeme (t.TemplateText u) start) ∷ rest
 text_before_is start u b w rest e = subst (λ z. text_before (text start z) rest ≡ s.lexed (lexeme (t.TemplateText z) start) ∷ rest) (sym e) refl
 
--- bytes that are written, up to a token, are a text of the template and that token
+-- bytes of a text, and then a token: the text is a token before that one
 pub text_gives : (v : List Placed) (u : List ℕ) → Writes v u → (b : ℕ) (w : List ℕ) → u ≡ b ∷ w → (x : Token) (p : Place) → (start : Place) × ((tail : List Placed) → joined nothing (v ++ at (lexed x) p ∷ tail) ≡ s.lexed (lexeme (t.TemplateText u) start) ∷ s.lexed (lexeme x p) ∷ joined nothing tail)
 text_gives _ _ writes_none b w e x p = absurd cc
 text_gives _ _ (writes_more y start {v} {bs} r) b w e x p =

@@ -1,4 +1,4 @@
--- The inks of a tree that fits are read as their bits.
+-- The inks of every tree that fits are read as their bits.
 use Rattle.std.proofs.Common.{ℕ, Bool, false, List, [], ◌∷◌, ◌++◌, refl}
 use Rattle.std.specs.Prelude.{not, ◌&&◌}
 use Rattle.nf_value.specs.declared.place.Place.{Place}
@@ -8,13 +8,14 @@ use Rattle.nf_token.specs.declared.token.TemplateKind.{TemplateKind}
 use Rattle.nf_lexer.specs.declared.open.Open.{Open}
 use Rattle.nf_ast.specs.Tree as tree
 use Rattle.nf_ast.specs.Tree.{Tree}
-use Rattle.nf_printer.specs.Ink as ink
-use Rattle.nf_printer.specs.Ink.{Ink, mark, blank}
+use Rattle.nf_writer.specs.Ink as ink
+use Rattle.nf_writer.specs.Ink.{Ink, mark, blank, spaced}
 use Rattle.nf_printer.specs.Levels.{left_level, right_level, prefix_level, postfix_level, needs, prints, round, within}
-use Rattle.nf_printer.specs.Lines.{Layout, inline, is_inline, deeper, between, is_short, first_before}
-use Rattle.nf_printer.specs.Exprs.{spaced, comma, colon, equals, inks, listed, parts, pieces}
+use Rattle.nf_writer.specs.Lines.{Layout, inline, is_inline, deeper, between}
+use Rattle.nf_printer.specs.Bodies.{is_short, first_before}
+use Rattle.nf_printer.specs.Exprs.{comma, colon, equals, inks, listed, parts, pieces}
 use Rattle.fmt_tokens.specs.Fits.{Fits, FitPieces, FitAfterText}
-use Rattle.fmt_tokens.proofs.Told.{Reads, on, none}
+use Rattle.fmt_tokens.proofs.InkLists.{Reads, on, none}
 use Rattle.fmt_tokens.proofs.Stands.{Stand, Lined, Any, Apart}
 use Rattle.fmt_tokens.proofs.Begins.{Starts, by_front, starts_none, fronts_on, fronts_more, starts_within, name_starts, number_starts, plain_starts, template_starts}
 use Rattle.fmt_tokens.proofs.Inks.{keyword_reads, name_reads, number_reads}

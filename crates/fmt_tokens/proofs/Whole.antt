@@ -1,4 +1,4 @@
--- The canonical text of a script has the tokens that its inks come to.
+-- The tokens of the canonical text of a script are those of its inks.
 use Rattle.std.proofs.Common.{◌≡◌, ℕ, true, false, List, [], ◌∷◌, ◌++◌, None, refl, sym, ap, ◌∙◌, subst, arith}
 use Rattle.std.specs.Prelude.{not, ◌==◌, map, nat_eq, codes}
 use Rattle.std.specs.List.{starts_with}
@@ -11,18 +11,18 @@ use Rattle.nf_lexer.specs.Separators.{settled}
 use Rattle.nf_lexer.specs.Tokens.{Reads, ends, at_start}
 use Rattle.nf_ast.specs.Tree as tree
 use Rattle.nf_ast.specs.Tree.{Tree}
-use Rattle.nf_printer.specs.Ink.{Ink, inked}
+use Rattle.nf_writer.specs.Ink.{Ink, inked}
 use Rattle.nf_printer.specs.Tops.{script, canonical}
 use Rattle.fmt_tokens.specs.Leads.{Leads}
 use Rattle.fmt_tokens.specs.Lexed.{IsLexed}
 use Rattle.fmt_tokens.specs.Bits.{token_of}
-use Rattle.fmt_tokens.specs.Retold as r
-use Rattle.fmt_tokens.specs.Retold.{retold}
+use Rattle.fmt_tokens.specs.InkTokens as r
+use Rattle.fmt_tokens.specs.InkTokens.{ink_tokens}
 use Rattle.fmt_tokens.specs.Fits.{Fits}
 use Rattle.fmt_tokens.proofs.Tests.{if_false}
 use Rattle.fmt_tokens.proofs.Written.{no_front}
 use Rattle.fmt_tokens.proofs.Fronts.{leads_reads}
-use Rattle.fmt_tokens.proofs.Told.{Told}
+use Rattle.fmt_tokens.proofs.InkLists.{Told}
 use Rattle.fmt_tokens.proofs.Stands.{Ends}
 use Rattle.fmt_tokens.proofs.Begins.{is_never_first}
 use Rattle.fmt_tokens.proofs.Scripts.{script_reads, script_fronts}
@@ -53,15 +53,15 @@ told_reads text xs a e b =
     let whole : Leads text [] text a.items [] [] = subst (λ z. Leads text [] z a.items [] []) (append-nil (inked xs) ∙ e) a.leads in
     subst (λ z. Reads text z text (a.items ++ []) None) (sym b) (leads_reads whole (at_end text))
 
-told_tokens : (text : List ℕ) (xs : List Ink) → (a : Told text [] [] xs []) → map token_of (settled [] (joined nothing (a.items ++ []))) ≡ retold xs
+told_tokens : (text : List ℕ) (xs : List Ink) → (a : Told text [] [] xs []) → map token_of (settled [] (joined nothing (a.items ++ []))) ≡ ink_tokens xs
 told_tokens text xs a =
-    ap (λ z. map token_of (settled [] z)) (a.gives.joins [] ∙ append-nil a.gives.pieces)
-    ∙ settled_bits a.gives.pieces []
+    ap (λ z. map token_of (settled [] z)) (a.gives.joins [] ∙ append-nil a.gives.segments)
+    ∙ settled_bits a.gives.segments []
     ∙ ap (λ z. r.settled [] z) a.gives.are
 
--- a script that fits is told again by its canonical text, however long that is
-pub told_again : (xs : Tree) → Fits xs → (ts : List Lexeme) × IsLexed (canonical xs) ts × (map token_of ts ≡ retold (script xs))
-told_again xs f =
+-- the canonical text of a script that fits has the tokens of its inks, however long it is
+pub canonical_tokens : (xs : Tree) → Fits xs → (ts : List Lexeme) × IsLexed (canonical xs) ts × (map token_of ts ≡ ink_tokens (script xs))
+canonical_tokens xs f =
     let told : Told (canonical xs) [] [] (script xs) [] = (script_reads xs f).told (canonical xs) [] [] (record { stand = record { code = refl; quiet = λ n. refl }; ends = refl }) refl in (
       settled [] (joined nothing (told.items ++ [])),
       record {

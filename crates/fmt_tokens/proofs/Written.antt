@@ -1,4 +1,4 @@
--- What each byte of a printed string is read as.
+-- How each byte of a printed string is read, escaped or not.
 use Rattle.std.proofs.Common.{◌≡◌, ℕ, Bool, true, false, cond, List, [], ◌∷◌, length, take, Option, Some, None, refl, sym, ap, ◌∙◌, arith}
 use Rattle.std.specs.Prelude.{nat_eq, not, ◌==◌, ◌&&◌, take_while}
 use Rattle.std.specs.List.{starts_with}
@@ -16,24 +16,24 @@ use Rattle.nf_lexer.specs.Front.{written, passes, checked}
 use Rattle.nf_token.specs.Spellings.{closing}
 use Rattle.nf_lexer.specs.Escape.{escaped, escape, written_or_bad, kept}
 use Rattle.nf_lexer.specs.First.{has_escapes, has_holes, in_text}
-use Rattle.nf_printer.specs.Ink.{blank_letter, line_letter, letter}
+use Rattle.nf_writer.specs.Ink.{blank_letter, line_letter, letter}
 use Rattle.fmt_tokens.proofs.Tests.{if_true, if_false, not_not}
 
--- ---- quote marks
+-- ---- quotes
 
-abbrev pub quote_mark : TextKind → ℕ
-quote_mark (Plain Single) = 39
-quote_mark (Plain TripleSingle) = 39
-quote_mark (Plain Slashes) = 47
-quote_mark Pattern = 47
-quote_mark (Template k) = 34
+abbrev pub quote : TextKind → ℕ
+quote (Plain Single) = 39
+quote (Plain TripleSingle) = 39
+quote (Plain Slashes) = 47
+quote Pattern = 47
+quote (Template k) = 34
 
-abbrev pub more_marks : TextKind → List ℕ
-more_marks (Plain TripleSingle) = 39 ∷ 39 ∷ []
-more_marks (Template TripleDouble) = 34 ∷ 34 ∷ []
-more_marks _ = []
+abbrev pub more_quotes : TextKind → List ℕ
+more_quotes (Plain TripleSingle) = 39 ∷ 39 ∷ []
+more_quotes (Template TripleDouble) = 34 ∷ 34 ∷ []
+more_quotes _ = []
 
-pub closing_is : (k : TextKind) → closing k ≡ quote_mark k ∷ more_marks k
+pub closing_is : (k : TextKind) → closing k ≡ quote k ∷ more_quotes k
 closing_is (Plain Single) = refl
 closing_is (Plain TripleSingle) = refl
 closing_is (Plain Slashes) = refl
@@ -54,15 +54,15 @@ front_by b x bs w false h k = refl
 pub no_front : (b x : ℕ) (bs w : List ℕ) → (b == x) ≡ false → starts_with nat_eq (b ∷ bs) (x ∷ w) ≡ false
 no_front b x bs w h = front_by b x bs w (starts_with nat_eq (b ∷ bs) (x ∷ w)) h refl
 
-pub not_closing : (k : TextKind) (b : ℕ) (bs : List ℕ) → (b == quote_mark k) ≡ false → starts_with nat_eq (b ∷ bs) (closing k) ≡ false
-not_closing k b bs h = ap (λ z. starts_with nat_eq (b ∷ bs) z) (closing_is k) ∙ no_front b (quote_mark k) bs (more_marks k) h
+pub not_closing : (k : TextKind) (b : ℕ) (bs : List ℕ) → (b == quote k) ≡ false → starts_with nat_eq (b ∷ bs) (closing k) ≡ false
+not_closing k b bs h = ap (λ z. starts_with nat_eq (b ∷ bs) z) (closing_is k) ∙ no_front b (quote k) bs (more_quotes k) h
 
-ordinary_mark : (k : TextKind) (b : ℕ) → is_special b ≡ false → (b == quote_mark k) ≡ false
-ordinary_mark (Plain Single) b h = grind (arith, nat_tests)
-ordinary_mark (Plain TripleSingle) b h = grind (arith, nat_tests)
-ordinary_mark (Plain Slashes) b h = grind (arith, nat_tests)
-ordinary_mark Pattern b h = grind (arith, nat_tests)
-ordinary_mark (Template k) b h = grind (arith, nat_tests)
+ordinary_quote : (k : TextKind) (b : ℕ) → is_special b ≡ false → (b == quote k) ≡ false
+ordinary_quote (Plain Single) b h = grind (arith, nat_tests)
+ordinary_quote (Plain TripleSingle) b h = grind (arith, nat_tests)
+ordinary_quote (Plain Slashes) b h = grind (arith, nat_tests)
+ordinary_quote Pattern b h = grind (arith, nat_tests)
+ordinary_quote (Template k) b h = grind (arith, nat_tests)
 
 -- ---- a run
 
@@ -78,7 +78,7 @@ checked_passes place w h = if_true (is_utf8 w) _ _ h
 pub run_read : (k : TextKind) (place : Place) (b : ℕ) (bs w : List ℕ) → is_special b ≡ false → take_while is_ordinary (b ∷ bs) ≡ w → is_utf8 w ≡ true → in_text k place b bs ≡ passes (written w) Keep (length w)
 unfolding in_text
 run_read k place b bs w h e u =
-    if_false (starts_with nat_eq (b ∷ bs) (closing k)) _ _ (not_closing k b bs (ordinary_mark k b h))
+    if_false (starts_with nat_eq (b ∷ bs) (closing k)) _ _ (not_closing k b bs (ordinary_quote k b h))
     ∙ if_false (b == 92) _ _ (no_slash b h)
     ∙ if_false (b == 36 && has_holes k) _ _ (no_dollar b (has_holes k) h)
     ∙ if_false (is_special b) _ _ h
@@ -104,19 +104,19 @@ letter_escapes Pattern l b c e h = absurd cc
 letter_escapes (Template Double) l b c e h = (grind (arith, nat_tests), grind (arith, nat_tests))
 letter_escapes (Template TripleDouble) l b c e h = (grind (arith, nat_tests), grind (arith, nat_tests))
 
-mark_is_no_slash : (k : TextKind) → (92 == quote_mark k) ≡ false
-mark_is_no_slash (Plain Single) = refl
-mark_is_no_slash (Plain TripleSingle) = refl
-mark_is_no_slash (Plain Slashes) = refl
-mark_is_no_slash Pattern = refl
-mark_is_no_slash (Template k) = refl
+quote_is_no_slash : (k : TextKind) → (92 == quote k) ≡ false
+quote_is_no_slash (Plain Single) = refl
+quote_is_no_slash (Plain TripleSingle) = refl
+quote_is_no_slash (Plain Slashes) = refl
+quote_is_no_slash Pattern = refl
+quote_is_no_slash (Template k) = refl
 
 escape_read : (place : Place) (b c : ℕ) (bs : List ℕ) → Escapes b c → escape place (c ∷ bs) ≡ passes (written (b ∷ [])) Keep 2
 escape_read place b c bs h = if_false (c == 117) _ _ h.0 ∙ ap (λ (z : Option (List ℕ)). written_or_bad place z 2) h.1
 
 after_slash : (k : TextKind) (place : Place) (bs : List ℕ) → in_text k place 92 bs ≡ cond (has_escapes k) (escape place bs) (kept bs)
 unfolding in_text
-after_slash k place bs = if_false (starts_with nat_eq (92 ∷ bs) (closing k)) _ _ (not_closing k 92 bs (mark_is_no_slash k))
+after_slash k place bs = if_false (starts_with nat_eq (92 ∷ bs) (closing k)) _ _ (not_closing k 92 bs (quote_is_no_slash k))
 
 slashed : (k : TextKind) (l : Bool) (b c : ℕ) → has_escapes k ≡ false → letter k l b ≡ Some c → (b ≡ 47) × (c ≡ 47)
 slashed (Plain Single) l b c e h = absurd cc
@@ -136,15 +136,15 @@ letter_by k l place b c bs false e h = kept_read b c bs (slashed k l b c e h)
 pub letter_read : (k : TextKind) (l : Bool) (place : Place) (b c : ℕ) (bs : List ℕ) → letter k l b ≡ Some c → in_text k place 92 (c ∷ bs) ≡ passes (written (b ∷ [])) Keep 2
 letter_read k l place b c bs h = after_slash k place (c ∷ bs) ∙ letter_by k l place b c bs (has_escapes k) refl h
 
--- ---- what stands for itself, and may mean something
+-- ---- bytes that are printed as they are, though they could mean something
 
-pub none_mark : (k : TextKind) (l : Bool) (b : ℕ) → letter k l b ≡ None → (b == quote_mark k) ≡ false
-none_mark (Plain Single) l b h = grind (arith, nat_tests)
-none_mark (Plain TripleSingle) l b h = grind (arith, nat_tests)
-none_mark (Plain Slashes) l b h = grind (arith, nat_tests)
-none_mark Pattern l b h = grind (arith, nat_tests)
-none_mark (Template Double) l b h = grind (arith, nat_tests)
-none_mark (Template TripleDouble) l b h = grind (arith, nat_tests)
+pub none_quote : (k : TextKind) (l : Bool) (b : ℕ) → letter k l b ≡ None → (b == quote k) ≡ false
+none_quote (Plain Single) l b h = grind (arith, nat_tests)
+none_quote (Plain TripleSingle) l b h = grind (arith, nat_tests)
+none_quote (Plain Slashes) l b h = grind (arith, nat_tests)
+none_quote Pattern l b h = grind (arith, nat_tests)
+none_quote (Template Double) l b h = grind (arith, nat_tests)
+none_quote (Template TripleDouble) l b h = grind (arith, nat_tests)
 
 none_dollar : (k : TextKind) (l : Bool) (b : ℕ) → letter k l b ≡ None → (b == 36 && has_holes k) ≡ false
 none_dollar (Plain Single) l b h = grind (arith, nat_tests)
@@ -163,29 +163,29 @@ none_slash (Template Double) l b h e = absurd (grind (arith, nat_tests))
 none_slash (Template TripleDouble) l b h e = absurd (grind (arith, nat_tests))
 
 -- the first byte is no `/`
-abbrev pub no_mark_next : List ℕ → Bool
-no_mark_next [] = true
-no_mark_next (c ∷ bs) = not (c == 47)
+abbrev pub no_slash_next : List ℕ → Bool
+no_slash_next [] = true
+no_slash_next (c ∷ bs) = not (c == 47)
 
-kept_slash : (bs : List ℕ) → no_mark_next bs ≡ true → kept bs ≡ passes (written (92 ∷ [])) Keep 1
+kept_slash : (bs : List ℕ) → no_slash_next bs ≡ true → kept bs ≡ passes (written (92 ∷ [])) Keep 1
 kept_slash [] h = refl
 kept_slash (c ∷ bs) h = if_false (c == 47) _ _ (not_not (c == 47) h)
 
-special_by : (k : TextKind) (l : Bool) (place : Place) (b : ℕ) (bs : List ℕ) (t : Bool) → letter k l b ≡ None → is_special b ≡ true → ((b == 92) ≡ true → has_escapes k ≡ false → no_mark_next bs ≡ true) → (b == 92) ≡ t → in_text k place b bs ≡ passes (written (b ∷ [])) Keep 1
+special_by : (k : TextKind) (l : Bool) (place : Place) (b : ℕ) (bs : List ℕ) (t : Bool) → letter k l b ≡ None → is_special b ≡ true → ((b == 92) ≡ true → has_escapes k ≡ false → no_slash_next bs ≡ true) → (b == 92) ≡ t → in_text k place b bs ≡ passes (written (b ∷ [])) Keep 1
 unfolding in_text
 special_by k l place b bs true h s m e =
     let free = none_slash k l b h e in
-    if_false (starts_with nat_eq (b ∷ bs) (closing k)) _ _ (not_closing k b bs (none_mark k l b h))
+    if_false (starts_with nat_eq (b ∷ bs) (closing k)) _ _ (not_closing k b bs (none_quote k l b h))
     ∙ if_true (b == 92) _ _ e
     ∙ if_false (has_escapes k) _ _ free
     ∙ kept_slash bs (m e free)
     ∙ ap (λ z. passes (written (z ∷ [])) Keep 1) (sym ((Decides-eqb b 92).0 e))
 special_by k l place b bs false h s m e =
-    if_false (starts_with nat_eq (b ∷ bs) (closing k)) _ _ (not_closing k b bs (none_mark k l b h))
+    if_false (starts_with nat_eq (b ∷ bs) (closing k)) _ _ (not_closing k b bs (none_quote k l b h))
     ∙ if_false (b == 92) _ _ e
     ∙ if_false (b == 36 && has_holes k) _ _ (none_dollar k l b h)
     ∙ if_true (is_special b) _ _ s
 
--- and is read as itself; a backslash between slashes is, where no `/` follows
-pub special_read : (k : TextKind) (l : Bool) (place : Place) (b : ℕ) (bs : List ℕ) → letter k l b ≡ None → is_special b ≡ true → ((b == 92) ≡ true → has_escapes k ≡ false → no_mark_next bs ≡ true) → in_text k place b bs ≡ passes (written (b ∷ [])) Keep 1
+-- such a byte is read as itself; a backslash between slashes is, where no `/` follows
+pub special_read : (k : TextKind) (l : Bool) (place : Place) (b : ℕ) (bs : List ℕ) → letter k l b ≡ None → is_special b ≡ true → ((b == 92) ≡ true → has_escapes k ≡ false → no_slash_next bs ≡ true) → in_text k place b bs ≡ passes (written (b ∷ [])) Keep 1
 special_read k l place b bs h s m = special_by k l place b bs (b == 92) h s m refl

@@ -1,4 +1,4 @@
--- Which trees their canonical text tells again: those whose words, numbers and strings a text can spell.
+-- Which trees can be read back from their canonical text: those whose names, numbers and strings some text can spell.
 use Rattle.std.specs.Prelude.{◌≡◌, ℕ, ℤ, pos, negsuc, ◌≤◌, Bool, true, false, not, ◌==◌, ◌&&◌, List, [], ◌∷◌}
 use Rattle.std.specs.List.{list_all}
 use Rattle.std.specs.Option.{is_none}
@@ -28,18 +28,18 @@ IsNumber (negsuc n) = ⊥
 
 -- ---- strings and patterns
 
--- a backslash between slashes isn't the last byte
+-- the last byte between slashes isn't a backslash
 abbrev pub ends_well : List ℕ → Bool
 ends_well [] = true
 ends_well (b ∷ []) = not (b == 92)
 ends_well (b ∷ c ∷ w) = ends_well (c ∷ w)
 
--- what may stand after a `/` that begins a string: not nothing, and no `*` first (42)
+-- a string between slashes isn't empty, and doesn't begin with `*` (42): `//` and `/*` begin comments
 abbrev pub begins_slashed : List ℕ → Bool
 begins_slashed [] = false
 begins_slashed (b ∷ w) = not (b == 42)
 
--- between slashes, where there are no escapes
+-- what stands between slashes, in a pattern too: UTF-8 on one line that doesn't end in a backslash
 pub record IsSlashed (s : List ℕ) : Type 0 where
   pub utf8 : IsUtf8 s
   pub on_line : list_all is_not_line_feed s ≡ true
@@ -65,7 +65,7 @@ pub record IsPiece (s : List ℕ) : Type 0 where
 
 -- ---- trees
 
--- a name stands here
+-- the tree is a name
 abbrev pub IsNameTree : Tree → Type 0
 IsNameTree (tree.name p s) = IsName s
 IsNameTree _ = ⊥
@@ -115,7 +115,7 @@ abbrev mutual
   Fits (tree.parameter p n e) = IsNameTree n × Fits e
   Fits _ = Unit {0}
 
-  -- the parts of a template: no two texts after each other
+  -- the texts and holes of a template: no two texts stand in a row
   pub FitPieces : Tree → Type 0
   FitPieces (tree.cons (tree.piece p s) xs) = IsPiece s × FitAfterText xs
   FitPieces (tree.cons (tree.hole p e) xs) = Fits e × FitPieces xs

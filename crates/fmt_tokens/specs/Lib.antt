@@ -1,5 +1,5 @@
 pub mod Leads
 pub mod Bits
-pub mod Retold
+pub mod InkTokens
 pub mod Fits
 pub mod Lexed

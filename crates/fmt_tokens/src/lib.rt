@@ -1,2 +1,2 @@
-//! What the canonical text of a script is read as.
+//! Definitions and lemmas alone: which tokens the canonical text of a script has.
 #![tactic(auto)]

@@ -1,4 +1,4 @@
--- What the rows of the grammar ask of tokens depends on no place.
+-- No test of the grammar on tokens depends on their places.
 use Rattle.std.proofs.Common.{◌≡◌, ℕ, Bool, true, false, List, [], ◌∷◌, Option, Some, None, refl, sym, ap, ◌∙◌}
 use Rattle.std.specs.Prelude.{not, ◌&&◌, ◌||◌, option_map, bytes_eq, codes, if◌then◌else◌}
 use Rattle.nf_value.specs.declared.place.Place.{Place}

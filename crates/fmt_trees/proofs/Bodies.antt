@@ -1,4 +1,4 @@
--- Closures and statements.
+-- How closures and statements are read.
 use Rattle.std.proofs.Common.{◌≡◌, ℕ, suc, Bool, true, false, List, refl, sym, subst, ap}
 use Rattle.std.specs.Prelude.{not, codes}
 use Rattle.nf_value.specs.declared.place.Place.{Place}
@@ -14,12 +14,13 @@ use Rattle.nf_exprs.specs.Level.{Prim, Body, Stmt, Choice}
 use Rattle.nf_exprs.specs.Tokens.{name_of, keyword_of, no_params, body_ends}
 use Rattle.nf_exprs.specs.Rules.{rules, kind, maybe, closed, closes, sep, some_labels, label, block, else_arm, no_comma, names}
 use Rattle.nf_printer.specs.Levels.{prints}
-use Rattle.nf_printer.specs.Lines.{Layout, deeper, is_short}
+use Rattle.nf_writer.specs.Lines.{Layout, deeper}
+use Rattle.nf_printer.specs.Bodies.{is_short}
 use Rattle.fmt_trees.specs.Bare.{bare}
 use Rattle.fmt_trees.specs.Shape as sort
 use Rattle.fmt_trees.specs.Shape.{Shaped}
-use Rattle.fmt_trees.proofs.Spelt as spelt
-use Rattle.fmt_trees.proofs.Spelt.{spell, held, mark, word, lx, separator, else_before, breaks, maybe_separator}
+use Rattle.fmt_trees.proofs.TreeTokens as tree_tokens
+use Rattle.fmt_trees.proofs.TreeTokens.{spell, held, mark, word, lx, separator, else_before, breaks, maybe_separator}
 use Rattle.fmt_trees.proofs.Own.{IsRead, whole}
 use Rattle.fmt_trees.proofs.Prims.{prim_open}
 use Rattle.fmt_trees.proofs.Rows.{Each, none, some, a_row, no_row, Closes, by_comma, by_round, by_square, by_brace, by_separator, by_arrow, by_nothing, Plain, Part, listed_read, series_read}
@@ -44,7 +45,7 @@ named_read p s e h d l tl c = reads_rule (reads_bind (reads_left (reads_bind (re
 name_plain : (l : Layout) (n : Tree) → NameRead n → Plain (kind name_of) l n
 name_plain l n h tl c = h l tl
 
-pub names_read : (x xs : Tree) (l : Layout) (tl : List Lexeme) → NameRead x → Each NameRead xs → Closes tl → no_comma tl ≡ true → Reads rules names (spelt.listed (cons x xs) l tl) (cons (bare x) (bare xs)) tl
+pub names_read : (x xs : Tree) (l : Layout) (tl : List Lexeme) → NameRead x → Each NameRead xs → Closes tl → no_comma tl ≡ true → Reads rules names (tree_tokens.listed (cons x xs) l tl) (cons (bare x) (bare xs)) tl
 names_read x xs l tl p q c e = listed_read (kind name_of) l no_comma x tl (name_plain l x p) (each_plain (name_plain l) q) c e
 
 pub name_names : (p : Place) (s : List ℕ) → NameRead (tree.name p s)
@@ -78,11 +79,11 @@ abbrev pub StmtRead : Tree → Type 0
 StmtRead x = (d : ℕ) (l : Layout) → Part (rule (Stmt d)) l x
 
 -- statements, up to where no statement begins
-pub statements_read : (x : Tree) {xs : Tree} → StmtRead x → Each StmtRead xs → (d : ℕ) (l : Layout) (tl us : List Lexeme) → Reads rules sep tl empty us → Closes tl → body_ends us ≡ true → Reads rules (rule (Body d)) (spelt.parts (cons x xs) l tl) (cons (bare x) (bare xs)) us
+pub statements_read : (x : Tree) {xs : Tree} → StmtRead x → Each StmtRead xs → (d : ℕ) (l : Layout) (tl us : List Lexeme) → Reads rules sep tl empty us → Closes tl → body_ends us ≡ true → Reads rules (rule (Body d)) (tree_tokens.parts (cons x xs) l tl) (cons (bare x) (bare xs)) us
 unfolding rules
 statements_read x p q d l tl us e c o = reads_rule (series_read (rule (Stmt d)) l body_ends tl us e c o x 0 (p d l) (each_plain (λ y h. h d l) q) no_row)
 
-pub body_read : {xs : Tree} → Each StmtRead xs → (d : ℕ) (l : Layout) (b : Bool) (tl : List Lexeme) → Reads rules (closed (rule (Body d))) (spelt.parts xs l (maybe_separator b (mark m.CloseBrace tl))) (bare xs) tl
+pub body_read : {xs : Tree} → Each StmtRead xs → (d : ℕ) (l : Layout) (b : Bool) (tl : List Lexeme) → Reads rules (closed (rule (Body d))) (tree_tokens.parts xs l (maybe_separator b (mark m.CloseBrace tl))) (bare xs) tl
 unfolding rules
 body_read none d l b tl = reads_bind (reads_rule (reads_end (nothing_ends b tl))) (reads_bind (nothing_closes b tl) reads_gives)
 body_read (some {x = x} p q) d l b tl = reads_bind (statements_read x p q d l (maybe_separator b (mark m.CloseBrace tl)) (mark m.CloseBrace tl) (after_brace b tl) (brace_closes b tl) refl) (reads_bind (closed_brace tl) reads_gives)
@@ -90,12 +91,12 @@ body_read (some {x = x} p q) d l b tl = reads_bind (statements_read x p q d l (m
 abbrev pub LabelRead : Tree → Type 0
 LabelRead x = (d : ℕ) (l : Layout) (g : Bool) (tl : List Lexeme) → Closes tl → Reads rules (label d) (spell x l g tl) (bare x) tl
 
-labels_read : (x : Tree) {xs : Tree} → LabelRead x → Each LabelRead xs → (d : ℕ) (l : Layout) (b : Bool) (tl : List Lexeme) → Reads rules (some_labels d) (spelt.parts (cons x xs) l (maybe_separator b (mark m.CloseBrace tl))) (cons (bare x) (bare xs)) (mark m.CloseBrace tl)
+labels_read : (x : Tree) {xs : Tree} → LabelRead x → Each LabelRead xs → (d : ℕ) (l : Layout) (b : Bool) (tl : List Lexeme) → Reads rules (some_labels d) (tree_tokens.parts (cons x xs) l (maybe_separator b (mark m.CloseBrace tl))) (cons (bare x) (bare xs)) (mark m.CloseBrace tl)
 labels_read x p none d l b tl =
     reads_bind (reads_bind (p d l (prints x false) (maybe_separator b (mark m.CloseBrace tl)) (brace_closes b tl)) (reads_bind (after_brace b tl) reads_gives)) (reads_end refl)
 labels_read x p (some {x = y} {xs = ys} q s) d l b tl =
     let tail : List Lexeme = maybe_separator b (mark m.CloseBrace tl) in
-    reads_bind (reads_bind (p d l (prints x false) (spelt.next_parts (cons y ys) l tail) by_separator) (reads_bind (reads_left (reads_bind (reads_token refl) reads_gives)) reads_gives))
+    reads_bind (reads_bind (p d l (prints x false) (tree_tokens.next_parts (cons y ys) l tail) by_separator) (reads_bind (reads_left (reads_bind (reads_token refl) reads_gives)) reads_gives))
     (series_read (label d) l (no_next name_of) tail (mark m.CloseBrace tl) (after_brace b tl) (brace_closes b tl) refl y 0 (q d l (prints y false)) (each_plain (λ z h. h d l (prints z false)) s) (a_row no_row))
 
 pub label_read : (p : Place) (s : List ℕ) (e : Tree) → IsRead e → LabelRead (tree.label (tree.name p s) e)
@@ -117,7 +118,7 @@ brace_no_arrow : (b : Bool) (tl : List Lexeme) → NoArrow (maybe_separator b (m
 brace_no_arrow true tl = arrow_separator
 brace_no_arrow false tl = arrow_brace
 
-next_no_arrow : {s : sort.Sort} {xs : Tree} → Shaped (sort.row s) xs → (l : Layout) (tl : List Lexeme) → NoArrow tl → NoArrow (spelt.next_parts xs l tl)
+next_no_arrow : {s : sort.Sort} {xs : Tree} → Shaped (sort.row s) xs → (l : Layout) (tl : List Lexeme) → NoArrow tl → NoArrow (tree_tokens.next_parts xs l tl)
 next_no_arrow sort.no_more l tl n = n
 next_no_arrow (sort.one_more h i) l tl n = arrow_separator
 
@@ -125,12 +126,12 @@ nothing_no_params : (b : Bool) (tl : List Lexeme) → no_params (maybe_separator
 nothing_no_params true tl = refl
 nothing_no_params false tl = refl
 
-statements_no_params : {xs : Tree} → Shaped (sort.row sort.statement) xs → (l : Layout) (b : Bool) (tl : List Lexeme) → no_params (spelt.parts xs l (maybe_separator b (mark m.CloseBrace tl))) ≡ true
+statements_no_params : {xs : Tree} → Shaped (sort.row sort.statement) xs → (l : Layout) (b : Bool) (tl : List Lexeme) → no_params (tree_tokens.parts xs l (maybe_separator b (mark m.CloseBrace tl))) ≡ true
 statements_no_params sort.no_more l b tl = nothing_no_params b tl
 statements_no_params (sort.one_more h i) l b tl = statement_no_params h l _ (next_no_arrow i l _ (brace_no_arrow b tl))
 
-labels_no_params : {x : Tree} (xs : Tree) → Shaped sort.label x → (l : Layout) (tl : List Lexeme) → no_params (spelt.parts (cons x xs) l tl) ≡ true
-labels_no_params xs (sort.label_of {e = e} (sort.named {s = s}) h) l tl = word_no_params s _ (arrow_colon {us = spell e l false (spelt.next_parts xs l tl)})
+labels_no_params : {x : Tree} (xs : Tree) → Shaped sort.label x → (l : Layout) (tl : List Lexeme) → no_params (tree_tokens.parts (cons x xs) l tl) ≡ true
+labels_no_params xs (sort.label_of {e = e} (sort.named {s = s}) h) l tl = word_no_params s _ (arrow_colon {us = spell e l false (tree_tokens.next_parts xs l tl)})
 
 pub statements_inside : {xs : Tree} → Shaped (sort.row sort.statement) xs → Each StmtRead xs → (d : ℕ) (l : Layout) (b : Bool) (tl : List Lexeme) → Inside d l b xs tl
 statements_inside s h d l b tl = record {
@@ -162,9 +163,9 @@ closure_read p ps xs h i d l g tl =
     let b : Bool = breaks l (is_short xs) xs in
     let body : Inside d (deeper l) b xs tl = i d (deeper l) b tl in
     record {
-      inside = spell ps l false (spelt.parts xs (deeper l) (maybe_separator b (mark m.CloseBrace tl)));
+      inside = spell ps l false (tree_tokens.parts xs (deeper l) (maybe_separator b (mark m.CloseBrace tl)));
       opens = refl;
-      reads = reads_rule (reads_bind (h l (spelt.parts xs (deeper l) (maybe_separator b (mark m.CloseBrace tl))) body.first) (reads_bind body.reads reads_gives));
+      reads = reads_rule (reads_bind (h l (tree_tokens.parts xs (deeper l) (maybe_separator b (mark m.CloseBrace tl))) body.first) (reads_bind body.reads reads_gives));
     }
 
 pub closure_expr_read : {x : Tree} → Shaped sort.closure x → ClosureRead x → IsRead x

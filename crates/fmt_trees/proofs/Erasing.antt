@@ -1,4 +1,4 @@
--- A reading depends on no place: what tokens without places spell, tokens with places spell, but for the places.
+-- No reading depends on places: what tokens without places spell, the same tokens with places spell, places aside.
 use Rattle.std.proofs.Common.{◌≡◌, ℕ, Bool, List, [], ◌∷◌, map, Option, Some, None, refl, sym, subst, ap, ◌∙◌}
 use Rattle.std.specs.Prelude.{option_map}
 use Rattle.nf_token.specs.declared.token.Lexeme.{Lexeme}
@@ -9,7 +9,7 @@ use Rattle.nf_exprs.specs.Level.{Level, Closure, Gram}
 use Rattle.nf_exprs.specs.Tokens.{Kind}
 use Rattle.nf_exprs.specs.Rules.{rules}
 use Rattle.fmt_trees.specs.Bare.{bare, nowhere}
-use Rattle.fmt_trees.proofs.Spelt.{lx}
+use Rattle.fmt_trees.proofs.TreeTokens.{lx}
 
 abbrev pub erase : Lexeme → Lexeme
 erase x = lx x.token
@@ -21,15 +21,15 @@ abbrev pub bare_level : Level → Level
 bare_level (Closure d p) = Closure d nowhere
 bare_level l = l
 
--- what a token stands for depends on its place by its place alone
+-- what a token stands for is the same without its place, places aside
 abbrev pub KindErases : Kind → Type 0
 KindErases p = (x : Lexeme) → p (erase x) ≡ option_map bare (p x)
 
--- a test looks at no place
+-- a test on tokens doesn't depend on their places
 abbrev pub Blind : (List Lexeme → Bool) → Type 0
 Blind c = (ts : List Lexeme) → c ts ≡ c (erased ts)
 
--- the second part is the first without places
+-- the second part of the grammar is the first without places
 pub data Erases : Gram → Gram → Type 0 where
   er_token : {b : Bool} {p : Kind} → KindErases p → Erases (token b p) (token b p)
   er_gives : {v w : Tree} → bare v ≡ w → Erases (gives v) (gives w)
@@ -39,7 +39,7 @@ pub data Erases : Gram → Gram → Type 0 where
   er_many : {c : List Lexeme → Bool} {f q : ℕ → Tree → Gram} {n : ℕ} {a b : Tree} → Blind c → ((i : ℕ) (x : Tree) → Erases (f i x) (q i (bare x))) → bare a ≡ b → Erases (many c f n a) (many c q n b)
   er_rule : {l m : Level} → bare_level l ≡ m → Erases (rule l) (rule m)
 
--- a reading of the part that stands for this one
+-- tokens with places spell this tree too, places aside
 pub record Placed (g : Gram) (ts : List Lexeme) (w : Tree) (rest : List Lexeme) : Type 0 where
   pub value : Tree
   pub left : List Lexeme

@@ -1,4 +1,4 @@
--- What the tokens of an expression begin with.
+-- Which tokens an expression begins with.
 use Rattle.std.proofs.Common.{◌≡◌, ℕ, Bool, true, false, List, ◌∷◌, refl, sym, subst, ap}
 use Rattle.std.specs.Prelude.{not}
 use Rattle.nf_token.specs.declared.token.Keyword.TheVariants as k
@@ -14,10 +14,10 @@ use Rattle.nf_ast.specs.Tree as tree
 use Rattle.nf_ast.specs.Tree.{Tree}
 use Rattle.nf_exprs.specs.Tokens.{starts, labels, params_from, no_params, is_next, colon}
 use Rattle.nf_printer.specs.Levels.{needs, left_level}
-use Rattle.nf_printer.specs.Lines.{Layout}
+use Rattle.nf_writer.specs.Lines.{Layout}
 use Rattle.fmt_trees.specs.Shape as sort
 use Rattle.fmt_trees.specs.Shape.{Shaped}
-use Rattle.fmt_trees.proofs.Spelt.{spell, held, mark, lx, infix_token, prefix_token, separator}
+use Rattle.fmt_trees.proofs.TreeTokens.{spell, held, mark, lx, infix_token, prefix_token, separator}
 use Rattle.fmt_trees.proofs.Rows.{Closes, by_comma, by_round, by_square, by_brace, by_separator, by_arrow, by_nothing}
 
 -- an expression begins with the token, and it is no name

@@ -1,4 +1,4 @@
--- What it is for a tree of each sort to be read from its tokens.
+-- What it is for a tree of each shape to be read from its tokens.
 use Rattle.std.proofs.Common.{◌≡◌, ℕ, Bool, true, false, List}
 use Rattle.nf_value.specs.declared.place.Place.{Place}
 use Rattle.nf_token.specs.declared.token.Keyword.TheVariants as k
@@ -12,13 +12,13 @@ use Rattle.nf_ast.specs.Tree.{Tree, empty}
 use Rattle.nf_exprs.specs.Level.{Arg, Pair, Closure, Body, Stmt, Choice, Directive, Input, Output, Task, Top, Gram}
 use Rattle.nf_exprs.specs.Tokens.{name_of, keyword_of, no_params, body_ends, outputs_end}
 use Rattle.nf_exprs.specs.Rules.{rules, kind, key, maybe, parameters, closed, some_labels, label, block, else_arm, no_part, part_next, some_input, output_value, some_output, emit, workflow_inside}
-use Rattle.nf_printer.specs.Lines.{Layout}
+use Rattle.nf_writer.specs.Lines.{Layout}
 use Rattle.fmt_trees.specs.Bare.{bare, nowhere}
 use Rattle.fmt_trees.specs.Shape as sort
 use Rattle.fmt_trees.specs.Shape.{Sort}
-use Rattle.fmt_trees.proofs.Spelt as spelt
-use Rattle.fmt_trees.proofs.Spelt.{spell, mark, separator, else_before, maybe_separator}
-use Rattle.fmt_trees.proofs.SpeltTops.{part_of, directive_of, value_of, some_value_of, output_of, task_of, inside_of, top_of}
+use Rattle.fmt_trees.proofs.TreeTokens as tree_tokens
+use Rattle.fmt_trees.proofs.TreeTokens.{spell, mark, separator, else_before, maybe_separator}
+use Rattle.fmt_trees.proofs.TopTokens.{part_of, directive_of, value_of, some_value_of, output_of, task_of, inside_of, top_of}
 use Rattle.fmt_trees.proofs.Own.{IsRead}
 use Rattle.fmt_trees.proofs.Rows.{Each, IsRow, joined, Closes, Plain, Part}
 
@@ -29,9 +29,9 @@ abbrev pub KeyRead : Tree → Type 0
 KeyRead n = (l : Layout) (tl : List Lexeme) → Reads rules key (spell n l false tl) (bare n) tl
 
 abbrev pub PiecesRead : Tree → Type 0
-PiecesRead xs = (d n : ℕ) (l : Layout) (acc : Tree) (tl : List Lexeme) → IsRow acc → no_part tl ≡ true → Reads rules (many no_part (part_next d) n acc) (spelt.pieces xs l tl) (joined acc (bare xs)) tl
+PiecesRead xs = (d n : ℕ) (l : Layout) (acc : Tree) (tl : List Lexeme) → IsRow acc → no_part tl ≡ true → Reads rules (many no_part (part_next d) n acc) (tree_tokens.pieces xs l tl) (joined acc (bare xs)) tl
 
--- after its `{`
+-- a closure is read after its `{`
 pub record Braced (d : ℕ) (l : Layout) (g : Bool) (x : Tree) (tl : List Lexeme) : Type 0 where
   pub inside : List Lexeme
   pub opens : spell x l g tl ≡ mark m.OpenBrace inside
@@ -44,8 +44,8 @@ abbrev pub ParamsRead : Tree → Type 0
 ParamsRead x = (l : Layout) (tl : List Lexeme) → no_params tl ≡ true → Reads rules (maybe parameters no_params) (spell x l false tl) (bare x) tl
 
 pub record Inside (d : ℕ) (l : Layout) (b : Bool) (xs : Tree) (tl : List Lexeme) : Type 0 where
-  pub reads : Reads rules (closed (either (rule (Body d)) (some_labels d))) (spelt.parts xs l (maybe_separator b (mark m.CloseBrace tl))) (bare xs) tl
-  pub first : no_params (spelt.parts xs l (maybe_separator b (mark m.CloseBrace tl))) ≡ true
+  pub reads : Reads rules (closed (either (rule (Body d)) (some_labels d))) (tree_tokens.parts xs l (maybe_separator b (mark m.CloseBrace tl))) (bare xs) tl
+  pub first : no_params (tree_tokens.parts xs l (maybe_separator b (mark m.CloseBrace tl))) ≡ true
 
 -- one, or none
 pub data Perhaps (P : Tree → Type 0) : Tree → Type 0 where

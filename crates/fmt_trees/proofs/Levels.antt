@@ -1,4 +1,4 @@
--- Parts of the grammar by how closely their marks bind, and how a part is read where a looser one is.
+-- The levels of the grammar against those of the printer, and how an operand is read where a lower level is asked for.
 use Rattle.std.proofs.Common.{◌≡◌, ℕ, zero, suc, Bool, true, false, List, ◌∷◌, ◌+◌, refl, subst, arith}
 use Rattle.std.specs.Prelude.{◌&&◌}
 use Rattle.nf_token.specs.declared.token.Lexeme.{Lexeme}
@@ -12,11 +12,11 @@ use Rattle.nf_exprs.specs.declared.band.Band.TheVariants as band
 use Rattle.nf_exprs.specs.Level.{Gram, Expr, Operands, Pre, Post, Prim}
 use Rattle.nf_exprs.specs.Tokens.{infix_of, no_post}
 use Rattle.nf_exprs.specs.Rules.{rules, no_question, operand_next, post_part}
-use Rattle.nf_printer.specs.Levels.{mark_level}
+use Rattle.nf_printer.specs.Levels.{infix_level}
 use Rattle.fmt_trees.specs.Bare.{nowhere}
-use Rattle.fmt_trees.proofs.Spelt.{lx, infix_token}
+use Rattle.fmt_trees.proofs.TreeTokens.{lx, infix_token}
 
--- by the level of the printer
+-- a part of the grammar by its level in the printer
 abbrev pub at : ℕ → ℕ → ℕ → Gram
 at zero d n = rule (Expr d n)
 at (suc zero) d n = rule (Operands d band.Or)
@@ -34,7 +34,7 @@ at (suc (suc (suc (suc (suc (suc (suc (suc (suc (suc (suc m))))))))))) d n = rul
 abbrev pub Reading : ℕ → ℕ → List Lexeme → Tree → List Lexeme → Type 0
 Reading m d ts v rest = (n : ℕ) → Reads rules (at m d n) ts v rest
 
--- nothing of this level or a closer one goes on here
+-- what follows doesn't go on with an operand of this level or a higher one
 abbrev pub ends10 : List Lexeme → Bool
 ends10 = no_post
 
@@ -101,7 +101,7 @@ weaker (suc (suc (suc (suc (suc (suc (suc (suc (suc zero))))))))) ts e = e
 weaker (suc (suc (suc (suc (suc (suc (suc (suc (suc (suc zero)))))))))) ts e = refl
 weaker (suc (suc (suc (suc (suc (suc (suc (suc (suc (suc (suc m))))))))))) ts e = refl
 
--- the looser part, of one operand
+-- a part of a lower level that is one operand
 pub step : (m d : ℕ) (ts rest : List Lexeme) (v : Tree) → ends m rest ≡ true → Reading (suc m) d ts v rest → Reading m d ts v rest
 unfolding rules
 step zero d ts rest v e r n = reads_rule (reads_bind (r 0) (reads_right (reads_right (reads_where (and_left (no_question rest) (ends1 rest) e) reads_gives))))
@@ -123,7 +123,7 @@ climb (suc j) k m d ts rest v e f r = step k d ts rest v f (climb j (suc k) m d 
 
 -- ---- chains
 
--- any number of marks may stand on this level
+-- whether operators of this level chain
 abbrev pub is_chain : ℕ → Bool
 is_chain zero = false
 is_chain (suc zero) = true
@@ -186,59 +186,59 @@ chain_ends (suc (suc (suc (suc (suc (suc (suc (suc (suc zero))))))))) d a rest e
 chain_ends (suc (suc (suc (suc (suc (suc (suc (suc (suc (suc zero)))))))))) d a rest e n = reads_end e
 chain_ends (suc (suc (suc (suc (suc (suc (suc (suc (suc (suc (suc m))))))))))) d a rest e n = reads_gives
 
--- ---- marks between operands
+-- ---- operators between operands
 
-pub mark_ends : (x : InfixOperator) (us : List Lexeme) → ends (suc (mark_level x)) (lx (infix_token x) ∷ us) ≡ true
-mark_ends i.Or us = refl
-mark_ends i.And us = refl
-mark_ends i.Pipe us = refl
-mark_ends i.Same us = refl
-mark_ends i.Differs us = refl
-mark_ends i.Matches us = refl
-mark_ends i.Less us = refl
-mark_ends i.AtMost us = refl
-mark_ends i.Greater us = refl
-mark_ends i.AtLeast us = refl
-mark_ends i.In us = refl
-mark_ends i.Range us = refl
-mark_ends i.Plus us = refl
-mark_ends i.Minus us = refl
-mark_ends i.Times us = refl
-mark_ends i.Remainder us = refl
+pub infix_ends : (x : InfixOperator) (us : List Lexeme) → ends (suc (infix_level x)) (lx (infix_token x) ∷ us) ≡ true
+infix_ends i.Or us = refl
+infix_ends i.And us = refl
+infix_ends i.Pipe us = refl
+infix_ends i.Same us = refl
+infix_ends i.Differs us = refl
+infix_ends i.Matches us = refl
+infix_ends i.Less us = refl
+infix_ends i.AtMost us = refl
+infix_ends i.Greater us = refl
+infix_ends i.AtLeast us = refl
+infix_ends i.In us = refl
+infix_ends i.Range us = refl
+infix_ends i.Plus us = refl
+infix_ends i.Minus us = refl
+infix_ends i.Times us = refl
+infix_ends i.Remainder us = refl
 
-pub mark_more : (x : InfixOperator) (d : ℕ) (us rest r : List Lexeme) (a b v : Tree) → is_chain (mark_level x) ≡ true → Reading (suc (mark_level x)) d us b rest → Chained (mark_level x) d (binary nowhere x a b) rest v r → Chained (mark_level x) d a (lx (infix_token x) ∷ us) v r
-mark_more i.Or d us rest r a b v e p q n = reads_more (reads_bind (reads_token refl) (reads_bind (p 0) reads_gives)) (q (suc n))
-mark_more i.And d us rest r a b v e p q n = reads_more (reads_bind (reads_token refl) (reads_bind (p 0) reads_gives)) (q (suc n))
-mark_more i.Pipe d us rest r a b v e p q n = reads_more (reads_bind (reads_token refl) (reads_bind (p 0) reads_gives)) (q (suc n))
-mark_more i.Same d us rest r a b v e p q n = absurd (let f : false ≡ true = e in cc)
-mark_more i.Differs d us rest r a b v e p q n = absurd (let f : false ≡ true = e in cc)
-mark_more i.Matches d us rest r a b v e p q n = absurd (let f : false ≡ true = e in cc)
-mark_more i.Less d us rest r a b v e p q n = absurd (let f : false ≡ true = e in cc)
-mark_more i.AtMost d us rest r a b v e p q n = absurd (let f : false ≡ true = e in cc)
-mark_more i.Greater d us rest r a b v e p q n = absurd (let f : false ≡ true = e in cc)
-mark_more i.AtLeast d us rest r a b v e p q n = absurd (let f : false ≡ true = e in cc)
-mark_more i.In d us rest r a b v e p q n = absurd (let f : false ≡ true = e in cc)
-mark_more i.Range d us rest r a b v e p q n = absurd (let f : false ≡ true = e in cc)
-mark_more i.Plus d us rest r a b v e p q n = reads_more (reads_bind (reads_token refl) (reads_bind (p 0) reads_gives)) (q (suc n))
-mark_more i.Minus d us rest r a b v e p q n = reads_more (reads_bind (reads_token refl) (reads_bind (p 0) reads_gives)) (q (suc n))
-mark_more i.Times d us rest r a b v e p q n = reads_more (reads_bind (reads_token refl) (reads_bind (p 0) reads_gives)) (q (suc n))
-mark_more i.Remainder d us rest r a b v e p q n = reads_more (reads_bind (reads_token refl) (reads_bind (p 0) reads_gives)) (q (suc n))
+pub infix_more : (x : InfixOperator) (d : ℕ) (us rest r : List Lexeme) (a b v : Tree) → is_chain (infix_level x) ≡ true → Reading (suc (infix_level x)) d us b rest → Chained (infix_level x) d (binary nowhere x a b) rest v r → Chained (infix_level x) d a (lx (infix_token x) ∷ us) v r
+infix_more i.Or d us rest r a b v e p q n = reads_more (reads_bind (reads_token refl) (reads_bind (p 0) reads_gives)) (q (suc n))
+infix_more i.And d us rest r a b v e p q n = reads_more (reads_bind (reads_token refl) (reads_bind (p 0) reads_gives)) (q (suc n))
+infix_more i.Pipe d us rest r a b v e p q n = reads_more (reads_bind (reads_token refl) (reads_bind (p 0) reads_gives)) (q (suc n))
+infix_more i.Same d us rest r a b v e p q n = absurd (let f : false ≡ true = e in cc)
+infix_more i.Differs d us rest r a b v e p q n = absurd (let f : false ≡ true = e in cc)
+infix_more i.Matches d us rest r a b v e p q n = absurd (let f : false ≡ true = e in cc)
+infix_more i.Less d us rest r a b v e p q n = absurd (let f : false ≡ true = e in cc)
+infix_more i.AtMost d us rest r a b v e p q n = absurd (let f : false ≡ true = e in cc)
+infix_more i.Greater d us rest r a b v e p q n = absurd (let f : false ≡ true = e in cc)
+infix_more i.AtLeast d us rest r a b v e p q n = absurd (let f : false ≡ true = e in cc)
+infix_more i.In d us rest r a b v e p q n = absurd (let f : false ≡ true = e in cc)
+infix_more i.Range d us rest r a b v e p q n = absurd (let f : false ≡ true = e in cc)
+infix_more i.Plus d us rest r a b v e p q n = reads_more (reads_bind (reads_token refl) (reads_bind (p 0) reads_gives)) (q (suc n))
+infix_more i.Minus d us rest r a b v e p q n = reads_more (reads_bind (reads_token refl) (reads_bind (p 0) reads_gives)) (q (suc n))
+infix_more i.Times d us rest r a b v e p q n = reads_more (reads_bind (reads_token refl) (reads_bind (p 0) reads_gives)) (q (suc n))
+infix_more i.Remainder d us rest r a b v e p q n = reads_more (reads_bind (reads_token refl) (reads_bind (p 0) reads_gives)) (q (suc n))
 
-pub mark_once : (x : InfixOperator) (d : ℕ) (ts us rest : List Lexeme) (a b : Tree) → is_chain (mark_level x) ≡ false → Reading (suc (mark_level x)) d ts a (lx (infix_token x) ∷ us) → Reading (suc (mark_level x)) d us b rest → Reading (mark_level x) d ts (binary nowhere x a b) rest
+pub infix_once : (x : InfixOperator) (d : ℕ) (ts us rest : List Lexeme) (a b : Tree) → is_chain (infix_level x) ≡ false → Reading (suc (infix_level x)) d ts a (lx (infix_token x) ∷ us) → Reading (suc (infix_level x)) d us b rest → Reading (infix_level x) d ts (binary nowhere x a b) rest
 unfolding rules
-mark_once i.Or d ts us rest a b e p q n = absurd (let f : true ≡ false = e in cc)
-mark_once i.And d ts us rest a b e p q n = absurd (let f : true ≡ false = e in cc)
-mark_once i.Pipe d ts us rest a b e p q n = absurd (let f : true ≡ false = e in cc)
-mark_once i.Same d ts us rest a b e p q n = reads_rule (reads_bind (p 0) (reads_left (reads_bind (reads_token refl) (reads_bind (q 0) reads_gives))))
-mark_once i.Differs d ts us rest a b e p q n = reads_rule (reads_bind (p 0) (reads_left (reads_bind (reads_token refl) (reads_bind (q 0) reads_gives))))
-mark_once i.Matches d ts us rest a b e p q n = reads_rule (reads_bind (p 0) (reads_left (reads_bind (reads_token refl) (reads_bind (q 0) reads_gives))))
-mark_once i.Less d ts us rest a b e p q n = reads_rule (reads_bind (p 0) (reads_left (reads_bind (reads_token refl) (reads_bind (q 0) reads_gives))))
-mark_once i.AtMost d ts us rest a b e p q n = reads_rule (reads_bind (p 0) (reads_left (reads_bind (reads_token refl) (reads_bind (q 0) reads_gives))))
-mark_once i.Greater d ts us rest a b e p q n = reads_rule (reads_bind (p 0) (reads_left (reads_bind (reads_token refl) (reads_bind (q 0) reads_gives))))
-mark_once i.AtLeast d ts us rest a b e p q n = reads_rule (reads_bind (p 0) (reads_left (reads_bind (reads_token refl) (reads_bind (q 0) reads_gives))))
-mark_once i.In d ts us rest a b e p q n = reads_rule (reads_bind (p 0) (reads_left (reads_bind (reads_token refl) (reads_bind (q 0) reads_gives))))
-mark_once i.Range d ts us rest a b e p q n = reads_rule (reads_bind (p 0) (reads_left (reads_bind (reads_token refl) (reads_bind (q 0) reads_gives))))
-mark_once i.Plus d ts us rest a b e p q n = absurd (let f : true ≡ false = e in cc)
-mark_once i.Minus d ts us rest a b e p q n = absurd (let f : true ≡ false = e in cc)
-mark_once i.Times d ts us rest a b e p q n = absurd (let f : true ≡ false = e in cc)
-mark_once i.Remainder d ts us rest a b e p q n = absurd (let f : true ≡ false = e in cc)
+infix_once i.Or d ts us rest a b e p q n = absurd (let f : true ≡ false = e in cc)
+infix_once i.And d ts us rest a b e p q n = absurd (let f : true ≡ false = e in cc)
+infix_once i.Pipe d ts us rest a b e p q n = absurd (let f : true ≡ false = e in cc)
+infix_once i.Same d ts us rest a b e p q n = reads_rule (reads_bind (p 0) (reads_left (reads_bind (reads_token refl) (reads_bind (q 0) reads_gives))))
+infix_once i.Differs d ts us rest a b e p q n = reads_rule (reads_bind (p 0) (reads_left (reads_bind (reads_token refl) (reads_bind (q 0) reads_gives))))
+infix_once i.Matches d ts us rest a b e p q n = reads_rule (reads_bind (p 0) (reads_left (reads_bind (reads_token refl) (reads_bind (q 0) reads_gives))))
+infix_once i.Less d ts us rest a b e p q n = reads_rule (reads_bind (p 0) (reads_left (reads_bind (reads_token refl) (reads_bind (q 0) reads_gives))))
+infix_once i.AtMost d ts us rest a b e p q n = reads_rule (reads_bind (p 0) (reads_left (reads_bind (reads_token refl) (reads_bind (q 0) reads_gives))))
+infix_once i.Greater d ts us rest a b e p q n = reads_rule (reads_bind (p 0) (reads_left (reads_bind (reads_token refl) (reads_bind (q 0) reads_gives))))
+infix_once i.AtLeast d ts us rest a b e p q n = reads_rule (reads_bind (p 0) (reads_left (reads_bind (reads_token refl) (reads_bind (q 0) reads_gives))))
+infix_once i.In d ts us rest a b e p q n = reads_rule (reads_bind (p 0) (reads_left (reads_bind (reads_token refl) (reads_bind (q 0) reads_gives))))
+infix_once i.Range d ts us rest a b e p q n = reads_rule (reads_bind (p 0) (reads_left (reads_bind (reads_token refl) (reads_bind (q 0) reads_gives))))
+infix_once i.Plus d ts us rest a b e p q n = absurd (let f : true ≡ false = e in cc)
+infix_once i.Minus d ts us rest a b e p q n = absurd (let f : true ≡ false = e in cc)
+infix_once i.Times d ts us rest a b e p q n = absurd (let f : true ≡ false = e in cc)
+infix_once i.Remainder d ts us rest a b e p q n = absurd (let f : true ≡ false = e in cc)

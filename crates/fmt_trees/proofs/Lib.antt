@@ -1,5 +1,5 @@
-pub mod Spelt
-pub mod SpeltTops
+pub mod TreeTokens
+pub mod TopTokens
 pub mod Levels
 pub mod Own
 pub mod Rows
@@ -12,12 +12,12 @@ pub mod Quiet
 pub mod Bodies
 pub mod Sections
 pub mod Settling
-pub mod Told
+pub mod SettledExprs
 pub mod Tops
 pub mod Readable
-pub mod Said
-pub mod ToldTops
-pub mod Tells
+pub mod SettledBodies
+pub mod SettledTops
+pub mod SettledTrees
 pub mod Erasing
 pub mod Blind
 pub mod Placeless

@@ -1,4 +1,4 @@
--- Lists, maps and templates.
+-- How lists, maps and templates are read.
 use Rattle.std.proofs.Common.{◌≡◌, ℕ, suc, true, false, List, ◌∷◌, refl, sym, subst}
 use Rattle.nf_value.specs.declared.place.Place.{Place}
 use Rattle.nf_token.specs.declared.token.Mark.TheVariants as m
@@ -13,10 +13,10 @@ use Rattle.nf_ast.specs.Tree.{Tree, empty, cons, snoc}
 use Rattle.nf_exprs.specs.Level.{Expr, Pair, Gram}
 use Rattle.nf_exprs.specs.Tokens.{items_end}
 use Rattle.nf_exprs.specs.Rules.{rules, squared, template_of, no_part, part_next, ended_by_comma}
-use Rattle.nf_printer.specs.Lines.{Layout, inline}
+use Rattle.nf_writer.specs.Lines.{Layout, inline}
 use Rattle.fmt_trees.specs.Bare.{bare, nowhere}
-use Rattle.fmt_trees.proofs.Spelt as spelt
-use Rattle.fmt_trees.proofs.Spelt.{spell, held, mark, lx, colon_alone}
+use Rattle.fmt_trees.proofs.TreeTokens as tree_tokens
+use Rattle.fmt_trees.proofs.TreeTokens.{spell, held, mark, lx, colon_alone}
 use Rattle.fmt_trees.proofs.Levels.{ends}
 use Rattle.fmt_trees.proofs.Own.{IsRead, whole}
 use Rattle.fmt_trees.proofs.Rows.{Each, none, some, no_row, joined_snoc, joined_nothing, snoc_row, Closes, by_comma, by_round, by_square, by_brace, by_separator, by_arrow, by_nothing, Plain, listed_read}
@@ -24,7 +24,7 @@ use Rattle.fmt_trees.proofs.Holds.{KeyRead, PiecesRead}
 use Rattle.fmt_trees.proofs.Prims.{prim_open}
 use Rattle.fmt_trees.proofs.Posts.{each_plain}
 
--- nothing goes on with an expression
+-- what follows doesn't go on with an expression
 pub nothing_more : (tl : List Lexeme) → Closes tl → ends 0 tl ≡ true
 nothing_more _ by_comma = refl
 nothing_more _ by_round = refl
@@ -38,10 +38,10 @@ pub expr_plain : (d : ℕ) (l : Layout) (e : Tree) → IsRead e → Plain (rule 
 expr_plain d l e h tl c = whole e h d l false tl (nothing_more tl c) 0
 
 -- parts of a list without a comma at its end
-comma_ended : (g : Gram) (l : Layout) (x xs : Tree) (tl : List Lexeme) → Plain g l x → Each (Plain g l) xs → Reads rules (ended_by_comma g) (spelt.listed (cons x xs) l (mark m.CloseSquare tl)) (cons (bare x) (bare xs)) (mark m.CloseSquare tl)
+comma_ended : (g : Gram) (l : Layout) (x xs : Tree) (tl : List Lexeme) → Plain g l x → Each (Plain g l) xs → Reads rules (ended_by_comma g) (tree_tokens.listed (cons x xs) l (mark m.CloseSquare tl)) (cons (bare x) (bare xs)) (mark m.CloseSquare tl)
 comma_ended g l x xs tl p q = reads_bind (listed_read g l items_end x (mark m.CloseSquare tl) p q by_square refl) (reads_bind (reads_right (reads_where refl reads_gives)) reads_gives)
 
-list_squared : {xs : Tree} → Each IsRead xs → (d : ℕ) (l : Layout) (tl : List Lexeme) → Reads rules (squared d nowhere) (spelt.listed xs l (mark m.CloseSquare tl)) (tree.list nowhere (bare xs)) tl
+list_squared : {xs : Tree} → Each IsRead xs → (d : ℕ) (l : Layout) (tl : List Lexeme) → Reads rules (squared d nowhere) (tree_tokens.listed xs l (mark m.CloseSquare tl)) (tree.list nowhere (bare xs)) tl
 list_squared none d l tl = reads_bind (reads_left (reads_bind (reads_right (reads_where refl reads_gives)) reads_gives)) (reads_bind (reads_token refl) reads_gives)
 list_squared (some {x = x} {xs = xs} p q) d l tl = reads_bind (reads_left (reads_bind (reads_left (comma_ended (rule (Expr d 0)) l x xs tl (expr_plain d l x p) (each_plain (λ y h. expr_plain d l y h) q))) reads_gives)) (reads_bind (reads_token refl) reads_gives)
 
@@ -52,7 +52,7 @@ list_read p xs h = prim_open (tree.list p xs) (λ d l g rest n. reads_rule (read
 abbrev pub PairRead : Tree → Type 0
 PairRead x = (d : ℕ) (l : Layout) → Plain (rule (Pair d)) l x
 
-map_squared : {xs : Tree} → Each PairRead xs → (d : ℕ) (l : Layout) (tl : List Lexeme) → Reads rules (squared d nowhere) (colon_alone xs (spelt.listed xs l (mark m.CloseSquare tl))) (tree.map nowhere (bare xs)) tl
+map_squared : {xs : Tree} → Each PairRead xs → (d : ℕ) (l : Layout) (tl : List Lexeme) → Reads rules (squared d nowhere) (colon_alone xs (tree_tokens.listed xs l (mark m.CloseSquare tl))) (tree.map nowhere (bare xs)) tl
 map_squared none d l tl = reads_bind (reads_right (reads_right (reads_bind (reads_token refl) reads_gives))) (reads_bind (reads_token refl) reads_gives)
 map_squared (some {x = x} {xs = xs} p q) d l tl = reads_bind (reads_right (reads_left (reads_bind (comma_ended (rule (Pair d)) l x xs tl (p d l) (each_plain (λ y h. h d l) q)) reads_gives))) (reads_bind (reads_token refl) reads_gives)
 
@@ -85,12 +85,12 @@ no_pieces d n l acc tl r e = subst (λ v. Reads rules (many no_part (part_next d
 
 pub text_piece : (r : Place) (b : ℕ) (s : List ℕ) (xs : Tree) → PiecesRead xs → PiecesRead (cons (tree.piece r (b ∷ s)) xs)
 text_piece p b s xs h d n l acc tl r e =
-    subst (λ v. Reads rules (many no_part (part_next d) n acc) (lx (t.TemplateText (b ∷ s)) ∷ spelt.pieces xs l tl) v tl) (joined_snoc (tree.piece nowhere (b ∷ s)) (bare xs) r)
+    subst (λ v. Reads rules (many no_part (part_next d) n acc) (lx (t.TemplateText (b ∷ s)) ∷ tree_tokens.pieces xs l tl) v tl) (joined_snoc (tree.piece nowhere (b ∷ s)) (bare xs) r)
     (reads_more (reads_bind (reads_left (reads_token refl)) reads_gives) (h d (suc n) l (snoc acc (tree.piece nowhere (b ∷ s))) tl (snoc_row _ r) e))
 
 pub hole_piece : (r : Place) (x xs : Tree) → IsRead x → PiecesRead xs → PiecesRead (cons (tree.hole r x) xs)
 hole_piece p x xs i h d n l acc tl r e =
-    let us : List Lexeme = spelt.pieces xs l tl in
+    let us : List Lexeme = tree_tokens.pieces xs l tl in
     subst (λ v. Reads rules (many no_part (part_next d) n acc) (lx t.OpenHole ∷ spell x inline false (lx t.CloseHole ∷ us)) v tl) (joined_snoc (tree.hole nowhere (bare x)) (bare xs) r)
     (reads_more (reads_bind (reads_right (reads_bind (reads_token refl) (reads_bind (whole x i (suc d) inline false (lx t.CloseHole ∷ us) refl 0) (reads_bind (reads_token refl) reads_gives)))) reads_gives)
     (h d (suc n) l (snoc acc (tree.hole nowhere (bare x))) tl (snoc_row _ r) e))

@@ -1,4 +1,4 @@
--- What it is for an expression to be read from its tokens, and how one is read where brackets may stand round it.
+-- What it is for an expression to be read from its tokens, also where brackets may stand round it.
 use Rattle.std.proofs.Common.{◌≡◌, ℕ, zero, suc, Bool, true, false, List, ◌+◌, ◌-◌, ◌≤◌, refl, subst, arith, ltb-true, ltb-false}
 use Rattle.std.proofs.lemmas.Bool.{le-ltb}
 use Rattle.nf_token.specs.declared.token.Mark.TheVariants as m
@@ -7,16 +7,16 @@ use Rattle.nf_grammar.specs.Reads.{reads_token, reads_gives, reads_bind, reads_l
 use Rattle.nf_ast.specs.Tree.{Tree}
 use Rattle.nf_exprs.specs.Rules.{rules}
 use Rattle.nf_printer.specs.Levels.{level, needs}
-use Rattle.nf_printer.specs.Lines.{Layout}
+use Rattle.nf_writer.specs.Lines.{Layout}
 use Rattle.fmt_trees.specs.Bare.{bare}
-use Rattle.fmt_trees.proofs.Spelt.{spell, held, mark}
+use Rattle.fmt_trees.proofs.TreeTokens.{spell, held, mark}
 use Rattle.fmt_trees.proofs.Levels.{Reading, ends, weaker, climb, is_chain, Chained, begins, chain_ends}
 
--- the expression is read where nothing goes on
+-- the expression is read where what follows doesn't go on with it
 abbrev pub Closed : ℕ → Tree → Type 0
 Closed m e = (d : ℕ) (l : Layout) (g : Bool) (rest : List Lexeme) → ends m rest ≡ true → Reading m d (spell e l g rest) (bare e) rest
 
--- the expression is read, and then what goes on after it on its level
+-- the expression is read, and then the operators and operands that follow on its level
 abbrev pub Open : ℕ → Tree → Type 0
 Open m e = (d : ℕ) (l : Layout) (g : Bool) (rest r : List Lexeme) (v : Tree) → ends (suc m) rest ≡ true → Chained m d (bare e) rest v r → Reading m d (spell e l g rest) v r
 
@@ -56,7 +56,7 @@ held_by : (b : Bool) (k : ℕ) (e : Tree) → needs k e ≡ b → k ≤ 11 → I
 held_by true k e q b h = in_round k e b h
 held_by false k e q b h = closed_at k e q h
 
--- where the level asks for brackets or doesn't
+-- an expression in brackets where its level needs them
 pub held_at : (k : ℕ) (e : Tree) → k ≤ 11 → IsRead e → (d : ℕ) (l : Layout) (g : Bool) (rest : List Lexeme) → ends k rest ≡ true → Reading k d (held (needs k e) (spell e l g) rest) (bare e) rest
 held_at k e = held_by (needs k e) k e refl
 

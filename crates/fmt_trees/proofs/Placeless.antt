@@ -1,4 +1,4 @@
--- No row of the grammar depends on a place.
+-- No rule of the grammar depends on a place: a line for each.
 use Rattle.std.proofs.Common.{◌≡◌, ℕ, suc, Bool, List, refl, sym, ap, ◌∙◌}
 use Rattle.std.specs.Prelude.{not, ◌||◌, codes}
 use Rattle.nf_value.specs.declared.place.Place.{Place}
@@ -51,7 +51,7 @@ else_bare : (c e : Tree) → bare (g.with_else c e) ≡ g.with_else (bare c) (ba
 else_bare (tree.choice p c xs x) e = refl
 else_bare _ e = refl
 
--- a tree at the place of another
+-- a tree that takes the place of another
 at_nowhere : (f : Place → Tree) (x : Tree) → f nowhere ≡ f (place_of (bare x))
 at_nowhere f x = ap f (sym (place_bare x))
 
@@ -111,7 +111,7 @@ er_round d e = er_bind (er_mark m.OpenRound) (λ o. er_bind e (λ x. er_bind (er
 er_head : (x : List ℕ) → Erases (g.head x) (g.head x)
 er_head x = er_bind (er_word x) (λ w. er_bind (er_mark m.Colon) (λ c. er_gives refl))
 
--- what is built at the place of a tree
+-- a tree that is built at the place of another
 er_at : (f : Place → Tree → Tree) (x : Tree) {h i : Gram} → ((y : Tree) → bare (f (place_of x) y) ≡ f nowhere (bare y)) → Erases h i → Erases (h >>= λ y. gives (f (place_of x) y)) (i >>= λ y. gives (f (place_of (bare x)) y))
 er_at f x h e = er_bind e (λ y. er_gives (h y ∙ at_nowhere (λ p. f p (bare y)) x))
 

@@ -1,4 +1,4 @@
--- Parts after an expression.
+-- How the parts after an expression are read.
 use Rattle.std.proofs.Common.{ℕ, suc, Bool, false, List, refl, sym, subst, arith}
 use Rattle.std.specs.Prelude.{not, ◌&&◌}
 use Rattle.nf_value.specs.declared.place.Place.{Place}
@@ -12,10 +12,10 @@ use Rattle.nf_exprs.specs.Level.{Args, Arg}
 use Rattle.nf_exprs.specs.Tokens.{no_start}
 use Rattle.nf_exprs.specs.Rules.{rules, maybe, post_part, no_comma}
 use Rattle.nf_printer.specs.Levels.{needs}
-use Rattle.nf_printer.specs.Lines.{Layout}
+use Rattle.nf_writer.specs.Lines.{Layout}
 use Rattle.fmt_trees.specs.Bare.{bare}
-use Rattle.fmt_trees.proofs.Spelt as spelt
-use Rattle.fmt_trees.proofs.Spelt.{spell, held, mark}
+use Rattle.fmt_trees.proofs.TreeTokens as tree_tokens
+use Rattle.fmt_trees.proofs.TreeTokens.{spell, held, mark}
 use Rattle.fmt_trees.proofs.Levels.{Reading, Chained}
 use Rattle.fmt_trees.proofs.Own.{IsRead, whole, chain_at}
 use Rattle.fmt_trees.proofs.Rows.{Each, none, some, by_round, Plain, listed_read}
@@ -41,13 +41,13 @@ each_plain f (some {x = x} p q) = some (f x p) (each_plain f q)
 abbrev pub ArgRead : Tree → Type 0
 ArgRead x = (d : ℕ) (l : Layout) → Plain (rule (Arg d)) l x
 
-args_read : {xs : Tree} → Each ArgRead xs → (d : ℕ) (l : Layout) (rest : List Lexeme) → Reads rules (maybe (rule (Args d)) no_start) (spelt.listed xs l (mark m.CloseRound rest)) (bare xs) (mark m.CloseRound rest)
+args_read : {xs : Tree} → Each ArgRead xs → (d : ℕ) (l : Layout) (rest : List Lexeme) → Reads rules (maybe (rule (Args d)) no_start) (tree_tokens.listed xs l (mark m.CloseRound rest)) (bare xs) (mark m.CloseRound rest)
 unfolding rules
 args_read none d l rest = reads_right (reads_where refl reads_gives)
 args_read (some {x = x} {xs = xs} p q) d l rest = reads_left (reads_rule (listed_read (rule (Arg d)) l no_comma x (mark m.CloseRound rest) (p d l) (each_plain (λ y f. f d l) q) by_round refl))
 
 pub call_read : (p : Place) (e xs : Tree) → IsRead e → Each ArgRead xs → IsRead (tree.call p e xs)
-call_read p e xs h i d l g rest r v q x = part_after e (bare (tree.call p e xs)) h d l (g && not (needs 10 e)) (mark m.OpenRound (spelt.listed xs l (mark m.CloseRound rest))) rest r v (λ k. reads_right (reads_right (reads_right (reads_left (reads_bind (reads_token refl) (reads_bind (args_read i (suc d) l rest) (reads_bind (reads_token refl) reads_gives))))))) x
+call_read p e xs h i d l g rest r v q x = part_after e (bare (tree.call p e xs)) h d l (g && not (needs 10 e)) (mark m.OpenRound (tree_tokens.listed xs l (mark m.CloseRound rest))) rest r v (λ k. reads_right (reads_right (reads_right (reads_left (reads_bind (reads_token refl) (reads_bind (args_read i (suc d) l rest) (reads_bind (reads_token refl) reads_gives))))))) x
 
 with_read : (d n : ℕ) (l : Layout) (e c : Tree) (rest : List Lexeme) → Braced (suc d) l false c rest → Reads rules (post_part d n (bare e)) (spell c l false rest) (bare (tree.call_with e c)) rest
 with_read d n l e c rest b = subst (λ ts. Reads rules (post_part d n (bare e)) ts (bare (tree.call_with e c)) rest) (sym b.opens) (reads_right (reads_right (reads_right (reads_right (reads_bind (reads_token refl) (reads_bind b.reads reads_gives))))))

@@ -1,4 +1,4 @@
--- Expressions of one token, of brackets, and marks.
+-- How names, literals, brackets and operators are read.
 use Rattle.std.proofs.Common.{◌≡◌, ℕ, ℤ, suc, Bool, true, false, List, ◌∷◌, ◌≤◌, refl, sym, subst, arith}
 use Rattle.std.specs.Prelude.{not, ◌&&◌}
 use Rattle.nf_value.specs.declared.place.Place.{Place}
@@ -13,14 +13,14 @@ use Rattle.nf_ast.specs.declared.marks.PrefixOperator.TheVariants as f
 use Rattle.nf_ast.specs.Tree as tree
 use Rattle.nf_ast.specs.Tree.{Tree}
 use Rattle.nf_exprs.specs.Rules.{rules}
-use Rattle.nf_printer.specs.Levels.{needs, mark_level, left_level}
-use Rattle.nf_printer.specs.Lines.{Layout}
+use Rattle.nf_printer.specs.Levels.{needs, infix_level, left_level}
+use Rattle.nf_writer.specs.Lines.{Layout}
 use Rattle.fmt_trees.specs.Bare.{bare}
-use Rattle.fmt_trees.proofs.Spelt.{spell, held, mark, lx, word, infix_token}
-use Rattle.fmt_trees.proofs.Levels.{Reading, weaker, climb, is_chain, begins, mark_ends, mark_more, mark_once}
+use Rattle.fmt_trees.proofs.TreeTokens.{spell, held, mark, lx, word, infix_token}
+use Rattle.fmt_trees.proofs.Levels.{Reading, weaker, climb, is_chain, begins, infix_ends, infix_more, infix_once}
 use Rattle.fmt_trees.proofs.Own.{Closed, Open, Own, IsRead, whole, held_at, chain_at}
 
--- an expression that is read as one without marks
+-- an expression without an operator outermost
 abbrev pub AsPrim : Tree → Type 0
 AsPrim e = (d : ℕ) (l : Layout) (g : Bool) (rest : List Lexeme) → Reading 11 d (spell e l g rest) (bare e) rest
 
@@ -63,7 +63,7 @@ pub null_read : (p : Place) → IsRead (tree.null p)
 unfolding rules
 null_read p = prim_open (tree.null p) (λ d l g rest k. reads_rule (reads_left (reads_token refl)))
 
--- ---- marks before and between operands
+-- ---- operators before and between operands
 
 prefix_token_read : (x : PrefixOperator) (p : Place) (e : Tree) → IsRead e → Closed 9 (tree.prefix p x e)
 unfolding rules
@@ -73,7 +73,7 @@ prefix_token_read f.Minus p e h d l g rest q n = reads_rule (reads_left (reads_b
 pub prefix_read : (p : Place) (x : PrefixOperator) (e : Tree) → IsRead e → IsRead (tree.prefix p x e)
 prefix_read p x e h = prefix_token_read x p e h
 
-left_chain : (x : InfixOperator) → is_chain (mark_level x) ≡ true → left_level x ≡ mark_level x
+left_chain : (x : InfixOperator) → is_chain (infix_level x) ≡ true → left_level x ≡ infix_level x
 left_chain i.Or h = refl
 left_chain i.And h = refl
 left_chain i.Pipe h = refl
@@ -83,7 +83,7 @@ left_chain i.Times h = refl
 left_chain i.Remainder h = refl
 left_chain _ h = absurd (let f : false ≡ true = h in cc)
 
-left_once : (x : InfixOperator) → is_chain (mark_level x) ≡ false → left_level x ≡ suc (mark_level x)
+left_once : (x : InfixOperator) → is_chain (infix_level x) ≡ false → left_level x ≡ suc (infix_level x)
 left_once i.Same h = refl
 left_once i.Differs h = refl
 left_once i.Matches h = refl
@@ -95,39 +95,39 @@ left_once i.In h = refl
 left_once i.Range h = refl
 left_once _ h = absurd (let f : true ≡ false = h in cc)
 
-low_mark : (x : InfixOperator) → mark_level x ≤ 8
-low_mark i.Or = omega arith
-low_mark i.And = omega arith
-low_mark i.Pipe = omega arith
-low_mark i.Same = omega arith
-low_mark i.Differs = omega arith
-low_mark i.Matches = omega arith
-low_mark i.Less = omega arith
-low_mark i.AtMost = omega arith
-low_mark i.Greater = omega arith
-low_mark i.AtLeast = omega arith
-low_mark i.In = omega arith
-low_mark i.Range = omega arith
-low_mark i.Plus = omega arith
-low_mark i.Minus = omega arith
-low_mark i.Times = omega arith
-low_mark i.Remainder = omega arith
+low_level : (x : InfixOperator) → infix_level x ≤ 8
+low_level i.Or = omega arith
+low_level i.And = omega arith
+low_level i.Pipe = omega arith
+low_level i.Same = omega arith
+low_level i.Differs = omega arith
+low_level i.Matches = omega arith
+low_level i.Less = omega arith
+low_level i.AtMost = omega arith
+low_level i.Greater = omega arith
+low_level i.AtLeast = omega arith
+low_level i.In = omega arith
+low_level i.Range = omega arith
+low_level i.Plus = omega arith
+low_level i.Minus = omega arith
+low_level i.Times = omega arith
+low_level i.Remainder = omega arith
 
-binary_by : (c : Bool) (p : Place) (x : InfixOperator) (a b : Tree) → is_chain (mark_level x) ≡ c → IsRead a → IsRead b → Own c (mark_level x) (tree.binary p x a b)
+binary_by : (c : Bool) (p : Place) (x : InfixOperator) (a b : Tree) → is_chain (infix_level x) ≡ c → IsRead a → IsRead b → Own c (infix_level x) (tree.binary p x a b)
 binary_by true p x a b i h k = λ d l g rest r v q y.
-    let after : List Lexeme = held (needs (suc (mark_level x)) b) (spell b l false) rest in
-    subst (λ n. Reading (mark_level x) d (held (needs n a) (spell a l (g && not (needs n a))) (lx (infix_token x) ∷ after)) v r) (sym (left_chain x i))
-    (chain_at (mark_level x) a (omega (arith, low_mark x)) i h d l (g && not (needs (mark_level x) a)) (lx (infix_token x) ∷ after) r v (mark_ends x after)
-    (mark_more x d after rest r (bare a) (bare b) v i (held_at (suc (mark_level x)) b (omega (arith, low_mark x)) k d l false rest q) y))
+    let after : List Lexeme = held (needs (suc (infix_level x)) b) (spell b l false) rest in
+    subst (λ n. Reading (infix_level x) d (held (needs n a) (spell a l (g && not (needs n a))) (lx (infix_token x) ∷ after)) v r) (sym (left_chain x i))
+    (chain_at (infix_level x) a (omega (arith, low_level x)) i h d l (g && not (needs (infix_level x) a)) (lx (infix_token x) ∷ after) r v (infix_ends x after)
+    (infix_more x d after rest r (bare a) (bare b) v i (held_at (suc (infix_level x)) b (omega (arith, low_level x)) k d l false rest q) y))
 binary_by false p x a b i h k = λ d l g rest q.
-    let after : List Lexeme = held (needs (suc (mark_level x)) b) (spell b l false) rest in
-    subst (λ n. Reading (mark_level x) d (held (needs n a) (spell a l (g && not (needs n a))) (lx (infix_token x) ∷ after)) (bare (tree.binary p x a b)) rest) (sym (left_once x i))
-    (mark_once x d _ after rest (bare a) (bare b) i
-    (held_at (suc (mark_level x)) a (omega (arith, low_mark x)) h d l (g && not (needs (suc (mark_level x)) a)) (lx (infix_token x) ∷ after) (mark_ends x after))
-    (held_at (suc (mark_level x)) b (omega (arith, low_mark x)) k d l false rest (weaker (mark_level x) rest q)))
+    let after : List Lexeme = held (needs (suc (infix_level x)) b) (spell b l false) rest in
+    subst (λ n. Reading (infix_level x) d (held (needs n a) (spell a l (g && not (needs n a))) (lx (infix_token x) ∷ after)) (bare (tree.binary p x a b)) rest) (sym (left_once x i))
+    (infix_once x d _ after rest (bare a) (bare b) i
+    (held_at (suc (infix_level x)) a (omega (arith, low_level x)) h d l (g && not (needs (suc (infix_level x)) a)) (lx (infix_token x) ∷ after) (infix_ends x after))
+    (held_at (suc (infix_level x)) b (omega (arith, low_level x)) k d l false rest (weaker (infix_level x) rest q)))
 
 pub binary_read : (p : Place) (x : InfixOperator) (a b : Tree) → IsRead a → IsRead b → IsRead (tree.binary p x a b)
-binary_read p x a b = binary_by (is_chain (mark_level x)) p x a b refl
+binary_read p x a b = binary_by (is_chain (infix_level x)) p x a b refl
 
 -- ---- conditions
 

@@ -1,4 +1,4 @@
--- Which expressions a statement can begin with, and not be one that prints.
+-- No printed expression statement is read as `println` or `log`.
 use Rattle.std.proofs.Common.{◌≡◌, ℕ, Bool, true, false, List, ◌∷◌, Some, None, refl, ap, ◌∙◌}
 use Rattle.std.specs.Prelude.{not, ◌&&◌, ◌||◌, codes, bytes_eq, if◌then◌else◌}
 use Rattle.nf_token.specs.declared.token.Mark.TheVariants as m
@@ -14,10 +14,10 @@ use Rattle.nf_ast.specs.Tree.{Tree}
 use Rattle.nf_exprs.specs.Tokens.{starts, logs, is_next, mark_of, word_of}
 use Rattle.nf_exprs.specs.Tokens as tokens
 use Rattle.nf_printer.specs.Levels.{needs, left_level, right_level, prints, is_name, is_minus}
-use Rattle.nf_printer.specs.Lines.{Layout}
+use Rattle.nf_writer.specs.Lines.{Layout}
 use Rattle.fmt_trees.specs.Shape as sort
 use Rattle.fmt_trees.specs.Shape.{Shaped}
-use Rattle.fmt_trees.proofs.Spelt.{spell, held, mark, word, lx, infix_token, prefix_token}
+use Rattle.fmt_trees.proofs.TreeTokens.{spell, held, mark, word, lx, infix_token, prefix_token}
 use Rattle.fmt_trees.proofs.Rows.{Closes, by_comma, by_round, by_square, by_brace, by_separator, by_arrow, by_nothing}
 use Rattle.fmt_trees.proofs.Fronts.{Other, a_number, a_plain, a_pattern, a_template, a_true, a_false, a_null, a_not, a_minus, a_round, a_square, a_brace}
 
@@ -110,43 +110,43 @@ held_quiet : (b : Bool) (h : List Lexeme → List Lexeme) (q : Bool) (us : List 
 held_quiet true h q us e f = refl
 held_quiet false h q us e f = f e
 
-mark_starts : (x : InfixOperator) (us : List Lexeme) → starts (lx (infix_token x) ∷ us) ≡ is_minus x
-mark_starts i.Or us = refl
-mark_starts i.And us = refl
-mark_starts i.Pipe us = refl
-mark_starts i.Same us = refl
-mark_starts i.Differs us = refl
-mark_starts i.Matches us = refl
-mark_starts i.Less us = refl
-mark_starts i.AtMost us = refl
-mark_starts i.Greater us = refl
-mark_starts i.AtLeast us = refl
-mark_starts i.In us = refl
-mark_starts i.Range us = refl
-mark_starts i.Plus us = refl
-mark_starts i.Minus us = refl
-mark_starts i.Times us = refl
-mark_starts i.Remainder us = refl
+infix_starts : (x : InfixOperator) (us : List Lexeme) → starts (lx (infix_token x) ∷ us) ≡ is_minus x
+infix_starts i.Or us = refl
+infix_starts i.And us = refl
+infix_starts i.Pipe us = refl
+infix_starts i.Same us = refl
+infix_starts i.Differs us = refl
+infix_starts i.Matches us = refl
+infix_starts i.Less us = refl
+infix_starts i.AtMost us = refl
+infix_starts i.Greater us = refl
+infix_starts i.AtLeast us = refl
+infix_starts i.In us = refl
+infix_starts i.Range us = refl
+infix_starts i.Plus us = refl
+infix_starts i.Minus us = refl
+infix_starts i.Times us = refl
+infix_starts i.Remainder us = refl
 
-mark_no_dot : (x : InfixOperator) (us : List Lexeme) → is_next (mark_of m.Dot) (lx (infix_token x) ∷ us) ≡ false
-mark_no_dot i.Or us = refl
-mark_no_dot i.And us = refl
-mark_no_dot i.Pipe us = refl
-mark_no_dot i.Same us = refl
-mark_no_dot i.Differs us = refl
-mark_no_dot i.Matches us = refl
-mark_no_dot i.Less us = refl
-mark_no_dot i.AtMost us = refl
-mark_no_dot i.Greater us = refl
-mark_no_dot i.AtLeast us = refl
-mark_no_dot i.In us = refl
-mark_no_dot i.Range us = refl
-mark_no_dot i.Plus us = refl
-mark_no_dot i.Minus us = refl
-mark_no_dot i.Times us = refl
-mark_no_dot i.Remainder us = refl
+infix_no_dot : (x : InfixOperator) (us : List Lexeme) → is_next (mark_of m.Dot) (lx (infix_token x) ∷ us) ≡ false
+infix_no_dot i.Or us = refl
+infix_no_dot i.And us = refl
+infix_no_dot i.Pipe us = refl
+infix_no_dot i.Same us = refl
+infix_no_dot i.Differs us = refl
+infix_no_dot i.Matches us = refl
+infix_no_dot i.Less us = refl
+infix_no_dot i.AtMost us = refl
+infix_no_dot i.Greater us = refl
+infix_no_dot i.AtLeast us = refl
+infix_no_dot i.In us = refl
+infix_no_dot i.Range us = refl
+infix_no_dot i.Plus us = refl
+infix_no_dot i.Minus us = refl
+infix_no_dot i.Times us = refl
+infix_no_dot i.Remainder us = refl
 
--- which name an expression is, if it is one
+-- the name that an expression is, or that it is none
 pub data Word : Tree → Type 0 where
   a_word : {p : Place} {s : List ℕ} → Word (tree.name p s)
   no_word : {e : Tree} → ((w : List ℕ) → is_name w e ≡ false) → Word e
@@ -202,7 +202,7 @@ bare_quiet (sort.function (sort.closure_of h i)) l tl next f q o = refl
 bare_quiet (sort.prefixed {x = x} h) l tl next f q o = other_quiet (prefix_other x _)
 bare_quiet (sort.binary {x = x} {a = a} {b = b} h i) l tl next f q o =
     let us : List Lexeme = held (needs (right_level x) b) (spell b l false) tl in
-    held_quiet (needs (left_level x) a) (spell a l false) (prints a (is_minus x)) (lx (infix_token x) ∷ us) q (λ r. bare_quiet h l (lx (infix_token x) ∷ us) (is_minus x) (mark_starts x us) r (and_off (is_name (codes "log") a) _ (mark_no_dot x us)))
+    held_quiet (needs (left_level x) a) (spell a l false) (prints a (is_minus x)) (lx (infix_token x) ∷ us) q (λ r. bare_quiet h l (lx (infix_token x) ∷ us) (is_minus x) (infix_starts x us) r (and_off (is_name (codes "log") a) _ (infix_no_dot x us)))
 bare_quiet (sort.conditional {c = c} h i j) l tl next f q o = held_quiet (needs 1 c) (spell c l false) (prints c false) _ q (λ r. bare_quiet h l _ false refl r (and_off (is_name (codes "log") c) _ refl))
 bare_quiet (sort.elvis {a = a} h i) l tl next f q o = held_quiet (needs 1 a) (spell a l false) (prints a false) _ q (λ r. bare_quiet h l _ false refl r (and_off (is_name (codes "log") a) _ refl))
 bare_quiet (sort.property {e = e} h (sort.named {s = n})) l tl next f q o = held_quiet (needs 10 e) (spell e l false) (if is_name (codes "log") e then next else prints e false) _ q (λ r. property_quiet (word_of_expr h) n l tl next f r (λ u v. bare_quiet h l (mark m.Dot (word n tl)) false refl u v))
@@ -233,6 +233,6 @@ quiet_by : (b : Bool) {e : Tree} → prints e false ≡ b → Shaped sort.expr e
 quiet_by true q h l tl c = other_quiet (guarded_other h l tl)
 quiet_by false {e} q h l tl c = bare_quiet h l tl false (closes_start c) q (and_off (is_name (codes "log") e) _ (closes_dot c))
 
--- an expression that stands as a statement isn't read as one that prints
+-- an expression statement isn't read as `println` or `log`
 pub statement_quiet : {e : Tree} → Shaped sort.expr e → (l : Layout) (tl : List Lexeme) → Closes tl → quiet (spell e l (prints e false) tl) ≡ false
 statement_quiet {e} h l tl c = quiet_by (prints e false) refl h l tl c

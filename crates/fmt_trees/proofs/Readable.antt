@@ -1,4 +1,4 @@
--- Each tree is read from its tokens.
+-- Every tree of every shape is read from its tokens.
 use Rattle.nf_ast.specs.Tree.{Tree}
 use Rattle.fmt_trees.specs.Shape as sort
 use Rattle.fmt_trees.specs.Shape.{Sort, Shaped}

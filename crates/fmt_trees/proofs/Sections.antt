@@ -1,4 +1,4 @@
--- Sections and the parts of processes and workflows.
+-- How sections and the parts of processes and workflows are read.
 use Rattle.std.proofs.Common.{◌≡◌, ℕ, suc, Bool, true, false, List, ◌∷◌, refl, sym, subst}
 use Rattle.std.specs.Prelude.{◌||◌, codes}
 use Rattle.nf_value.specs.declared.place.Place.{Place}
@@ -17,14 +17,14 @@ use Rattle.nf_exprs.specs.Level.{Body, Arg, Directive, Input, Output, Task, Gram
 use Rattle.nf_exprs.specs.Tokens.{mark_of, no_option, body_ends, outputs_end}
 use Rattle.nf_exprs.specs.Rules.{rules, separated, listed, comma_then, no_comma, directive_args, some_input, some_output, output_value, option_next, emit, body_section}
 use Rattle.nf_printer.specs.Levels.{needs, left_level, begins_round}
-use Rattle.nf_printer.specs.Lines.{Layout}
+use Rattle.nf_writer.specs.Lines.{Layout}
 use Rattle.nf_printer.specs.Tops.{inside}
 use Rattle.fmt_trees.specs.Bare.{bare}
 use Rattle.fmt_trees.specs.Shape as sort
 use Rattle.fmt_trees.specs.Shape.{Shaped}
-use Rattle.fmt_trees.proofs.Spelt as spelt
-use Rattle.fmt_trees.proofs.Spelt.{spell, held, mark, word, lx, separator, prefix_token, maybe_separator}
-use Rattle.fmt_trees.proofs.SpeltTops.{part_of, lines_of, commas_of, listed_of, args_of, directive_of, value_of, some_value_of, output_of, task_of, statements_of, body_of}
+use Rattle.fmt_trees.proofs.TreeTokens as tree_tokens
+use Rattle.fmt_trees.proofs.TreeTokens.{spell, held, mark, word, lx, separator, prefix_token, maybe_separator}
+use Rattle.fmt_trees.proofs.TopTokens.{part_of, lines_of, commas_of, listed_of, args_of, directive_of, value_of, some_value_of, output_of, task_of, statements_of, body_of}
 use Rattle.fmt_trees.proofs.Own.{IsRead}
 use Rattle.fmt_trees.proofs.Rows.{Each, none, some, IsRow, no_row, a_row, joined, joined_snoc, joined_nothing, snoc_row, Closes, by_comma, by_round, by_separator, listed_read, more_closes}
 use Rattle.fmt_trees.proofs.Holds.{NameRead, PiecesRead, Lined, Section, in_section}
@@ -108,10 +108,10 @@ arg_no_round : {x : Tree} → Shaped sort.arg x → (tl : List Lexeme) → begin
 arg_no_round (sort.unnamed h) tl q = expr_no_round h inside tl q
 arg_no_round (sort.with_name sort.named h) tl q = refl
 
-some_args : {x xs : Tree} (b : Bool) → begins_round x ≡ b → Shaped sort.arg x → ArgRead x → Each ArgRead xs → (tl : List Lexeme) → Reads rules directive_args (held b (spelt.listed (cons x xs) inside) (separator tl)) (cons (bare x) (bare xs)) (separator tl)
+some_args : {x xs : Tree} (b : Bool) → begins_round x ≡ b → Shaped sort.arg x → ArgRead x → Each ArgRead xs → (tl : List Lexeme) → Reads rules directive_args (held b (tree_tokens.listed (cons x xs) inside) (separator tl)) (cons (bare x) (bare xs)) (separator tl)
 unfolding rules
 some_args {x} {xs} true q s h i tl = reads_left (reads_bind (reads_token refl) (reads_bind (reads_left (reads_rule (listed_read (rule (Arg 2)) inside no_comma x (mark m.CloseRound (separator tl)) (h 2 inside) (each_plain (λ y p. p 2 inside) i) by_round refl))) (reads_bind (reads_token refl) reads_gives)))
-some_args {x} {xs} false q s h i tl = reads_right (reads_left (reads_where (arg_no_round s (spelt.more xs inside (separator tl)) q) (reads_rule (listed_read (rule (Arg 1)) inside no_comma x (separator tl) (h 1 inside) (each_plain (λ y p. p 1 inside) i) by_separator refl))))
+some_args {x} {xs} false q s h i tl = reads_right (reads_left (reads_where (arg_no_round s (tree_tokens.more xs inside (separator tl)) q) (reads_rule (listed_read (rule (Arg 1)) inside no_comma x (separator tl) (h 1 inside) (each_plain (λ y p. p 1 inside) i) by_separator refl))))
 
 args_read : {xs : Tree} → Shaped (sort.row sort.arg) xs → Each ArgRead xs → (tl : List Lexeme) → Reads rules directive_args (args_of xs (separator tl)) (bare xs) (separator tl)
 args_read sort.no_more h tl = reads_right (reads_right (reads_where refl reads_gives))
@@ -171,20 +171,20 @@ one_output_read sort.stdout_output h tl c e = reads_left (h tl c)
 pub tuple_output_read : (p : Place) (x xs : Tree) → OutputRead x → Each OutputRead xs → OutputsRead (tree.tuple p (cons x xs))
 tuple_output_read p x xs h i tl c e = reads_right (reads_bind (reads_token refl) (reads_bind (listed_of_read output_value value_of outputs_end x tl h i c e) reads_gives))
 
-options_read : {os acc : Tree} (n : ℕ) (tl : List Lexeme) → Each LabelRead os → IsRow acc → Reads rules (many no_option option_next n acc) (spelt.more os inside (separator tl)) (joined acc (bare os)) (separator tl)
+options_read : {os acc : Tree} (n : ℕ) (tl : List Lexeme) → Each LabelRead os → IsRow acc → Reads rules (many no_option option_next n acc) (tree_tokens.more os inside (separator tl)) (joined acc (bare os)) (separator tl)
 options_read {acc = acc} n tl none r = subst (λ v. Reads rules (many no_option option_next n acc) (separator tl) v (separator tl)) (sym (joined_nothing r)) (reads_end refl)
 options_read {acc = acc} n tl (some {x = x} {xs = xs} p q) r =
-    subst (λ v. Reads rules (many no_option option_next n acc) (mark m.Comma (spell x inside false (spelt.more xs inside (separator tl)))) v (separator tl)) (joined_snoc (bare x) (bare xs) r)
-    (reads_more (reads_bind (reads_left (reads_bind (reads_token refl) reads_gives)) (reads_bind (p 1 inside false (spelt.more xs inside (separator tl)) (more_closes xs inside (separator tl) by_separator)) reads_gives))
+    subst (λ v. Reads rules (many no_option option_next n acc) (mark m.Comma (spell x inside false (tree_tokens.more xs inside (separator tl)))) v (separator tl)) (joined_snoc (bare x) (bare xs) r)
+    (reads_more (reads_bind (reads_left (reads_bind (reads_token refl) reads_gives)) (reads_bind (p 1 inside false (tree_tokens.more xs inside (separator tl)) (more_closes xs inside (separator tl) by_separator)) reads_gives))
     (options_read (suc n) tl q (snoc_row (bare x) r)))
 
-options_end : {os : Tree} → Shaped (sort.row sort.label) os → (tl : List Lexeme) → outputs_end (spelt.more os inside (separator tl)) ≡ true
+options_end : {os : Tree} → Shaped (sort.row sort.label) os → (tl : List Lexeme) → outputs_end (tree_tokens.more os inside (separator tl)) ≡ true
 options_end sort.no_more tl = refl
 options_end (sort.one_more (sort.label_of sort.named h) i) tl = refl
 
 pub output_read : (x os : Tree) → OutputsRead x → Shaped (sort.row sort.label) os → Each LabelRead os → Lined (rule Output) output_of (tree.output x os)
 unfolding rules
-output_read x os h s i tl = reads_rule (reads_bind (h (spelt.more os inside (separator tl)) (more_closes os inside (separator tl) by_separator) (options_end s tl)) (reads_bind (options_read 0 tl i no_row) reads_gives))
+output_read x os h s i tl = reads_rule (reads_bind (h (tree_tokens.more os inside (separator tl)) (more_closes os inside (separator tl) by_separator) (options_end s tl)) (reads_bind (options_read 0 tl i no_row) reads_gives))
 
 -- ---- what a task runs
 

@@ -1,4 +1,4 @@
--- The tokens of printed inks, by what stands before each line end.
+-- The tokens of a list of inks, by what the token before each line end is.
 use Rattle.std.proofs.Common.{◌≡◌, Bool, true, false, List, [], ◌∷◌, ◌++◌, map, refl, sym, subst, ap, ◌∙◌, append_assoc}
 use Rattle.std.specs.Prelude.{not, ◌&&◌, if◌then◌else◌}
 use Rattle.std.proofs.lemmas.Grind.{flat_map-append}
@@ -8,14 +8,14 @@ use Rattle.nf_token.specs.declared.token.Token.{Token}
 use Rattle.nf_token.specs.declared.token.Token.TheVariants as t
 use Rattle.nf_token.specs.declared.token.Lexeme.{Lexeme}
 use Rattle.nf_lexer.specs.Separators.{awaits_more, goes_on, is_separator}
-use Rattle.nf_printer.specs.Ink as ink
-use Rattle.nf_printer.specs.Ink.{Ink}
+use Rattle.nf_writer.specs.Ink as ink
+use Rattle.nf_writer.specs.Ink.{Ink}
 use Rattle.nf_printer.specs.Levels.{within}
 use Rattle.fmt_tokens.specs.Bits.{Bit, token, ending}
-use Rattle.fmt_tokens.specs.Retold.{ink_bits, inks_bits, last_awaits_more, is_after_separator, next_goes_on, settled}
-use Rattle.fmt_trees.proofs.Spelt.{lx, held, mark, separator}
+use Rattle.fmt_tokens.specs.InkTokens.{ink_bits, inks_bits, last_awaits_more, is_after_separator, next_goes_on, settled}
+use Rattle.fmt_trees.proofs.TreeTokens.{lx, held, mark, separator}
 
--- where the token before awaits more, or is a separator
+-- the tests say whether the token before awaits more, and whether it is a separator
 abbrev pub settle : Bool → Bool → List Bit → List Lexeme
 settle a s [] = []
 settle a s (token x ∷ rest) = if is_separator x && s then settle a s rest else lx x ∷ settle (awaits_more x) (is_separator x) rest
@@ -95,11 +95,11 @@ any_five {w} = five (λ b. Any b w)
 pub any_mark : {rest : List Bit} {w : List Lexeme} (x : Mark) → Any rest w → Any (token (t.Mark x) ∷ rest) (mark x w)
 any_mark x h = record { is = λ a s. ap (mark x) (h.is (awaits_more (t.Mark x)) false) }
 
--- a mark that the line goes on after
+-- a mark after which a line end is no separator
 pub more_mark : {rest : List Bit} {w : List Lexeme} (x : Mark) → awaits_more (t.Mark x) ≡ true → Await rest w → Any (token (t.Mark x) ∷ rest) (mark x w)
 more_mark {rest} {w} x e h = record { is = λ a s. ap (mark x) (subst (λ b. settle b false rest ≡ w) (sym e) h.is) }
 
--- what begins with a token is the same after any
+-- a token that awaits nothing, whatever stands before it
 pub any_token : {rest : List Bit} {w : List Lexeme} (x : Token) → is_separator x ≡ false → awaits_more x ≡ false → After rest w → Any (token x ∷ rest) (lx x ∷ w)
 any_token {rest} {w} x e f h = record {
   is = λ a s.

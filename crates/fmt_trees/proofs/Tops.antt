@@ -1,4 +1,4 @@
--- Processes, workflows and the other tops.
+-- How processes, workflows and the other tops are read.
 use Rattle.std.proofs.Common.{◌≡◌, ℕ, true, List, [], refl}
 use Rattle.std.specs.Prelude.{codes}
 use Rattle.nf_value.specs.declared.place.Place.{Place}
@@ -14,13 +14,14 @@ use Rattle.nf_exprs.specs.Tokens.{word_of, directives_end, no_start, body_ends, 
 use Rattle.nf_exprs.specs.Tokens as tokens
 use Rattle.nf_exprs.specs.Rules.{rules, kind, maybe, maybe_section, second_inputs, stub_end, sections, directives, closed, closes, names, some_input, input_words, output_words, no_word, no_top, emit, workflow_inside, past_separator, print}
 use Rattle.nf_exprs.specs.Rules as grammar
-use Rattle.nf_printer.specs.Tops.{inside, outside}
+use Rattle.nf_printer.specs.Tops.{inside}
+use Rattle.nf_writer.specs.Lines.{outside}
 use Rattle.fmt_trees.specs.Bare.{bare, nowhere}
 use Rattle.fmt_trees.specs.Shape as sort
 use Rattle.fmt_trees.specs.Shape.{Sort, Shaped}
-use Rattle.fmt_trees.proofs.Spelt as spelt
-use Rattle.fmt_trees.proofs.Spelt.{spell, mark, word, lx}
-use Rattle.fmt_trees.proofs.SpeltTops.{part_of, lines_of, section_of, body_of, directive_of, some_value_of, output_of, task_of, sections_of, inside_of, name_of, top_of, script_of}
+use Rattle.fmt_trees.proofs.TreeTokens as tree_tokens
+use Rattle.fmt_trees.proofs.TreeTokens.{spell, mark, word, lx}
+use Rattle.fmt_trees.proofs.TopTokens.{part_of, lines_of, section_of, body_of, directive_of, some_value_of, output_of, task_of, sections_of, inside_of, name_of, top_of, script_of}
 use Rattle.fmt_trees.proofs.Own.{IsRead}
 use Rattle.fmt_trees.proofs.Rows.{Each, none, some, no_row, by_round, by_separator}
 use Rattle.fmt_trees.proofs.Holds.{NameRead, Lined, Perhaps, nothing, just, Section, in_section}
@@ -123,9 +124,9 @@ module _ (n ds xs ys t s : Tree) (directives_are : Each (Lined (rule Directive) 
   pub process_read : (p : Place) → NameRead n → Lined (rule Top) top_of (tree.process p n ds xs ys t s)
   unfolding rules
   process_read p h tl =
-      let stub : List Lexeme = body_of (codes "stub") s (mark m.CloseBrace (spelt.separator tl)) in
+      let stub : List Lexeme = body_of (codes "stub") s (mark m.CloseBrace (tree_tokens.separator tl)) in
       reads_rule (reads_left (reads_rule (reads_bind (reads_token refl) (reads_bind (h inside _) (reads_bind (reads_token refl)
-      (reads_bind (lines_read (rule Directive) directive_of directives_end 0 (sections_of xs ys t s (mark m.CloseBrace (spelt.separator tl))) directives_are no_row (inputs_directives_end i o k stub)) (sections_read nowhere (spelt.separator tl))))))))
+      (reads_bind (lines_read (rule Directive) directive_of directives_end 0 (sections_of xs ys t s (mark m.CloseBrace (tree_tokens.separator tl))) directives_are no_row (inputs_directives_end i o k stub)) (sections_read nowhere (tree_tokens.separator tl))))))))
 
 -- ---- workflows
 
@@ -137,7 +138,7 @@ EmitsRead x = Perhaps (Section (Each (Lined emit part_of))) x
 
 take_read : {t : Tree} → TakeRead t → (tl : List Lexeme) → no_next (word_of (codes "take")) tl ≡ true → directives_end tl ≡ true → Reads rules (maybe_section (codes "take") grammar.take_section) (section_of (codes "take") part_of t tl) (bare t) tl
 take_read nothing tl e f = reads_right (reads_where e reads_gives)
-take_read (just (in_section h)) tl e f = reads_left (reads_bind (reads_bind (reads_token refl) (reads_bind (reads_token refl) reads_gives)) (reads_bind (lines_read (kind tokens.name_of) part_of directives_end 0 tl (each_plain (λ n k us. k inside (spelt.separator us)) h) no_row f) reads_gives))
+take_read (just (in_section h)) tl e f = reads_left (reads_bind (reads_bind (reads_token refl) (reads_bind (reads_token refl) reads_gives)) (reads_bind (lines_read (kind tokens.name_of) part_of directives_end 0 tl (each_plain (λ n k us. k inside (tree_tokens.separator us)) h) no_row f) reads_gives))
 
 emits_read : {e : Tree} → EmitsRead e → (tl : List Lexeme) → Reads rules (maybe_section (codes "emit") grammar.emit_section) (section_of (codes "emit") part_of e (mark m.CloseBrace tl)) (bare e) (mark m.CloseBrace tl)
 emits_read nothing tl = reads_right (reads_where refl reads_gives)
@@ -173,11 +174,11 @@ named_workflow h (sort.present sort.named) us = reads_left (reads_token refl)
 
 pub workflow_read : (p : Place) (n b : Tree) → Perhaps NameRead n → Shaped (sort.maybe sort.a_name) n → InsideRead b → Lined (rule Top) top_of (tree.workflow p n b)
 unfolding rules
-workflow_read p n b h s i tl = reads_rule (reads_right (reads_left (reads_rule (reads_bind (reads_token refl) (reads_bind (named_workflow h s (inside_of b (mark m.CloseBrace (spelt.separator tl)))) (reads_bind (reads_bind (reads_token refl) (i (spelt.separator tl))) reads_gives))))))
+workflow_read p n b h s i tl = reads_rule (reads_right (reads_left (reads_rule (reads_bind (reads_token refl) (reads_bind (named_workflow h s (inside_of b (mark m.CloseBrace (tree_tokens.separator tl)))) (reads_bind (reads_bind (reads_token refl) (i (tree_tokens.separator tl))) reads_gives))))))
 
 -- ---- other tops
 
-maybe_names : {ps : Tree} → Each NameRead ps → (tl : List Lexeme) → Reads rules (maybe names (no_next tokens.name_of)) (spelt.listed ps inside (mark m.CloseRound tl)) (bare ps) (mark m.CloseRound tl)
+maybe_names : {ps : Tree} → Each NameRead ps → (tl : List Lexeme) → Reads rules (maybe names (no_next tokens.name_of)) (tree_tokens.listed ps inside (mark m.CloseRound tl)) (bare ps) (mark m.CloseRound tl)
 maybe_names none tl = reads_right (reads_where refl reads_gives)
 maybe_names (some {x = x} {xs = xs} p q) tl = reads_left (names_read x xs inside (mark m.CloseRound tl) p q by_round refl)
 
@@ -185,19 +186,19 @@ pub function_read : (p : Place) (n ps b : Tree) → NameRead n → Each NameRead
 unfolding rules
 function_read p n ps b h i j tl =
     reads_rule (reads_right (reads_right (reads_left (reads_rule (reads_bind (reads_token refl) (reads_bind (h inside _) (reads_bind (reads_token refl) (reads_bind (maybe_names i _) (reads_bind (reads_token refl)
-    (reads_bind (reads_bind (reads_token refl) (reads_bind (statements_section j (mark m.CloseBrace (spelt.separator tl)) refl) (reads_bind (closed_brace (spelt.separator tl)) reads_gives))) reads_gives))))))))))
+    (reads_bind (reads_bind (reads_token refl) (reads_bind (statements_section j (mark m.CloseBrace (tree_tokens.separator tl)) refl) (reads_bind (closed_brace (tree_tokens.separator tl)) reads_gives))) reads_gives))))))))))
 
 pub parameter_read : (p q : Place) (s : List ℕ) (e : Tree) → IsRead e → Lined (rule Top) top_of (tree.parameter p (tree.name q s) e)
 unfolding rules
-parameter_read p q s e h tl = reads_rule (reads_right (reads_right (reads_right (reads_left (reads_bind (reads_token refl) (reads_bind (reads_token refl) (reads_bind (reads_token refl) (reads_bind (reads_token refl) (reads_bind (expr_plain 0 outside e h (spelt.separator tl) by_separator) reads_gives)))))))))
+parameter_read p q s e h tl = reads_rule (reads_right (reads_right (reads_right (reads_left (reads_bind (reads_token refl) (reads_bind (reads_token refl) (reads_bind (reads_token refl) (reads_bind (reads_token refl) (reads_bind (expr_plain 0 outside e h (tree_tokens.separator tl) by_separator) reads_gives)))))))))
 
 pub println_top : (p : Place) (e : Tree) → IsRead e → Lined (rule Top) top_of (tree.println p e)
 unfolding rules
-println_top p e h tl = reads_rule (reads_right (reads_right (reads_right (reads_right (reads_left (reads_bind (reads_token refl) (reads_bind (expr_plain 0 outside e h (spelt.separator tl) by_separator) reads_gives)))))))
+println_top p e h tl = reads_rule (reads_right (reads_right (reads_right (reads_right (reads_left (reads_bind (reads_token refl) (reads_bind (expr_plain 0 outside e h (tree_tokens.separator tl) by_separator) reads_gives)))))))
 
 pub log_top : (p q : Place) (s : List ℕ) (e : Tree) → IsRead e → Lined (rule Top) top_of (tree.log p (tree.name q s) e)
 unfolding rules
-log_top p q s e h tl = reads_rule (reads_right (reads_right (reads_right (reads_right (reads_right (reads_left (reads_bind (reads_token refl) (reads_bind (reads_token refl) (reads_bind (reads_token refl) (reads_bind (expr_plain 0 outside e h (spelt.separator tl) by_separator) reads_gives))))))))))
+log_top p q s e h tl = reads_rule (reads_right (reads_right (reads_right (reads_right (reads_right (reads_left (reads_bind (reads_token refl) (reads_bind (reads_token refl) (reads_bind (reads_token refl) (reads_bind (expr_plain 0 outside e h (tree_tokens.separator tl) by_separator) reads_gives))))))))))
 
 pub dsl_top : (p : Place) → Lined (rule Top) top_of (tree.dsl p)
 unfolding rules
@@ -216,7 +217,7 @@ no_separator_first sort.a_dsl tl = refl
 
 script_begins : {xs : Tree} → Shaped (sort.row sort.top) xs → no_next separator (script_of xs) ≡ true
 script_begins sort.no_more = refl
-script_begins (sort.one_more {xs = xs} h i) = no_separator_first h (spelt.separator (lines_of top_of xs []))
+script_begins (sort.one_more {xs = xs} h i) = no_separator_first h (tree_tokens.separator (lines_of top_of xs []))
 
 pub script_read : {xs : Tree} → Shaped (sort.row sort.top) xs → Each (Lined (rule Top) top_of) xs → Reads rules (rule Script) (script_of xs) (bare xs) []
 unfolding rules

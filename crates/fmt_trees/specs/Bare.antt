@@ -1,13 +1,13 @@
--- Trees but for their places.
+-- Trees without their places.
 use Rattle.nf_value.specs.declared.place.Place.{Place}
 use Rattle.nf_ast.specs.Tree as tree
 use Rattle.nf_ast.specs.Tree.{Tree, empty, cons, point, name}
 
--- the place that stands for any
+-- the place that stands for every other
 abbrev pub nowhere : Place
 nowhere = record { line = 0; col = 0 }
 
--- the same tree, with no place told
+-- the same tree with each place replaced, so that two trees differ in places alone where these are equal
 abbrev pub bare : Tree → Tree
 bare empty = empty
 bare (cons x xs) = cons (bare x) (bare xs)

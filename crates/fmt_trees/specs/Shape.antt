@@ -1,4 +1,4 @@
--- Which trees some tokens spell, as the rows of the grammar make them.
+-- Which trees the rules of the grammar make.
 use Rattle.std.specs.Prelude.{ℕ, ℤ, Bool, List, ◌∷◌}
 use Rattle.nf_value.specs.declared.place.Place.{Place}
 use Rattle.nf_token.specs.declared.token.PlainKind.{PlainKind}
@@ -8,7 +8,7 @@ use Rattle.nf_ast.specs.declared.marks.PrefixOperator.{PrefixOperator}
 use Rattle.nf_ast.specs.Tree as tree
 use Rattle.nf_ast.specs.Tree.{Tree, empty, cons, name}
 
--- what stands somewhere
+-- the part of a script that a tree stands for
 pub data Sort : Type 0 where
   expr a_name arg key pair pieces holes closure params body statement choice block last label : Sort
   directive input inputs output_value outputs output task emit inside top : Sort

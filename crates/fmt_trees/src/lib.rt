@@ -1,2 +1,2 @@
-//! The tree that the tokens of a canonical text spell.
+//! Definitions and lemmas alone: the tokens of a printed script spell that script.
 #![tactic(auto)]

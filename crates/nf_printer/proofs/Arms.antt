@@ -1,4 +1,4 @@
--- The text of the arms of an `if`.
+-- The text of the arms of an `if`: from the list in memory to the tree.
 use Rattle.std.proofs.Common.{◌≡◌, Bool, false, List, [], ◌∷◌, ◌++◌, refl, sym, ap, ◌∙◌}
 use Rattle.std.specs.Prelude.{not, Option, Some, None, if◌then◌else◌}
 use Rattle.std.proofs.lemmas.List.{append_assoc, append-nil}
@@ -6,9 +6,10 @@ use Rattle.nf_token.specs.declared.token.Keyword.TheVariants as k
 use Rattle.nf_ast.specs.Tree as tree
 use Rattle.nf_ast.specs.Tree.{Tree}
 use Rattle.nf_ast.specs.View.{ArmTree, choice, last_arm}
-use Rattle.nf_printer.specs.Ink.{Ink, keyword}
-use Rattle.nf_printer.specs.Lines.{Layout, is_expr}
-use Rattle.nf_printer.specs.Exprs.{inks, spaced, else_before}
+use Rattle.nf_writer.specs.Ink.{Ink, keyword, spaced}
+use Rattle.nf_writer.specs.Lines.{Layout}
+use Rattle.nf_printer.specs.Bodies.{is_expr}
+use Rattle.nf_printer.specs.Exprs.{inks, else_before}
 use Rattle.nf_printer.specs.Chains.{is_nil, arm_inks, arms_inks}
 
 abbrev else_inks : List Ink

@@ -1,12 +1,13 @@
--- The text of bodies.
+-- The text of the bodies of workflows and processes.
 use Rattle.std.proofs.Common.{◌≡◌, ℕ, List, [], ◌∷◌, ◌++◌, true, ap, refl}
 use Rattle.std.specs.Prelude.{codes, if◌then◌else◌}
 use Rattle.nf_ast.specs.Tree.{Tree}
 use Rattle.nf_ast.specs.View.{trees}
 use Rattle.nf_token.specs.declared.token.Mark.TheVariants as m
-use Rattle.nf_printer.specs.Ink.{Ink, mark, name, blank}
-use Rattle.nf_printer.specs.Lines.{is_expr, before_first}
-use Rattle.nf_printer.specs.Tops.{workflow_parts, statements, task, inner_line, part, body_section, outside, word, braced, process_head}
+use Rattle.nf_writer.specs.Ink.{Ink, mark, name, blank}
+use Rattle.nf_printer.specs.Bodies.{is_expr}
+use Rattle.nf_writer.specs.Lines.{before_first, outside}
+use Rattle.nf_printer.specs.Tops.{workflow_parts, statements, task, inner_line, part, body_section, word, braced, process_head}
 
 -- a list of statements is no list of sections
 pub workflow_statements : (xs : List Tree) → workflow_parts (trees xs) ≡ statements (trees xs)

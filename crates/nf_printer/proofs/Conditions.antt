@@ -1,4 +1,4 @@
--- The text of conditions, whose operands stand in one list.
+-- The text of a conditional expression: from the list in memory to the tree.
 use Rattle.std.proofs.Common.{◌≡◌, ℕ, zero, suc, Bool, true, false, List, [], ◌∷◌, ◌++◌, refl, sym, ap, ◌∙◌}
 use Rattle.std.specs.Prelude.{◌&&◌, not}
 use Rattle.std.proofs.lemmas.List.{append_assoc, append-nil}
@@ -9,10 +9,10 @@ use Rattle.nf_ast.specs.declared.marks.BranchOperator.TheVariants.{Then, Else, E
 use Rattle.nf_ast.specs.Tree as tree
 use Rattle.nf_ast.specs.Tree.{Tree}
 use Rattle.nf_ast.specs.View.{Frame, asked, answered, preferred, ended, turned, framed, BranchTree, conditional}
-use Rattle.nf_printer.specs.Ink.{Ink, mark}
+use Rattle.nf_writer.specs.Ink.{Ink, mark, spaced}
 use Rattle.nf_printer.specs.Levels.{needs, within}
-use Rattle.nf_printer.specs.Lines.{Layout}
-use Rattle.nf_printer.specs.Exprs.{inks, spaced}
+use Rattle.nf_writer.specs.Lines.{Layout}
+use Rattle.nf_printer.specs.Exprs.{inks}
 use Rattle.nf_printer.specs.Chains.{bracket, is_late, asked_after, opens_late, none_late, colons, is_held, branches_inks}
 use Rattle.nf_printer.proofs.Lists.{and_true, and_false, shift}
 
@@ -32,7 +32,7 @@ abbrev pub inner_guard : List Frame → Bool → Bool
 inner_guard [] g = g
 inner_guard (f ∷ fs) g = false
 
--- an operand before a mark
+-- an operand before an operator
 abbrev pub held_inks : Bool → Tree → Layout → Bool → List Ink
 held_inks held e l g = within held (inks e l (g && not held))
 
@@ -120,7 +120,7 @@ late_one (x ∷ xs) n b = one (is_late x.mark n b) (opens_late xs (asked_after x
 abbrev pub IsText : List BranchTree → List Frame → Tree → Tree → ℕ → Bool → Layout → Bool → Type 0
 IsText xs fs e whole n b l g = inks whole l g ≡ opens_late xs n b ++ before fs l (g && none_late xs n b) ++ from_operand e xs n b l (inner_guard fs (g && none_late xs n b))
 
--- the mark is part of what stands round the next operand
+-- the operator belongs to what stands before the next operand
 joined : (o b h q w t : List Ink) → o ++ (b ++ (h ++ q)) ++ (w ++ t) ≡ o ++ b ++ (h ++ (q ++ w ++ t))
 joined o b h q w t = simp append_assoc
 

@@ -8,7 +8,7 @@ use Rattle.nf_ast.specs.Tree as tree
 use Rattle.nf_ast.specs.Tree.{Tree}
 use Rattle.nf_ast.specs.View.{Frame, asked, answered, preferred, ended, turned, framed, BranchTree, conditional}
 use Rattle.nf_printer.specs.Levels.{level, needs, prints, begins_round, is_name}
-use Rattle.nf_printer.specs.Lines.{is_expr}
+use Rattle.nf_printer.specs.Bodies.{is_expr}
 use Rattle.nf_printer.specs.Chains.{is_nil, is_late, asked_after, is_condition, none_late, is_held}
 use Rattle.nf_printer.proofs.Lists.{and_true, and_false}
 use Rattle.nf_printer.proofs.Conditions.{waiting, begun, turns, turned_late, ended_needs}
@@ -40,7 +40,7 @@ module _ (X : Type 0) (R F : Tree → X) (z : X) where
     inner (answered p c a) fs x y = same fs (tree.conditional p c a x) (tree.conditional p c a y) (on_conditional p c a x ∙ sym (on_conditional p c a y))
     inner (preferred p a) fs x y = same fs (tree.elvis p a x) (tree.elvis p a y) (on_elvis p a x ∙ sym (on_elvis p a y))
 
-    -- one mark more after a first
+    -- one operator more after a first
     then_more : (p : Place) (f : Frame) (fs : List Frame) (e t : Tree) → R (ended (asked p e ∷ f ∷ fs) t) ≡ R (ended (f ∷ fs) e)
     then_more p f fs e t = inner f fs (tree.conditional p e t tree.empty) e
 

@@ -1,10 +1,10 @@
--- Lists of inks and their text.
+-- Lists of inks, their text, and tests.
 use Rattle.std.proofs.Common.{◌≡◌, ℕ, Bool, true, false, List, [], ◌∷◌, ◌++◌, refl, sym, ap, ◌∙◌}
 use Rattle.std.specs.Prelude.{◌&&◌}
 use Rattle.std.proofs.lemmas.List.{append_assoc, append-nil}
 use Rattle.std.proofs.lemmas.Grind.{flat_map-append}
 use Rattle.nf_token.specs.declared.token.Mark.TheVariants as m
-use Rattle.nf_printer.specs.Ink.{Ink, ink_text, inked}
+use Rattle.nf_writer.specs.Ink.{Ink, ink_text, inked}
 use Rattle.nf_printer.specs.Levels.{within}
 use Rattle.nf_printer.specs.Chains.{bracket}
 

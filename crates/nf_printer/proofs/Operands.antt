@@ -1,4 +1,4 @@
--- The text of operands of one level.
+-- The text of operands of one level: from the list in memory to the tree.
 use Rattle.std.proofs.Common.{◌≡◌, ℕ, Bool, true, false, List, [], ◌∷◌, ◌++◌, map, refl, sym, ap, ◌∙◌, subst, inl, inr}
 use Rattle.std.proofs.lemmas.Bool.{cases_Bool}
 use Rattle.std.specs.Prelude.{◌&&◌, ◌||◌, not, if◌then◌else◌}
@@ -13,11 +13,12 @@ use Rattle.nf_ast.specs.declared.expr.Operand.{Operand}
 use Rattle.nf_ast.specs.declared.expr.ClosureBody.TheFolds.{fold_out-Operand}
 use Rattle.nf_ast.specs.View.{BranchTree, ArmTree, operands, prefixes, view_operand, body_step, expr_step, piece_step, postfix_step, stmt_step, arg_step, arm_step, branch_step, closure_step, label_step, operand_step, pair_step}
 use Rattle.nf_printer.specs.Leading.{next_minus}
-use Rattle.nf_printer.specs.Ink.{Ink, mark}
-use Rattle.nf_printer.specs.Levels.{level, mark_level, left_level, right_level, prefix_level, needs, within, prints, begins_round, is_minus, is_name}
-use Rattle.nf_printer.specs.Lines.{Layout, is_expr}
+use Rattle.nf_writer.specs.Ink.{Ink, mark}
+use Rattle.nf_printer.specs.Levels.{level, infix_level, left_level, right_level, prefix_level, needs, within, prints, begins_round, is_minus, is_name}
+use Rattle.nf_writer.specs.Lines.{Layout}
+use Rattle.nf_printer.specs.Bodies.{is_expr}
 use Rattle.nf_printer.specs.Exprs.{inks, infix_inks}
-use Rattle.nf_printer.specs.Chains.{bracket, is_nil, marks_inks, is_loose, level_after, last_level, opens, is_bare, operands_inks}
+use Rattle.nf_printer.specs.Chains.{bracket, is_nil, prefixes_inks, is_loose, level_after, last_level, opens, is_bare, operands_inks}
 use Rattle.nf_printer.proofs.Lists.{and_true, and_false, shift}
 
 -- ---- operands
@@ -45,7 +46,7 @@ joins false p t i w a g r e =
 
 pub operands_text : (a : Tree) (xs : List Tree) (l : Layout) (g : Bool) → inks (operands a xs) l g ≡ opens xs (level a) ++ inks a l (g && is_bare xs (level a)) ++ operands_inks xs (level a) l
 operands_text a [] l g = sym (append-nil (inks a l (g && true)) ∙ ap (inks a l) (and_true g))
-operands_text a (tree.binary p x y b ∷ xs) l g = operands_text (tree.binary p x a b) xs l g ∙ joins (needs (left_level x) a) (opens xs (mark_level x)) (operands_inks xs (mark_level x) l) (infix_inks x) (within (needs (right_level x) b) (inks b l false)) (inks a l) g (is_bare xs (mark_level x)) (opens_one xs (mark_level x))
+operands_text a (tree.binary p x y b ∷ xs) l g = operands_text (tree.binary p x a b) xs l g ∙ joins (needs (left_level x) a) (opens xs (infix_level x)) (operands_inks xs (infix_level x) l) (infix_inks x) (within (needs (right_level x) b) (inks b l false)) (inks a l) g (is_bare xs (infix_level x)) (opens_one xs (infix_level x))
 operands_text a (_ ∷ xs) l g = operands_text a xs l g
 
 pub operands_level : (a : Tree) (xs : List Tree) → level (operands a xs) ≡ last_level xs (level a)
@@ -53,12 +54,12 @@ operands_level a [] = refl
 operands_level a (tree.binary p x y b ∷ xs) = operands_level (tree.binary p x a b) xs
 operands_level a (_ ∷ xs) = operands_level a xs
 
--- ---- marks before an operand
+-- ---- operators before an operand
 
-pub prefixes_text : (ms : List Prefix) (e : Tree) (l : Layout) (g : Bool) → inks (prefixes ms e) l g ≡ marks_inks ms ++ within (not (is_nil ms) && needs prefix_level e) (inks e l (g && is_nil ms))
+pub prefixes_text : (ms : List Prefix) (e : Tree) (l : Layout) (g : Bool) → inks (prefixes ms e) l g ≡ prefixes_inks ms ++ within (not (is_nil ms) && needs prefix_level e) (inks e l (g && is_nil ms))
 prefixes_text [] e l g = ap (inks e l) (sym (and_true g))
-prefixes_text (x ∷ []) e l g = ap (λ b. marks_inks (x ∷ []) ++ within (needs prefix_level e) (inks e l b)) (sym (and_false g))
-prefixes_text (x ∷ y ∷ ms) e l g = ap (λ v. marks_inks (x ∷ []) ++ v) (prefixes_text (y ∷ ms) e l false) ∙ ap (λ b. marks_inks (x ∷ y ∷ ms) ++ within (needs prefix_level e) (inks e l b)) (sym (and_false g))
+prefixes_text (x ∷ []) e l g = ap (λ b. prefixes_inks (x ∷ []) ++ within (needs prefix_level e) (inks e l b)) (sym (and_false g))
+prefixes_text (x ∷ y ∷ ms) e l g = ap (λ v. prefixes_inks (x ∷ []) ++ v) (prefixes_text (y ∷ ms) e l false) ∙ ap (λ b. prefixes_inks (x ∷ y ∷ ms) ++ within (needs prefix_level e) (inks e l b)) (sym (and_false g))
 
 -- ---- what they begin with
 
@@ -72,9 +73,9 @@ pub operands_print : (a : Tree) (xs : List Tree) (next : Bool) → prints (opera
 operands_print a [] next = refl
 operands_print a (tree.binary p x y b ∷ xs) next = marked p x b xs a next
   where
-    marked : (p : Place) (x : InfixOperator) (b : Tree) (xs : List Tree) (a : Tree) (next : Bool) → prints (operands (tree.binary p x a b) xs) next ≡ (not (needs (left_level x) a) && is_bare xs (mark_level x)) && prints a (is_minus x)
+    marked : (p : Place) (x : InfixOperator) (b : Tree) (xs : List Tree) (a : Tree) (next : Bool) → prints (operands (tree.binary p x a b) xs) next ≡ (not (needs (left_level x) a) && is_bare xs (infix_level x)) && prints a (is_minus x)
     marked p x b [] a next = ap (λ v. v && prints a (is_minus x)) (sym (and_true (not (needs (left_level x) a))))
-    marked p x b (tree.binary q k z c ∷ xs) a next = marked q k c xs (tree.binary p x a b) next ∙ between_both (not (needs (left_level x) a)) (not (is_loose (tree.binary q k z c) (mark_level x)) && is_bare xs (mark_level k)) (prints a (is_minus x))
+    marked p x b (tree.binary q k z c ∷ xs) a next = marked q k c xs (tree.binary p x a b) next ∙ between_both (not (needs (left_level x) a)) (not (is_loose (tree.binary q k z c) (infix_level x)) && is_bare xs (infix_level k)) (prints a (is_minus x))
     marked p x b (_ ∷ xs) a next = marked p x b xs a next
 operands_print a (_ ∷ xs) next = operands_print a xs next
 
@@ -86,10 +87,10 @@ either_opens false false r = refl
 
 pub operands_begin : (a : Tree) (xs : List Tree) → begins_round (operands a xs) ≡ not (is_bare xs (level a)) || begins_round a
 operands_begin a [] = refl
-operands_begin a (tree.binary p x y b ∷ xs) = operands_begin (tree.binary p x a b) xs ∙ either_opens (needs (left_level x) a) (is_bare xs (mark_level x)) (begins_round a)
+operands_begin a (tree.binary p x y b ∷ xs) = operands_begin (tree.binary p x a b) xs ∙ either_opens (needs (left_level x) a) (is_bare xs (infix_level x)) (begins_round a)
 operands_begin a (_ ∷ xs) = operands_begin a xs
 
--- no operand in memory is anything but a mark with its operand
+-- the tree of an operand in memory is an operator with its operand
 of_operand : (P : Tree → Type 0) → ((p : Place) (x : InfixOperator) (b : Tree) → P (tree.binary p x tree.empty b)) → (y : Operand) → P (view_operand y)
 of_operand P h y =
     subst P (sym (fold_out-Operand Tree Tree Tree Tree Tree Tree ArmTree BranchTree Tree Tree Tree Tree body_step expr_step piece_step postfix_step stmt_step arg_step arm_step branch_step closure_step label_step operand_step pair_step y)) (h _ _ _)
@@ -103,7 +104,7 @@ pub operands_name : (w : List ℕ) (a : Tree) (ys : List Operand) → is_name w 
 operands_name w a [] = refl
 operands_name w a (y ∷ ys) = of_operand (λ v. is_name w (operands a (v ∷ map view_operand ys)) ≡ false) (λ p x b. later_name w p x a b (map view_operand ys)) y
 
--- ---- marks before an operand
+-- ---- operators before an operand
 
 pub prefixes_level : (ms : List Prefix) (e : Tree) → level (prefixes ms e) ≡ (if is_nil ms then level e else prefix_level)
 prefixes_level [] e = refl

@@ -1,4 +1,4 @@
--- The text of what is read of an expression or called on it.
+-- The text of the parts after an expression: from the list in memory to the tree.
 use Rattle.std.proofs.Common.{◌≡◌, ℕ, Bool, true, false, List, [], ◌∷◌, ◌++◌, map, refl, sym, ap, ◌∙◌, subst}
 use Rattle.std.specs.Prelude.{◌&&◌, ◌||◌, not, codes, nat_lt, if◌then◌else◌}
 use Rattle.std.proofs.lemmas.List.{append_assoc, append-nil}
@@ -9,7 +9,8 @@ use Rattle.nf_ast.specs.declared.expr.ClosureBody.TheOpen.{Postfix-F}
 use Rattle.nf_ast.specs.declared.expr.ClosureBody.TheFolds.{fold_out-Postfix}
 use Rattle.nf_ast.specs.View.{BranchTree, ArmTree, applied, postfix, view_postfix, body_step, expr_step, piece_step, postfix_step, stmt_step, arg_step, arm_step, branch_step, closure_step, label_step, operand_step, pair_step}
 use Rattle.nf_printer.specs.Levels.{level, postfix_level, needs, within, prints, is_name, begins_round}
-use Rattle.nf_printer.specs.Lines.{Layout, is_expr}
+use Rattle.nf_writer.specs.Lines.{Layout}
+use Rattle.nf_printer.specs.Bodies.{is_expr}
 use Rattle.nf_printer.specs.Exprs.{inks}
 use Rattle.nf_printer.specs.Chains.{is_nil, part_inks, parts_inks}
 use Rattle.nf_printer.specs.Leading.{is_property, is_opening, begins_property, after_first, next_begins}

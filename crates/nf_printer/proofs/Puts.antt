@@ -1,7 +1,7 @@
--- What several calls print one after another.
+-- What several calls print, one after another.
 use Rattle.std.proofs.Common.{◌≡◌, ℕ, Bool, List, ◌++◌, refl, sym, ap, ◌∙◌}
 use Rattle.nf_token.specs.declared.token.Mark.TheVariants as m
-use Rattle.nf_printer.specs.Ink.{Ink, inked}
+use Rattle.nf_writer.specs.Ink.{Ink, inked}
 use Rattle.nf_printer.specs.Levels.{within}
 use Rattle.nf_printer.specs.Chains.{bracket}
 use Rattle.nf_printer.proofs.Lists.{inked_more, within_split}

@@ -9,12 +9,13 @@ use Rattle.nf_ast.specs.declared.marks.PrefixOperator.{PrefixOperator}
 use Rattle.nf_ast.specs.declared.marks.PrefixOperator.TheVariants as f
 use Rattle.nf_ast.specs.Tree as tree
 use Rattle.nf_ast.specs.Tree.{Tree}
-use Rattle.nf_printer.specs.Ink as ink
-use Rattle.nf_printer.specs.Ink.{Ink, mark, keyword, blank}
+use Rattle.nf_writer.specs.Ink as ink
+use Rattle.nf_writer.specs.Ink.{Ink, mark, keyword, blank, spaced}
 use Rattle.nf_printer.specs.Levels.{left_level, right_level, prefix_level, postfix_level, needs, prints, round, within}
-use Rattle.nf_printer.specs.Lines.{Layout, inline, is_inline, deeper, between, after_last, is_short, first_before, closure_last}
+use Rattle.nf_writer.specs.Lines.{Layout, inline, is_inline, deeper, between, after_last}
+use Rattle.nf_printer.specs.Bodies.{is_short, first_before, closure_last}
 
--- ---- marks with the blanks round them
+-- ---- operators with the blanks round them
 
 abbrev pub infix_ink : InfixOperator → Ink
 infix_ink i.Or = mark m.Or
@@ -34,10 +35,7 @@ infix_ink i.Minus = mark m.Minus
 infix_ink i.Times = mark m.Times
 infix_ink i.Remainder = mark m.Percent
 
-abbrev pub spaced : Ink → List Ink
-spaced x = blank ∷ x ∷ blank ∷ []
-
--- only `..` has no blanks
+-- only `..` has no blanks round it
 abbrev pub infix_inks : InfixOperator → List Ink
 infix_inks i.Range = mark m.DotDot ∷ []
 infix_inks x = spaced (infix_ink x)
@@ -61,22 +59,22 @@ abbrev pub truth_ink : Bool → Ink
 truth_ink true = keyword k.True
 truth_ink false = keyword k.False
 
--- a map without a pair has a colon alone
+-- `[:]` is a map without a pair
 abbrev pub colon_alone : Tree → List Ink
 colon_alone tree.empty = mark m.Colon ∷ []
 colon_alone _ = []
 
--- a blank between names and an arrow
+-- a blank between parameters and the arrow, where there are any
 abbrev pub blank_after : Tree → List Ink
 blank_after tree.empty = []
 blank_after _ = blank ∷ []
 
--- before what stands after an arm of an `if`
+-- `else`, where something stands after an arm of an `if`
 abbrev pub else_before : Tree → List Ink
 else_before tree.empty = []
 else_before _ = spaced (keyword k.Else)
 
--- ---- the whole; the test asks for brackets round the name that stands first, and is for statements alone
+-- ---- trees; the test asks for brackets round the name that stands first, which a statement may need so that it isn't read as `println` or `log`
 
 abbrev mutual
   pub inks : Tree → Layout → Bool → List Ink
@@ -113,17 +111,17 @@ abbrev mutual
   inks (tree.log p n e) l guarded = ink.name (codes "log") ∷ mark m.Dot ∷ inks n l false ++ blank ∷ inks e l false
   inks _ l guarded = []
 
-  -- with commas between them, after what stands before the first
+  -- the items of a list with commas between them; `before` stands before the first
   pub listed : Tree → Layout → List Ink → List Ink
   listed (tree.cons x xs) l before = before ++ inks x l false ++ listed xs l comma
   listed _ l before = []
 
-  -- statements or labels, after what stands before the first
+  -- statements or labels; `before` stands before the first
   pub parts : Tree → Layout → List Ink → List Ink
   parts (tree.cons x xs) l before = before ++ inks x l (prints x false) ++ parts xs l (between l)
   parts _ l before = []
 
-  -- a text or a hole; what stands in a hole stays on one line
+  -- a text or a hole of a template; what is in a hole stays on one line
   pub piece : Tree → TemplateKind → Layout → List Ink
   piece (tree.piece p s) q l = ink.template_text q (is_inline l) s ∷ []
   piece (tree.hole p e) q l = ink.open_hole ∷ inks e inline false ++ ink.close_hole ∷ []

@@ -1,4 +1,4 @@
--- What the marks and parts after an expression begin with.
+-- What comes first after an expression: an operator or a part.
 use Rattle.std.specs.Prelude.{Bool, true, false, List, [], ◌∷◌}
 use Rattle.nf_ast.specs.Tree as tree
 use Rattle.nf_ast.specs.Tree.{Tree}
@@ -8,7 +8,7 @@ abbrev pub is_property : Tree → Bool
 is_property (tree.property e n) = true
 is_property _ = false
 
--- a part that begins with a bracket, with which an expression may begin too
+-- whether a part begins with a bracket or a brace, with which an argument may begin too
 abbrev pub is_opening : Tree → Bool
 is_opening (tree.index p e x) = true
 is_opening (tree.call p e xs) = true
@@ -27,7 +27,7 @@ abbrev pub after_first : List Tree → List Tree
 after_first [] = []
 after_first (x ∷ xs) = xs
 
--- the first mark after an operand is a minus
+-- whether the first operator after an operand is a minus, with which an argument may begin
 abbrev pub next_minus : List Tree → Bool → Bool
 next_minus [] next = next
 next_minus (tree.binary p x a b ∷ xs) next = is_minus x

@@ -1,31 +1,31 @@
--- Where brackets have to stand round an expression.
+-- How closely operators bind, and where an expression stands in brackets.
 use Rattle.std.specs.Prelude.{ℕ, suc, Bool, true, false, not, ◌||◌, ◌&&◌, List, [], ◌∷◌, ◌++◌, codes, bytes_eq, nat_lt, if◌then◌else◌}
 use Rattle.nf_token.specs.declared.token.Mark.TheVariants as m
 use Rattle.nf_ast.specs.declared.marks.InfixOperator.{InfixOperator}
 use Rattle.nf_ast.specs.declared.marks.InfixOperator.TheVariants as i
 use Rattle.nf_ast.specs.Tree as tree
 use Rattle.nf_ast.specs.Tree.{Tree}
-use Rattle.nf_printer.specs.Ink.{Ink, mark}
+use Rattle.nf_writer.specs.Ink.{Ink, mark}
 
--- ---- how closely marks bind
+-- ---- levels: from 1, for `||`, to 10, for what has no operator outermost
 
-abbrev pub mark_level : InfixOperator → ℕ
-mark_level i.Or = 1
-mark_level i.And = 2
-mark_level i.Pipe = 3
-mark_level i.Same = 4
-mark_level i.Differs = 4
-mark_level i.Matches = 4
-mark_level i.Less = 5
-mark_level i.AtMost = 5
-mark_level i.Greater = 5
-mark_level i.AtLeast = 5
-mark_level i.In = 5
-mark_level i.Range = 6
-mark_level i.Plus = 7
-mark_level i.Minus = 7
-mark_level i.Times = 8
-mark_level i.Remainder = 8
+abbrev pub infix_level : InfixOperator → ℕ
+infix_level i.Or = 1
+infix_level i.And = 2
+infix_level i.Pipe = 3
+infix_level i.Same = 4
+infix_level i.Differs = 4
+infix_level i.Matches = 4
+infix_level i.Less = 5
+infix_level i.AtMost = 5
+infix_level i.Greater = 5
+infix_level i.AtLeast = 5
+infix_level i.In = 5
+infix_level i.Range = 6
+infix_level i.Plus = 7
+infix_level i.Minus = 7
+infix_level i.Times = 8
+infix_level i.Remainder = 8
 
 abbrev pub prefix_level : ℕ
 prefix_level = 9
@@ -33,15 +33,15 @@ prefix_level = 9
 abbrev pub postfix_level : ℕ
 postfix_level = 10
 
--- the level of an expression is that of its outermost mark; a conditional one has the least
+-- the level of an expression is that of its outermost operator; a conditional one has 0
 abbrev pub level : Tree → ℕ
 level (tree.conditional p c a b) = 0
 level (tree.elvis p a b) = 0
-level (tree.binary p x a b) = mark_level x
+level (tree.binary p x a b) = infix_level x
 level (tree.prefix p x e) = prefix_level
 level _ = postfix_level
 
--- the level that the left operand of a mark has at least: of the marks of comparing and of `..` one alone may stand on a level
+-- the lowest level that needs no brackets on the left of an operator: its own where it chains, as `+`; one more for equality, comparisons, `in` and `..`, which don't
 abbrev pub left_level : InfixOperator → ℕ
 left_level i.Same = 5
 left_level i.Differs = 5
@@ -52,13 +52,13 @@ left_level i.Greater = 6
 left_level i.AtLeast = 6
 left_level i.In = 6
 left_level i.Range = 7
-left_level x = mark_level x
+left_level x = infix_level x
 
--- and the right operand
+-- and on the right
 abbrev pub right_level : InfixOperator → ℕ
-right_level x = suc (mark_level x)
+right_level x = suc (infix_level x)
 
--- brackets have to stand round an expression where this level is asked for
+-- an expression stands in brackets where at least this level is asked for
 abbrev pub needs : ℕ → Tree → Bool
 needs n e = nat_lt (level e) n
 
@@ -72,7 +72,7 @@ abbrev pub is_minus : InfixOperator → Bool
 is_minus i.Minus = true
 is_minus _ = false
 
--- an expression, before a token with which another may begin or not, is read as a statement of `println` or `log` where it begins one
+-- whether a statement that begins with this expression would be read as `println` or `log` with an argument; the test says whether the token after it may begin an argument
 abbrev pub prints : Tree → Bool → Bool
 prints (tree.name p s) next = bytes_eq s (codes "println") && next
 prints (tree.property e n) next = not (needs postfix_level e) && (if is_name (codes "log") e then next else prints e false)
@@ -85,7 +85,7 @@ prints (tree.conditional p c a b) next = not (needs 1 c) && prints c false
 prints (tree.elvis p a b) next = not (needs 1 a) && prints a false
 prints _ next = false
 
--- an expression whose text begins with `(`
+-- whether the text of an expression begins with `(`
 abbrev pub begins_round : Tree → Bool
 begins_round (tree.property e n) = needs postfix_level e || begins_round e
 begins_round (tree.safe_property e n) = needs postfix_level e || begins_round e

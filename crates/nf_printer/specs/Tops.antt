@@ -4,20 +4,18 @@ use Rattle.nf_token.specs.declared.token.Keyword.TheVariants as k
 use Rattle.nf_token.specs.declared.token.Mark.TheVariants as m
 use Rattle.nf_ast.specs.Tree as tree
 use Rattle.nf_ast.specs.Tree.{Tree}
-use Rattle.nf_printer.specs.Ink as ink
-use Rattle.nf_printer.specs.Ink.{Ink, mark, keyword, blank, line, inked}
+use Rattle.nf_writer.specs.Ink as ink
+use Rattle.nf_writer.specs.Ink.{Ink, mark, keyword, blank, line, inked}
 use Rattle.nf_printer.specs.Levels.{begins_round, round}
-use Rattle.nf_printer.specs.Lines.{Layout, lines, deeper, before_first, is_expr}
+use Rattle.nf_writer.specs.Lines.{Layout, deeper, before_first, outside}
+use Rattle.nf_printer.specs.Bodies.{is_expr}
 use Rattle.nf_printer.specs.Exprs.{comma, equals, inks, listed, parts}
 
--- outside of all braces, and inside of one
-abbrev pub outside : Layout
-outside = lines []
-
+-- inside of one pair of braces
 abbrev pub inside : Layout
 inside = deeper outside
 
--- a line of its own, inside of one brace
+-- a new line, inside of one pair of braces
 abbrev pub inner_line : List Ink
 inner_line = before_first inside
 
@@ -32,15 +30,15 @@ abbrev pub on_lines : (Tree → List Ink) → Tree → List Ink
 on_lines f (tree.cons x xs) = inner_line ++ f x ++ on_lines f xs
 on_lines f _ = []
 
--- "{", what stands on lines, "}"
+-- lines in braces
 abbrev pub braced : List Ink → List Ink
 braced xs = blank ∷ mark m.OpenBrace ∷ xs ++ before_first outside ++ mark m.CloseBrace ∷ []
 
--- the word of a section on a line of its own, and then its parts
+-- the word of a section and its colon on a line of their own, and then its parts
 abbrev pub headed : List ℕ → List Ink → List Ink
 headed x xs = inner_line ++ word x ∷ mark m.Colon ∷ xs
 
--- a section, where there is one
+-- a section, where the script has it
 abbrev pub section : List ℕ → (Tree → List Ink) → Tree → List Ink
 section x f (tree.section p xs) = headed x (on_lines f xs)
 section x f _ = []
@@ -58,7 +56,7 @@ abbrev pub first_begins_round : Tree → Bool
 first_begins_round (tree.cons x xs) = begins_round x
 first_begins_round _ = false
 
--- what stands before arguments: a bracket where they would begin with one, else a blank
+-- what stands before the arguments of a directive: `(` where they would begin with one, else a blank
 abbrev pub args_before : Tree → List Ink
 args_before (tree.cons x xs) = if begins_round x then mark m.OpenRound ∷ [] else blank ∷ []
 args_before _ = []
@@ -73,7 +71,7 @@ abbrev pub directive : Tree → List Ink
 directive (tree.directive n xs) = part n ++ directive_args xs
 directive _ = []
 
--- a part of an input or output
+-- a part of an input or an output
 abbrev pub value_part : Tree → List Ink
 value_part (tree.val p e) = word (codes "val") ∷ blank ∷ part e
 value_part (tree.path p e) = word (codes "path") ∷ blank ∷ part e
@@ -94,14 +92,14 @@ abbrev pub output : Tree → List Ink
 output (tree.output x os) = some_value x ++ listed os inside comma
 output _ = []
 
--- a string on a line of its own, or a section
+-- what a process runs: a string on a line of its own, or a section
 abbrev pub task : Tree → List Ink
 task x = if is_expr x then inner_line ++ part x else body_section (codes "script") x
 
 abbrev pub process_parts : Tree → Tree → Tree → Tree → Tree → List Ink
 process_parts ds xs ys t s = on_lines directive ds ++ section (codes "input") some_value xs ++ section (codes "output") output ys ++ task t ++ body_section (codes "stub") s
 
--- up to its `{`
+-- a process up to its `{`
 abbrev pub process_head : List ℕ → List Ink
 process_head n = word (codes "process") ∷ blank ∷ word n ∷ blank ∷ mark m.OpenBrace ∷ []
 
@@ -111,7 +109,7 @@ abbrev pub workflow_parts : Tree → List Ink
 workflow_parts (tree.parts t b e) = section (codes "take") part t ++ body_section (codes "main") b ++ section (codes "emit") part e
 workflow_parts xs = statements xs
 
--- a blank and a name, where there is one
+-- a blank and the name of a workflow, where it has one
 abbrev pub maybe_name : Tree → List Ink
 maybe_name tree.empty = []
 maybe_name n = blank ∷ part n

@@ -3,21 +3,21 @@
 ghost use Rattle.std.specs.Prelude.{◌≡◌, [], ◌∷◌, ◌++◌, OnOk, map, true, false, not, if◌then◌else◌, option_map};
 ghost use Rattle.nf_ast.specs.Tree as tree;
 ghost use Rattle.nf_ast.specs.View.{view, view_closure, view_body, view_label, view_stmt, view_stmts, view_arm, names, name_tree, trees, params_tree};
-ghost use Rattle.nf_printer.specs.Ink as ink;
-ghost use Rattle.nf_printer.specs.Ink.{inked};
-ghost use Rattle.nf_printer.specs.Lines.{Layout, is_expr, is_short as is_short_of, between, first_before, closure_last};
+ghost use Rattle.nf_writer.specs.Ink as ink;
+ghost use Rattle.nf_writer.specs.Ink.{inked, spaced};
+ghost use Rattle.nf_writer.specs.Lines.{Layout, between};
+ghost use Rattle.nf_printer.specs.Bodies.{is_expr, is_short as is_short_of, first_before, closure_last};
 ghost use Rattle.nf_printer.specs.Levels.{prints as prints_of};
-ghost use Rattle.nf_printer.specs.Exprs.{equals, spaced, blank_after, inks, listed, parts as parts_of};
+ghost use Rattle.nf_printer.specs.Exprs.{equals, blank_after, inks, listed, parts as parts_of};
 ghost use Rattle.nf_printer.specs.Chains.{is_nil, arm_inks, arms_inks, closure_inks};
-ghost use Rattle.nf_printer.specs.Styles.{layout_of};
+ghost use Rattle.nf_writer.specs.Styles.{layout_of};
 
 use crate::exprs::{put_comma, put_expr, put_label};
-use crate::layout::Margin;
 use crate::leading::{is_expression, prints};
-use crate::writer::Writer;
 use nf_ast::{Arm, ClosureBody, ClosureExpr, Expr, Label, Stmt};
 use nf_token::{Keyword, Mark};
 use nf_value::{Mem, Place, Txt};
+use nf_writer::{Margin, Writer};
 
 /// A closure: on one line where it is one expression or nothing.
 #[cycle(put)]
@@ -28,7 +28,7 @@ pub fn put_closure(closure: &ClosureExpr, margin: &Margin, out: &mut Writer) -> 
     put_inside(&closure.body, &closure.params, margin, &inner, out)
 }
 
-/// The names of a closure and its parts, in braces.
+/// The parameters of a closure and its body, in braces; `inner` is the margin of the body.
 #[cycle(put)]
 fn put_inside(
     body: &ClosureBody,
@@ -47,7 +47,7 @@ fn put_inside(
     out.mark(Mark::CloseBrace)
 }
 
-/// One expression, or nothing.
+/// Whether a body stands on one line: it is one expression, or nothing.
 fn is_short(body: &ClosureBody) -> bool
     ensures { result ≡ is_short_of (view_body body.now) }
 {
@@ -57,7 +57,7 @@ fn is_short(body: &ClosureBody) -> bool
     }
 }
 
-/// Labels stand on lines; of none there is nothing.
+/// Whether there is no label. A body of labels never stands on one line.
 fn no_labels(labels: &[Label]) -> bool
     ensures { result ≡ is_short_of (trees (map view_label labels.now)) }
 {
@@ -68,13 +68,14 @@ fn no_labels(labels: &[Label]) -> bool
     }
 }
 
-/// A label is no expression.
+/// A label isn't an expression.
 fn is_expr_label(_label: &Label) -> bool
     ensures { result ≡ is_expr (view_label _label.now) }
 {
     false
 }
 
+/// Whether there is no statement, or one that is an expression.
 fn is_short_list(stmts: &[Stmt]) -> bool
     ensures { result ≡ is_short_of (view_stmts stmts.now) }
 {
@@ -104,7 +105,7 @@ fn is_lone(stmt: &Stmt) -> bool
     }
 }
 
-/// The names before an arrow, and the arrow.
+/// The parameters of a closure and the arrow, where it has them.
 fn put_params(params: &Option<Vec<(Place, Txt)>>, out: &mut Writer) -> Result<(), Mem>
     ensures { (l : Layout) → OnOk result (out.new ≡ out.old ++ inked (inks (params_tree (option_map (λ v. v.items) params.now)) l false)) }
 {
@@ -119,7 +120,7 @@ fn put_params(params: &Option<Vec<(Place, Txt)>>, out: &mut Writer) -> Result<()
     }
 }
 
-/// A blank after names, where there are some.
+/// A blank after the parameters, where there are any: `{ -> e }` has none.
 fn put_blank_after(list: &[(Place, Txt)], out: &mut Writer) -> Result<(), Mem>
     ensures { OnOk result (out.new ≡ out.old ++ inked (blank_after (names list.now))) }
 {
@@ -142,7 +143,7 @@ pub fn put_names(list: &[(Place, Txt)], out: &mut Writer) -> Result<(), Mem>
     Ok(())
 }
 
-/// What stands before a part: for the first a blank or a new line, for a further one what parts them.
+/// What stands before a part: before the first a blank or a new line, before any `more` what stands between two.
 fn put_before(more: bool, short: bool, margin: &Margin, out: &mut Writer) -> Result<(), Mem>
     ensures { OnOk result (out.new ≡ out.old ++ inked (if more then between (layout_of margin.now) else first_before short (layout_of margin.now))) }
 {
@@ -155,7 +156,7 @@ fn put_before(more: bool, short: bool, margin: &Margin, out: &mut Writer) -> Res
     }
 }
 
-/// What stands after the last part.
+/// What stands after the last part: a blank where the body is short.
 fn put_last(short: bool, margin: &Margin, out: &mut Writer) -> Result<(), Mem>
     ensures { OnOk result (out.new ≡ out.old ++ inked (closure_last short (layout_of margin.now))) }
 {
@@ -166,7 +167,7 @@ fn put_last(short: bool, margin: &Margin, out: &mut Writer) -> Result<(), Mem>
     }
 }
 
-/// The parts of a closure.
+/// The body of a closure.
 #[cycle(put)]
 fn put_body(body: &ClosureBody, short: bool, margin: &Margin, out: &mut Writer) -> Result<(), Mem>
     ensures { OnOk result (out.new ≡ out.old ++ inked (parts_of (view_body body.now) (layout_of margin.now) (first_before short (layout_of margin.now)))) }
@@ -274,7 +275,7 @@ pub fn put_assign(name: &Txt, expr: &Expr, margin: &Margin, out: &mut Writer) ->
     put_expr(expr, margin, false, out)
 }
 
-/// The arms of an `if` before what stands after its last `else`.
+/// The arms of an `if`, with `else` between them. Its last `else` comes after.
 #[cycle(put)]
 fn put_arms(arms: &[Arm], margin: &Margin, out: &mut Writer) -> Result<(), Mem>
     ensures { OnOk result (out.new ≡ out.old ++ inked (arms_inks (map view_arm arms.now) (layout_of margin.now) [])) }
@@ -288,7 +289,7 @@ fn put_arms(arms: &[Arm], margin: &Margin, out: &mut Writer) -> Result<(), Mem>
     Ok(())
 }
 
-/// There is an arm.
+/// Whether there is an arm.
 fn some_arms(arms: &[Arm]) -> bool
     ensures { result ≡ not (is_nil (map view_arm arms.now)) }
 {
@@ -298,7 +299,7 @@ fn some_arms(arms: &[Arm]) -> bool
     }
 }
 
-/// `else` with a blank on both sides, where an arm came before.
+/// `else` with a blank on both sides, where an arm came before. It stands on the line of the `}` before it.
 fn put_else(more: bool, out: &mut Writer) -> Result<(), Mem>
     ensures { OnOk result (out.new ≡ out.old ++ inked (if more then spaced (ink.keyword Keyword.Else) else [])) }
 {
@@ -308,7 +309,7 @@ fn put_else(more: bool, out: &mut Writer) -> Result<(), Mem>
     Ok(())
 }
 
-/// An arm: its condition in brackets and its statements.
+/// An arm: `if`, its condition in brackets, and its statements in braces.
 #[cycle(put)]
 fn put_arm(arm: &Arm, margin: &Margin, out: &mut Writer) -> Result<(), Mem>
     ensures { OnOk result (out.new ≡ out.old ++ inked (arm_inks (view_arm arm.now) (layout_of margin.now))) }

@@ -1,30 +1,30 @@
-//! The text of expressions.
+//! The text of expressions. Each function adds to what is printed, and its errors are `Mem`.
 
 ghost use Rattle.std.specs.Prelude.{◌≡◌, [], ◌∷◌, ◌++◌, OnOk, map, true, false, if◌then◌else◌};
 ghost use Rattle.nf_ast.specs.View.{view, view_piece, view_pair, view_operand, view_branch, view_postfix, view_arg, views, key_tree, part_of, trees};
 ghost use Rattle.nf_ast.specs.Tree as tree;
-ghost use Rattle.nf_printer.specs.Ink as ink;
-ghost use Rattle.nf_printer.specs.Ink.{inked};
+ghost use Rattle.nf_writer.specs.Ink as ink;
+ghost use Rattle.nf_writer.specs.Ink.{inked};
 ghost use Rattle.nf_printer.specs.Levels.{within};
 ghost use Rattle.nf_printer.specs.Exprs.{infix_inks, comma, colon, inks, listed, piece as piece_of, pieces as pieces_of, colon_alone};
-ghost use Rattle.nf_printer.specs.Chains.{marks_inks, opens as opens_of, operand_inks, operands_inks, part_inks, parts_inks, opens_late as opens_late_of, branches_inks};
-ghost use Rattle.nf_printer.specs.Styles.{layout_of};
+ghost use Rattle.nf_printer.specs.Chains.{prefixes_inks, opens as opens_of, operand_inks, operands_inks, part_inks, parts_inks, opens_late as opens_late_of, branches_inks};
+ghost use Rattle.nf_writer.specs.Styles.{layout_of};
 
-use crate::branches::{Marks, has_late, holds, open_late, put_colons};
+use crate::branches::{BranchState, has_late, holds, open_late, put_colons};
 use crate::closures::put_closure;
-use crate::layout::Margin;
 use crate::levels::{
-    POSTFIX, PREFIX, both, bracketed, is_bare, left_level, level, mark_level, no_marks, no_parts,
-    right_level, without,
+    POSTFIX, PREFIX, both, bracketed, infix_level, is_bare, left_level, level, no_parts,
+    no_prefixes, right_level, without,
 };
-use crate::writer::Writer;
 use nf_ast::{
     Arg, Branch, Expr, Fragment, InfixOperator, Key, Operand, Pair, Postfix, Prefix, PrefixOperator,
 };
 use nf_token::{Keyword, Mark, TemplateKind};
 use nf_value::{Mem, Place, Txt};
+use nf_writer::{Margin, Writer};
 
-/// An expression; `guarded` where the name that it begins with has to stand in brackets.
+/// An expression. Where it is `guarded`, the name that it begins with stands in brackets, so that a statement isn't read as `println`
+/// or `log`: `(println)(x)`.
 ///
 /// # Errors
 ///
@@ -45,11 +45,11 @@ pub fn put_expr(expr: &Expr, margin: &Margin, guarded: bool, out: &mut Writer) -
         Expr::List(_, items) => put_list(items, margin, out),
         Expr::Map(_, pairs) => put_map(pairs, margin, out),
         Expr::Closure(closure) => put_closure(closure, margin, out),
-        Expr::Prefix(marks, of) => {
-            let brackets = bracketed(no_marks(marks), level(of), PREFIX);
-            put_marks(marks, out)?;
+        Expr::Prefix(prefixes, of) => {
+            let brackets = bracketed(no_prefixes(prefixes), level(of), PREFIX);
+            put_prefixes(prefixes, out)?;
             out.open_round(brackets)?;
-            put_expr(of, margin, both(guarded, no_marks(marks)), out)?;
+            put_expr(of, margin, both(guarded, no_prefixes(prefixes)), out)?;
             out.close_round(brackets)
         }
         Expr::Infix(first, rest) => {
@@ -59,7 +59,7 @@ pub fn put_expr(expr: &Expr, margin: &Margin, guarded: bool, out: &mut Writer) -
             put_operands(rest, at, margin, out)
         }
         Expr::Conditional(first, rest) => {
-            let brackets = holds(first, rest, Marks::none());
+            let brackets = holds(first, rest, BranchState::none());
             open_late(rest, out)?;
             out.open_round(brackets)?;
             let outermost = without(guarded, has_late(rest));
@@ -77,7 +77,7 @@ pub fn put_expr(expr: &Expr, margin: &Margin, guarded: bool, out: &mut Writer) -
     }
 }
 
-/// A name, in brackets where it has to stand in some.
+/// A name, in brackets where it is guarded.
 fn put_guarded(name: &Txt, guarded: bool, out: &mut Writer) -> Result<(), Mem>
     ensures { OnOk result (out.new ≡ out.old ++ inked (within guarded (ink.name name.now ∷ []))) }
 {
@@ -86,11 +86,11 @@ fn put_guarded(name: &Txt, guarded: bool, out: &mut Writer) -> Result<(), Mem>
     out.close_round(guarded)
 }
 
-/// The marks before an operand.
-fn put_marks(marks: &[Prefix], out: &mut Writer) -> Result<(), Mem>
-    ensures { OnOk result (out.new ≡ out.old ++ inked (marks_inks marks.now)) }
+/// The operators before an operand, `!` and `-`.
+fn put_prefixes(prefixes: &[Prefix], out: &mut Writer) -> Result<(), Mem>
+    ensures { OnOk result (out.new ≡ out.old ++ inked (prefixes_inks prefixes.now)) }
 {
-    for prefix in marks {
+    for prefix in prefixes {
         match prefix.mark {
             PrefixOperator::Not => out.mark(Mark::Not)?,
             PrefixOperator::Minus => out.mark(Mark::Minus)?,
@@ -101,19 +101,19 @@ fn put_marks(marks: &[Prefix], out: &mut Writer) -> Result<(), Mem>
 
 // ---- operands of one level
 
-/// The brackets that open before the first operand, which has this level.
+/// A `(` before the first operand, which has this level, for each operator that needs all before it in brackets.
 fn put_opens(rest: &[Operand], first: u8, out: &mut Writer) -> Result<(), Mem>
     ensures { OnOk result (out.new ≡ out.old ++ inked (opens_of (map view_operand rest.now) first)) }
 {
     let mut last = first;
     for operand in rest {
         out.open_round(last < left_level(operand.mark))?;
-        last = mark_level(operand.mark);
+        last = infix_level(operand.mark);
     }
     Ok(())
 }
 
-/// Operands with the marks before them, after what has this level.
+/// Each further operand with the operator before it; the first has this level.
 #[cycle(put)]
 fn put_operands(rest: &[Operand], first: u8, margin: &Margin, out: &mut Writer) -> Result<(), Mem>
     ensures { OnOk result (out.new ≡ out.old ++ inked (operands_inks (map view_operand rest.now) first (layout_of margin.now))) }
@@ -121,12 +121,12 @@ fn put_operands(rest: &[Operand], first: u8, margin: &Margin, out: &mut Writer) 
     let mut last = first;
     for operand in rest {
         put_operand(operand, last, margin, out)?;
-        last = mark_level(operand.mark);
+        last = infix_level(operand.mark);
     }
     Ok(())
 }
 
-/// An operand with the mark before it, after what has this level.
+/// An operand with the operator before it. What stands before that has this level.
 #[cycle(put)]
 fn put_operand(operand: &Operand, last: u8, margin: &Margin, out: &mut Writer) -> Result<(), Mem>
     ensures { OnOk result (out.new ≡ out.old ++ inked (operand_inks (view_operand operand.now) last (layout_of margin.now))) }
@@ -139,11 +139,11 @@ fn put_operand(operand: &Operand, last: u8, margin: &Margin, out: &mut Writer) -
     out.close_round(brackets)
 }
 
-/// A mark between operands; all but `..` have a blank on both sides.
-fn put_infix(mark: InfixOperator, out: &mut Writer) -> Result<(), Mem>
-    ensures { OnOk result (out.new ≡ out.old ++ inked (infix_inks mark)) }
+/// An operator between operands: `..` alone, and every other with a blank on both sides.
+fn put_infix(operator: InfixOperator, out: &mut Writer) -> Result<(), Mem>
+    ensures { OnOk result (out.new ≡ out.old ++ inked (infix_inks operator)) }
 {
-    match mark {
+    match operator {
         InfixOperator::Or => out.spaced(Mark::Or),
         InfixOperator::And => out.spaced(Mark::And),
         InfixOperator::Pipe => out.spaced(Mark::Pipe),
@@ -163,28 +163,28 @@ fn put_infix(mark: InfixOperator, out: &mut Writer) -> Result<(), Mem>
     }
 }
 
-// ---- conditions
+// ---- conditional expressions
 
-/// What stands after the first operand of a condition.
+/// Each operator of a conditional expression with the operand after it.
 #[cycle(put)]
 fn put_branches(rest: &[Branch], margin: &Margin, out: &mut Writer) -> Result<(), Mem>
     ensures { OnOk result (out.new ≡ out.old ++ inked (branches_inks (map view_branch rest.now) 0 false (layout_of margin.now))) }
 {
-    let mut marks = Marks::none();
+    let mut state = BranchState::none();
     for (place, branch) in rest.iter().enumerate() {
-        marks.put(branch.mark, out)?;
-        marks = marks.after(branch.mark);
-        let brackets = holds(&branch.expr, &rest[place + 1..], marks);
+        state.put(branch.mark, out)?;
+        state = state.after(branch.mark);
+        let brackets = holds(&branch.expr, &rest[place + 1..], state);
         out.open_round(brackets)?;
         put_expr(&branch.expr, margin, false, out)?;
         out.close_round(brackets)?;
     }
-    put_colons(marks.asked, out)
+    put_colons(state.asked, out)
 }
 
 // ---- parts after an expression
 
-/// Parts after an expression.
+/// The parts after an expression.
 #[cycle(put)]
 fn put_parts(parts: &[Postfix], margin: &Margin, out: &mut Writer) -> Result<(), Mem>
     ensures { OnOk result (out.new ≡ out.old ++ inked (parts_inks (map view_postfix parts.now) (layout_of margin.now))) }
@@ -195,7 +195,7 @@ fn put_parts(parts: &[Postfix], margin: &Margin, out: &mut Writer) -> Result<(),
     Ok(())
 }
 
-/// A part after an expression.
+/// A part after an expression: `.name`, `?.name`, an index, a call or a closure.
 #[cycle(put)]
 fn put_part(part: &Postfix, margin: &Margin, out: &mut Writer) -> Result<(), Mem>
     ensures { OnOk result (out.new ≡ out.old ++ inked (part_inks (view_postfix part.now) (layout_of margin.now))) }
@@ -324,7 +324,7 @@ fn put_pairs(pairs: &[Pair], margin: &Margin, out: &mut Writer) -> Result<(), Me
     Ok(())
 }
 
-/// A pair.
+/// A pair: its key, a colon and its value.
 #[cycle(put)]
 fn put_pair(pair: &Pair, margin: &Margin, out: &mut Writer) -> Result<(), Mem>
     ensures { OnOk result (out.new ≡ out.old ++ inked (inks (view_pair pair.now) (layout_of margin.now) false)) }

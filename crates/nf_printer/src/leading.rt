@@ -1,24 +1,24 @@
-//! What an expression begins with.
+//! What the text of an expression begins with.
 
 ghost use Rattle.std.specs.Prelude.{◌≡◌, map, true};
-ghost use Rattle.nf_printer.specs.Lines.{is_expr};
+ghost use Rattle.nf_printer.specs.Bodies.{is_expr};
 ghost use Rattle.nf_ast.specs.View.{view, view_operand, view_postfix};
 ghost use Rattle.nf_printer.specs.Chains.{is_nil};
 ghost use Rattle.nf_printer.specs.Levels.{prints as prints_of, begins_round as begins_round_of, is_name as is_name_of};
 ghost use Rattle.nf_printer.specs.Leading.{next_minus as next_minus_of, after_first as after_first_of, begins_property as begins_property_of, next_begins as next_begins_of, is_property as is_property_of, is_opening as is_opening_of};
 
-use crate::branches::{Marks, has_late, holds};
-use crate::levels::{POSTFIX, both, bracketed, is_bare, level, no_branches, no_marks, no_parts};
+use crate::branches::{BranchState, has_late, holds};
+use crate::levels::{POSTFIX, both, bracketed, is_bare, level, no_branches, no_parts, no_prefixes};
 use nf_ast::{Expr, InfixOperator, Operand, Postfix};
 
-/// Whether an expression, before a token with which another may begin or not, is read as a statement of `println` or `log` where it
-/// begins one.
+/// Whether a statement that begins with this expression would be read as `println` or `log` with an argument, as `println(x)` would.
+/// `next` says whether the token after the expression may begin an argument.
 pub fn prints(expr: &Expr, next: bool) -> bool
     ensures { result ≡ prints_of (view expr.now) next }
 {
     match expr {
         Expr::Name(_, name) => name.as_str() == "println" && next,
-        Expr::Prefix(marks, of) => no_marks(marks) && prints(of, next),
+        Expr::Prefix(prefixes, of) => no_prefixes(prefixes) && prints(of, next),
         Expr::Infix(first, rest) => {
             if is_bare(rest, level(first)) {
                 prints(first, next_minus(rest, next))
@@ -29,7 +29,7 @@ pub fn prints(expr: &Expr, next: bool) -> bool
         Expr::Conditional(first, rest) => {
             if has_late(rest) {
                 false
-            } else if holds(first, rest, Marks::none()) {
+            } else if holds(first, rest, BranchState::none()) {
                 false
             } else {
                 prints(first, both(next, no_branches(rest)))
@@ -50,7 +50,7 @@ pub fn prints(expr: &Expr, next: bool) -> bool
     }
 }
 
-/// Whether the first mark after an operand is a minus, with which an expression may begin.
+/// Whether what follows the first operand may begin an argument: of the operators only `-` may.
 fn next_minus(rest: &[Operand], next: bool) -> bool
     ensures { result ≡ next_minus_of (map view_operand rest.now) next }
 {
@@ -86,7 +86,7 @@ fn is_name(expr: &Expr, word: &str) -> bool
 {
     match expr {
         Expr::Name(_, name) => name.as_str() == word,
-        Expr::Prefix(marks, of) => no_marks(marks) && is_name(of, word),
+        Expr::Prefix(prefixes, of) => no_prefixes(prefixes) && is_name(of, word),
         Expr::Infix(first, rest) => no_operands(rest) && is_name(first, word),
         Expr::Conditional(first, rest) => no_branches(rest) && is_name(first, word),
         Expr::Postfix(first, rest) => no_parts(rest) && is_name(first, word),
@@ -94,7 +94,7 @@ fn is_name(expr: &Expr, word: &str) -> bool
     }
 }
 
-/// There is no operand with a mark before it.
+/// No operator and operand follow.
 fn no_operands(rest: &[Operand]) -> bool
     ensures { result ≡ is_nil (map view_operand rest.now) }
 {
@@ -114,7 +114,7 @@ fn is_property(part: &Postfix) -> bool
     }
 }
 
-/// Whether a part begins with a bracket, with which an expression may begin too.
+/// Whether a part begins with a bracket or a brace, with which an argument may begin too.
 fn is_opening(part: &Postfix) -> bool
     ensures { result ≡ is_opening_of (view_postfix part.now) }
 {
@@ -124,7 +124,7 @@ fn is_opening(part: &Postfix) -> bool
     }
 }
 
-/// Whether the first part after an expression is one with which another may begin.
+/// Whether the first part may begin an argument, or `next` where there is no part.
 fn next_begins(parts: &[Postfix], next: bool) -> bool
     ensures { result ≡ next_begins_of (map view_postfix parts.now) next }
 {
@@ -139,7 +139,7 @@ pub fn begins_round(expr: &Expr) -> bool
     ensures { result ≡ begins_round_of (view expr.now) }
 {
     match expr {
-        Expr::Prefix(marks, of) => no_marks(marks) && begins_round(of),
+        Expr::Prefix(prefixes, of) => no_prefixes(prefixes) && begins_round(of),
         Expr::Infix(first, rest) => {
             if is_bare(rest, level(first)) {
                 begins_round(first)
@@ -150,7 +150,7 @@ pub fn begins_round(expr: &Expr) -> bool
         Expr::Conditional(first, rest) => {
             if has_late(rest) {
                 true
-            } else if holds(first, rest, Marks::none()) {
+            } else if holds(first, rest, BranchState::none()) {
                 true
             } else {
                 begins_round(first)
@@ -167,7 +167,7 @@ pub fn begins_round(expr: &Expr) -> bool
     }
 }
 
-/// The tree of an expression is that of one, whatever lists its nodes have: going down its first operands shows it.
+/// Does nothing. Its contract says that the tree of an `Expr` is an expression, also where lists in its nodes are empty.
 pub fn is_expression(expr: &Expr)
     ensures { is_expr (view expr.now) ≡ true }
 {

@@ -1,26 +1,26 @@
-//! Where brackets have to stand round an expression.
+//! How closely operators bind, and so which operands need brackets (own).
 
 ghost use Rattle.std.specs.Prelude.{◌≡◌, ◌&&◌, not, nat_lt, map};
 ghost use Rattle.nf_ast.specs.View.{view, view_operand, view_branch, view_postfix};
-ghost use Rattle.nf_printer.specs.Levels.{mark_level as level_of_mark, left_level as left_level_of, right_level as right_level_of, level as level_of};
+ghost use Rattle.nf_printer.specs.Levels.{infix_level as infix_level_of, left_level as left_level_of, right_level as right_level_of, level as level_of};
 ghost use Rattle.nf_printer.specs.Chains.{is_nil, is_bare as is_bare_of};
 
 use nf_ast::{Branch, Expr, InfixOperator, Operand, Postfix, Prefix};
 
-/// The level that a condition, and what stands before `?:`, has at least.
+/// The lowest level that needs no brackets as a condition or before `?:`.
 pub const CONDITION: u8 = 1;
 
-/// The level of a mark before an operand.
+/// The level of an operator before its operand, `!` or `-`.
 pub const PREFIX: u8 = 9;
 
-/// The level of what has no mark, or parts after it.
+/// The level of a literal, a name, a call, a property: of all that has no operator outermost.
 pub const POSTFIX: u8 = 10;
 
-/// How closely a mark binds its operands.
-pub fn mark_level(mark: InfixOperator) -> u8
-    ensures { result ≡ level_of_mark mark }
+/// How closely an operator binds its operands: from 1 for `||` to 8 for `*`.
+pub fn infix_level(operator: InfixOperator) -> u8
+    ensures { result ≡ infix_level_of operator }
 {
-    match mark {
+    match operator {
         InfixOperator::Or => 1,
         InfixOperator::And => 2,
         InfixOperator::Pipe => 3,
@@ -36,11 +36,12 @@ pub fn mark_level(mark: InfixOperator) -> u8
     }
 }
 
-/// The level that the left operand of a mark has at least: of the marks of comparing and of `..` one alone may stand on a level.
-pub fn left_level(mark: InfixOperator) -> u8
-    ensures { result ≡ left_level_of mark }
+/// The lowest level that needs no brackets as the left operand. An operator that doesn't chain asks for one level more: `(a < b) < c`
+/// keeps its brackets, and `a + b + c` has none. Equality, comparisons, `in` and `..` don't chain.
+pub fn left_level(operator: InfixOperator) -> u8
+    ensures { result ≡ left_level_of operator }
 {
-    match mark {
+    match operator {
         InfixOperator::Same | InfixOperator::Differs | InfixOperator::Matches => 5,
         InfixOperator::Less
         | InfixOperator::AtMost
@@ -48,26 +49,32 @@ pub fn left_level(mark: InfixOperator) -> u8
         | InfixOperator::AtLeast
         | InfixOperator::In => 6,
         InfixOperator::Range => 7,
-        _ => mark_level(mark),
+        _ => infix_level(operator),
     }
 }
 
-/// The level that the right operand of a mark has at least.
-pub fn right_level(mark: InfixOperator) -> u8
-    ensures { result ≡ right_level_of mark }
+/// The lowest level that needs no brackets as the right operand: one more than the operator's own, as in `a - (b - c)`.
+pub fn right_level(operator: InfixOperator) -> u8
+    ensures { result ≡ right_level_of operator }
 {
-    mark_level(mark) + 1
+    infix_level(operator) + 1
 }
 
-/// The level of an expression: that of its outermost mark. Only where a node has an empty list does it go down to the first operand.
+/// The level of an expression: that of its outermost operator. A node whose list of operators is empty has that of its first operand.
 pub fn level(expr: &Expr) -> u8
     ensures { result ≡ level_of (view expr.now) }
 {
     match expr {
-        Expr::Prefix(marks, of) => { if no_marks(marks) { level(of) } else { PREFIX } }
+        Expr::Prefix(prefixes, of) => {
+            if no_prefixes(prefixes) {
+                level(of)
+            } else {
+                PREFIX
+            }
+        }
         Expr::Infix(first, rest) => match rest.last() {
             None => level(first),
-            Some(operand) => mark_level(operand.mark),
+            Some(operand) => infix_level(operand.mark),
         },
         Expr::Conditional(first, rest) => { if no_branches(rest) { level(first) } else { 0 } }
         Expr::Postfix(first, rest) => {
@@ -81,7 +88,7 @@ pub fn level(expr: &Expr) -> u8
     }
 }
 
-/// Brackets have to stand where something follows or comes before, and the level is less than the least.
+/// Whether an operand needs brackets: it doesn't stand `alone`, and its level is below the least.
 pub fn bracketed(alone: bool, level: u8, least: u8) -> bool
     ensures { result ≡ not alone && nat_lt level least }
 {
@@ -95,24 +102,24 @@ pub fn both(a: bool, b: bool) -> bool
     a && b
 }
 
-/// The one holds and the other doesn't.
+/// The first holds and the second doesn't.
 pub fn without(a: bool, b: bool) -> bool
     ensures { result ≡ a && not b }
 {
     a && !b
 }
 
-/// There is no mark before an operand.
-pub fn no_marks(marks: &[Prefix]) -> bool
-    ensures { result ≡ is_nil marks.now }
+/// No operator stands before the operand.
+pub fn no_prefixes(prefixes: &[Prefix]) -> bool
+    ensures { result ≡ is_nil prefixes.now }
 {
-    match marks {
+    match prefixes {
         [] => true,
         _ => false,
     }
 }
 
-/// There is no mark of a condition.
+/// No operator of a conditional expression follows.
 pub fn no_branches(rest: &[Branch]) -> bool
     ensures { result ≡ is_nil (map view_branch rest.now) }
 {
@@ -122,7 +129,7 @@ pub fn no_branches(rest: &[Branch]) -> bool
     }
 }
 
-/// There is no part after an expression.
+/// No part follows, as `.name` or a call.
 pub fn no_parts(rest: &[Postfix]) -> bool
     ensures { result ≡ is_nil (map view_postfix rest.now) }
 {
@@ -132,7 +139,7 @@ pub fn no_parts(rest: &[Postfix]) -> bool
     }
 }
 
-/// No brackets open before operands, after what has this level.
+/// No brackets open before the first operand, which has this level.
 pub fn is_bare(rest: &[Operand], first: u8) -> bool
     ensures { result ≡ is_bare_of (map view_operand rest.now) first }
 {
@@ -141,7 +148,7 @@ pub fn is_bare(rest: &[Operand], first: u8) -> bool
         if last < left_level(operand.mark) {
             return false;
         }
-        last = mark_level(operand.mark);
+        last = infix_level(operand.mark);
     }
     true
 }

@@ -1,4 +1,4 @@
-//! The canonical text of a script.
+//! Prints the canonical text of a script: what `fmt` writes.
 #![tactic(auto)]
 
 ghost use Rattle.std.specs.Prelude.{◌≡◌, IfOk};
@@ -7,24 +7,19 @@ ghost use Rattle.nf_printer.specs.Tops.{canonical};
 
 mod branches;
 mod closures;
-mod escapes;
 mod exprs;
-mod layout;
 mod leading;
 mod levels;
 mod processes;
-mod spellings;
 mod tops;
-mod writer;
 
-use crate::layout::Margin;
 use crate::tops::put_tops;
-use crate::writer::Writer;
 use nf_ast::Script;
 use nf_value::Mem;
+use nf_writer::{Margin, Writer};
 use std::alloc::Global;
 
-/// The canonical text of a script (own).
+/// The canonical text of a script (own): the same for all texts that have this tree, places aside.
 ///
 /// # Errors
 ///

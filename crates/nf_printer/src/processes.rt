@@ -3,25 +3,25 @@
 ghost use Rattle.std.specs.Prelude.{◌≡◌, ◌∷◌, [], ◌++◌, OnOk, map, codes, if◌then◌else◌};
 ghost use Rattle.nf_ast.specs.View.{view, view_arg, view_label, trees};
 ghost use Rattle.nf_ast.specs.Tops.{maybe, view_process, view_directive, view_input_part, view_input, view_inputs, view_output_part, view_output_value, view_output, view_outputs, view_task, view_section};
-ghost use Rattle.nf_printer.specs.Ink as ink;
-ghost use Rattle.nf_printer.specs.Ink.{inked};
+ghost use Rattle.nf_writer.specs.Ink as ink;
+ghost use Rattle.nf_writer.specs.Ink.{inked};
 ghost use Rattle.nf_printer.specs.Exprs.{comma, listed};
-ghost use Rattle.nf_printer.specs.Styles.{layout_of};
+ghost use Rattle.nf_writer.specs.Styles.{layout_of};
 ghost use Rattle.nf_printer.specs.Levels.{begins_round as begins_round_of};
-ghost use Rattle.nf_printer.specs.Tops.{args_before, outside, inside, top as top_of, directive as directive_of, directive_args, on_lines, section as section_of, body_section, some_value, value_part, value_parts, output as output_of, task as task_of, process_head, process_parts, first_begins_round};
+ghost use Rattle.nf_printer.specs.Tops.{args_before, inside, top as top_of, directive as directive_of, directive_args, on_lines, section as section_of, body_section, some_value, value_part, value_parts, output as output_of, task as task_of, process_head, process_parts, first_begins_round};
+ghost use Rattle.nf_writer.specs.Lines.{outside};
 
 use crate::closures::put_labelled;
 use crate::exprs::{put_args, put_comma, put_expr};
-use crate::layout::Margin;
 use crate::leading::{begins_round, is_expression};
 use crate::tops::{put_head, put_section};
-use crate::writer::Writer;
 use nf_ast::{
     Arg, Directive, Input, InputPart, Inputs, Label, Output, OutputPart, OutputValue, Outputs,
     Process, Section, Task,
 };
 use nf_token::Mark;
 use nf_value::{Mem, Txt};
+use nf_writer::{Margin, Writer};
 
 /// A process.
 pub fn put_process(process: &Process, margin: &Margin, out: &mut Writer) -> Result<(), Mem>
@@ -90,7 +90,7 @@ fn put_directive(directive: &Directive, margin: &Margin, out: &mut Writer) -> Re
     put_directive_args(&directive.args, margin, out)
 }
 
-/// Arguments without brackets, unless they would begin with one.
+/// The arguments of a directive, in brackets only where they would begin with `(`.
 fn put_directive_args(args: &[Arg], margin: &Margin, out: &mut Writer) -> Result<(), Mem>
     requires { layout_of margin.now ≡ inside }
     ensures { OnOk result (out.new ≡ out.old ++ inked (directive_args (trees (map view_arg args.now)))) }
@@ -100,7 +100,7 @@ fn put_directive_args(args: &[Arg], margin: &Margin, out: &mut Writer) -> Result
     out.close_round(args_begin_round(args))
 }
 
-/// What stands before arguments: a bracket where they would begin with one, else a blank.
+/// What stands before the arguments of a directive: `(` where they would begin with one, else a blank.
 fn put_args_before(args: &[Arg], out: &mut Writer) -> Result<(), Mem>
     ensures { OnOk result (out.new ≡ out.old ++ inked (args_before (trees (map view_arg args.now)))) }
 {
@@ -188,7 +188,7 @@ fn put_input_parts(parts: &[InputPart], out: &mut Writer) -> Result<(), Mem>
     Ok(())
 }
 
-/// What stands before a part of a tuple.
+/// What stands before a part of a tuple: a comma, or a blank before the first.
 fn put_tuple_before(more: bool, out: &mut Writer) -> Result<(), Mem>
     ensures { OnOk result (out.new ≡ out.old ++ inked (if more then comma else ink.blank ∷ [])) }
 {

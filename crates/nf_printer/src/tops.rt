@@ -1,26 +1,26 @@
-//! The text of what stands at the top of a script.
+//! The text of what stands at the top of a script: workflows, functions, parameters, and lines of the script itself.
 
 ghost use Rattle.std.specs.Prelude.{◌≡◌, ◌∷◌, [], ◌++◌, OnOk, map, codes};
 ghost use Rattle.nf_ast.specs.View.{view, view_stmts, trees, names, name_tree};
 ghost use Rattle.nf_ast.specs.Tree as tree;
 ghost use Rattle.nf_value.specs.declared.place.Place.{Place};
 ghost use Rattle.nf_ast.specs.Tops.{maybe, view_take, view_emit, view_emits, view_parts, view_section, view_workflow, view_workflow_body, view_function, view_parameter, view_top};
-ghost use Rattle.nf_printer.specs.Ink as ink;
-ghost use Rattle.nf_printer.specs.Ink.{inked};
+ghost use Rattle.nf_writer.specs.Ink as ink;
+ghost use Rattle.nf_writer.specs.Ink.{inked};
 ghost use Rattle.nf_printer.specs.Exprs.{inks};
-ghost use Rattle.nf_printer.specs.Styles.{layout_of};
-ghost use Rattle.nf_printer.specs.Tops.{outside, inside, part as part_of, headed, section as section_of, on_lines, body_section, maybe_name, workflow_parts, dsl, top as top_of, tops as tops_of, statements as statements_of};
+ghost use Rattle.nf_writer.specs.Styles.{layout_of};
+ghost use Rattle.nf_writer.specs.Lines.{outside};
+ghost use Rattle.nf_printer.specs.Tops.{inside, part as part_of, headed, section as section_of, on_lines, body_section, maybe_name, workflow_parts, dsl, top as top_of, tops as tops_of, statements as statements_of};
 
 use crate::closures::{put_assign, put_block, put_names, put_stmts};
 use crate::exprs::put_expr;
-use crate::layout::Margin;
 use crate::processes::put_process;
-use crate::writer::Writer;
 use nf_ast::{Emit, Emits, Function, Parameter, Parts, Section, Take, Top, Workflow, WorkflowBody};
 use nf_token::{Keyword, Mark};
 use nf_value::{Mem, Place, Txt};
+use nf_writer::{Margin, Writer};
 
-/// The tops of a script, with an empty line between two.
+/// The tops of a script, each with its line end, and an empty line between two.
 pub fn put_tops(tops: &[Top], margin: &Margin, out: &mut Writer) -> Result<(), Mem>
     requires { layout_of margin.now ≡ outside }
     ensures { OnOk result (out.new ≡ out.old ++ inked (tops_of (trees (map view_top tops.now)) [])) }
@@ -37,7 +37,7 @@ pub fn put_tops(tops: &[Top], margin: &Margin, out: &mut Writer) -> Result<(), M
     Ok(())
 }
 
-/// What stands at the top, without its line end.
+/// One top, without its line end.
 fn put_top(top: &Top, margin: &Margin, out: &mut Writer) -> Result<(), Mem>
     requires { layout_of margin.now ≡ outside }
     ensures { OnOk result (out.new ≡ out.old ++ inked (top_of (view_top top.now))) }
@@ -145,7 +145,7 @@ fn put_parts(parts: &Parts, margin: &Margin, out: &mut Writer) -> Result<(), Mem
     put_emits(&parts.emit, margin, out)
 }
 
-/// The word of a section on a line of its own.
+/// The word of a section and its colon, on a line of their own.
 pub fn put_head(word: &str, margin: &Margin, out: &mut Writer) -> Result<(), Mem>
     requires { layout_of margin.now ≡ inside }
     ensures { OnOk result (out.new ≡ out.old ++ inked (headed word.now [])) }
@@ -155,7 +155,7 @@ pub fn put_head(word: &str, margin: &Margin, out: &mut Writer) -> Result<(), Mem
     out.mark(Mark::Colon)
 }
 
-/// A section of statements.
+/// A section of statements, after its word.
 pub fn put_section(
     word: &str,
     section: &Section,

@@ -6,12 +6,12 @@ use Rattle.nf_token.specs.declared.token.Mark.TheVariants as m
 use Rattle.nf_ast.specs.declared.expr.Expr.{the_lemmas}
 use Rattle.nf_ast.specs.Tree as tree
 use Rattle.nf_ast.specs.View.{view, view_operand, view_branch, view_postfix, view_stmt, view_stmts, view_arm, operands, conditional, postfix, prefixes, choice, last_arm}
-use Rattle.nf_printer.specs.Ink as ink
-use Rattle.nf_printer.specs.Ink.{inked, mark, blank}
+use Rattle.nf_writer.specs.Ink as ink
+use Rattle.nf_writer.specs.Ink.{inked, mark, blank, spaced}
 use Rattle.nf_printer.specs.Levels.{level, needs, prefix_level, postfix_level, within, prints}
-use Rattle.nf_printer.specs.Exprs.{inks, spaced}
-use Rattle.nf_printer.specs.Chains.{bracket, is_nil, marks_inks, opens, is_bare, operands_inks, parts_inks, opens_late, none_late, is_held, branches_inks, arms_inks}
-use Rattle.nf_printer.specs.Styles.{layout_of}
+use Rattle.nf_printer.specs.Exprs.{inks}
+use Rattle.nf_printer.specs.Chains.{bracket, is_nil, prefixes_inks, opens, is_bare, operands_inks, parts_inks, opens_late, none_late, is_held, branches_inks, arms_inks}
+use Rattle.nf_writer.specs.Styles.{layout_of}
 use Rattle.nf_printer.proofs.Lists.{inked_more}
 use Rattle.nf_printer.proofs.Puts.{three, held, before_held, round_held}
 use Rattle.nf_printer.proofs.Operands.{operands_text, prefixes_text}
@@ -26,17 +26,17 @@ exprs::put_expr-returns-in_ok-put_expr-in-Prefix t c =
     let l = layout_of c.args.margin.now in
     let g = c.args.guarded in
     let a = view c.in-Prefix.of.value in
-    let ms = c.in-Prefix.marks.items in
+    let ms = c.in-Prefix.prefixes.items in
     let h = c.bracketed-brackets.result in
     let b = c.both.result in
     let is : view c.args.expr.now ≡ prefixes ms a = search (rules, the_lemmas) in
     let hb : h ≡ not (is_nil ms) && needs prefix_level a = search rules in
     let bb : b ≡ g && is_nil ms = search rules in
-    let p : c.put_marks.new.out ≡ o ++ inked (marks_inks ms) = search rules in
-    let q : c.open_round.new.self ≡ c.put_marks.new.out ++ inked (bracket h m.OpenRound) = search rules in
+    let p : c.put_prefixes.new.out ≡ o ++ inked (prefixes_inks ms) = search rules in
+    let q : c.open_round.new.self ≡ c.put_prefixes.new.out ++ inked (bracket h m.OpenRound) = search rules in
     let r : c.put_expr.new.out ≡ c.open_round.new.self ++ inked (inks a l b) = search rules in
-    let due : inks (view c.args.expr.now) l g ≡ marks_inks ms ++ within h (inks a l b) = ap (λ e. inks e l g) is ∙ prefixes_text ms a l g ∙ ap (λ v. marks_inks ms ++ within v (inks a l (g && is_nil ms))) (sym hb) ∙ ap (λ v. marks_inks ms ++ within h (inks a l v)) (sym bb) in
-    on_ok_weaker c.close_round.result (before_held o c.put_marks.new.out c.open_round.new.self c.put_expr.new.out c.close_round.new.self h (marks_inks ms) (inks a l b) (inks (view c.args.expr.now) l g) p q r due) (search rules)
+    let due : inks (view c.args.expr.now) l g ≡ prefixes_inks ms ++ within h (inks a l b) = ap (λ e. inks e l g) is ∙ prefixes_text ms a l g ∙ ap (λ v. prefixes_inks ms ++ within v (inks a l (g && is_nil ms))) (sym hb) ∙ ap (λ v. prefixes_inks ms ++ within h (inks a l v)) (sym bb) in
+    on_ok_weaker c.close_round.result (before_held o c.put_prefixes.new.out c.open_round.new.self c.put_expr.new.out c.close_round.new.self h (prefixes_inks ms) (inks a l b) (inks (view c.args.expr.now) l g) p q r due) (search rules)
 
 pub exprs::put_expr-returns-in_ok-put_expr-in-Infix : goal.exprs::put_expr-returns-in_ok-put_expr-in-Infix
 exprs::put_expr-returns-in_ok-put_expr-in-Infix t c =

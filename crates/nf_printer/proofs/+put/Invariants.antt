@@ -1,12 +1,13 @@
 use Rattle.std.proofs.Common.{◌≡◌, ◌≤◌, ◌++◌, [], map, drop}
 use Rattle.std.specs.Prelude.{false, if◌then◌else◌}
 use Rattle.nf_ast.specs.View.{views, view_operand, view_branch, view_postfix, view_piece, view_pair, view_arg, view_label, view_stmts, view_arm, trees}
-use Rattle.nf_printer.specs.Ink.{inked, keyword}
+use Rattle.nf_writer.specs.Ink.{inked, keyword, spaced}
 use Rattle.nf_token.specs.declared.token.Keyword.TheVariants as k
-use Rattle.nf_printer.specs.Lines.{between, first_before}
-use Rattle.nf_printer.specs.Exprs.{comma, spaced, listed, parts, pieces}
+use Rattle.nf_writer.specs.Lines.{between}
+use Rattle.nf_printer.specs.Bodies.{first_before}
+use Rattle.nf_printer.specs.Exprs.{comma, listed, parts, pieces}
 use Rattle.nf_printer.specs.Chains.{operands_inks, parts_inks, branches_inks, arms_inks}
-use Rattle.nf_printer.specs.Styles.{layout_of}
+use Rattle.nf_writer.specs.Styles.{layout_of}
 use Rattle.nf_printer.proofs.+put.Given as goal
 
 abbrev pub invariant-exprs::put_operands-loop-operand : goal.invariant-exprs::put_operands-loop-operand
@@ -37,4 +38,4 @@ abbrev pub invariant-closures::put_arms-loop-arm : goal.invariant-closures::put_
 invariant-closures::put_arms-loop-arm l = l.out ++ inked (arms_inks (map view_arm (drop l.arm-index l.arms)) (layout_of l.margin) (if l.more then spaced (keyword k.Else) else [])) ≡ l.initial.out ++ inked (arms_inks (map view_arm l.arms) (layout_of l.margin) [])
 
 abbrev pub invariant-exprs::put_branches-loop-place : goal.invariant-exprs::put_branches-loop-place
-invariant-exprs::put_branches-loop-place l = (l.out ++ inked (branches_inks (map view_branch (drop l.place l.rest)) l.marks.asked l.marks.begun (layout_of l.margin)) ≡ l.initial.out ++ inked (branches_inks (map view_branch l.rest) 0 false (layout_of l.margin))) × (l.marks.asked ≤ l.place)
+invariant-exprs::put_branches-loop-place l = (l.out ++ inked (branches_inks (map view_branch (drop l.place l.rest)) l.state.asked l.state.begun (layout_of l.margin)) ≡ l.initial.out ++ inked (branches_inks (map view_branch l.rest) 0 false (layout_of l.margin))) × (l.state.asked ≤ l.place)

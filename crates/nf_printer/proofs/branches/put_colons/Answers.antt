@@ -1,7 +1,6 @@
 use Rattle.std.proofs.Common.{◌≡◌, ◌+◌, ◌-◌, ◌++◌, suc, ap, arith, rules}
 use Rattle.nf_token.specs.declared.token.Mark.TheVariants as m
-use Rattle.nf_printer.specs.Ink.{mark}
-use Rattle.nf_printer.specs.Exprs.{spaced}
+use Rattle.nf_writer.specs.Ink.{mark, spaced}
 use Rattle.nf_printer.specs.Chains.{colons}
 use Rattle.nf_printer.proofs.Puts.{moves}
 use Rattle.nf_printer.proofs.branches.put_colons.Goals as goal

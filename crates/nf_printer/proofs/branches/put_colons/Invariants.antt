@@ -1,5 +1,5 @@
 use Rattle.std.proofs.Common.{◌≡◌, ◌++◌, ◌-◌}
-use Rattle.nf_printer.specs.Ink.{inked}
+use Rattle.nf_writer.specs.Ink.{inked}
 use Rattle.nf_printer.specs.Chains.{colons}
 use Rattle.nf_printer.proofs.branches.put_colons.Given as goal
 

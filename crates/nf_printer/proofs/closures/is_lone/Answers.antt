@@ -2,7 +2,7 @@ use Rattle.std.proofs.Common.{◌≡◌, map, sym, ap, ◌∙◌, rules}
 use Rattle.std.specs.Prelude.{option_map}
 use Rattle.nf_ast.specs.declared.expr.Expr.{the_lemmas}
 use Rattle.nf_ast.specs.View.{view_stmt, view_arm, choice, last_arm}
-use Rattle.nf_printer.specs.Lines.{is_expr}
+use Rattle.nf_printer.specs.Bodies.{is_expr}
 use Rattle.nf_printer.proofs.Arms.{choice_expr}
 use Rattle.nf_printer.proofs.closures.is_lone.Goals as goal
 

@@ -1,8 +1,8 @@
 use Rattle.std.proofs.Common.{◌≡◌, ◌++◌, [], drop}
 use Rattle.std.specs.Prelude.{if◌then◌else◌}
 use Rattle.nf_ast.specs.View.{names}
-use Rattle.nf_printer.specs.Ink.{inked}
-use Rattle.nf_printer.specs.Lines.{Layout}
+use Rattle.nf_writer.specs.Ink.{inked}
+use Rattle.nf_writer.specs.Lines.{Layout}
 use Rattle.nf_printer.specs.Exprs.{comma, listed}
 use Rattle.nf_printer.proofs.closures.put_names.Given as goal
 

@@ -1,6 +1,6 @@
 use Rattle.std.proofs.Common.{◌≡◌, ◌++◌, map, drop}
 use Rattle.nf_ast.specs.View.{view_operand}
-use Rattle.nf_printer.specs.Ink.{inked}
+use Rattle.nf_writer.specs.Ink.{inked}
 use Rattle.nf_printer.specs.Chains.{opens}
 use Rattle.nf_printer.proofs.exprs.put_opens.Given as goal
 

@@ -1,7 +1,7 @@
 use Rattle.std.proofs.Common.{◌≡◌, [], map, true, ap, ◌∙◌, rules}
 use Rattle.nf_ast.specs.declared.expr.Expr.{the_lemmas}
 use Rattle.nf_ast.specs.View.{view, view_operand, view_branch, view_postfix, operands, conditional, postfix, prefixes}
-use Rattle.nf_printer.specs.Lines.{is_expr}
+use Rattle.nf_printer.specs.Bodies.{is_expr}
 use Rattle.nf_printer.proofs.Operands.{operands_expr, prefixes_expr}
 use Rattle.nf_printer.proofs.Firsts.{branches_expr}
 use Rattle.nf_printer.proofs.Postfixes.{parts_expr}

@@ -7,7 +7,7 @@ use Rattle.nf_ast.specs.View.{view, view_operand, view_branch, view_postfix, ope
 use Rattle.nf_printer.specs.Levels.{level}
 use Rattle.nf_printer.specs.Chains.{is_nil}
 use Rattle.nf_printer.proofs.Operands.{operands_level}
-use Rattle.nf_printer.proofs.Lasts.{last_mark}
+use Rattle.nf_printer.proofs.Lasts.{last_operator}
 use Rattle.nf_printer.proofs.Firsts.{branches_level}
 use Rattle.nf_printer.proofs.Postfixes.{parts_level}
 use Rattle.nf_printer.proofs.levels.+level.Goals as goal
@@ -20,7 +20,7 @@ returns-in-Some t c =
     let is : view c.args.expr.now ≡ operands a (map view_operand ys) = search (rules, the_lemmas) in
     let at : slice_get ys (length ys - 1) ≡ Some y = search rules in
     let some : length ys - 1 < length ys = slice_get_within ys (length ys - 1) y at in
-    c.mark_level.ensures ∙ sym (ap level is ∙ operands_level a (map view_operand ys) ∙ last_mark ys y (level a) (length ys - 1) (omega arith) at)
+    c.infix_level.ensures ∙ sym (ap level is ∙ operands_level a (map view_operand ys) ∙ last_operator ys y (level a) (length ys - 1) (omega arith) at)
 
 pub returns-then-no_branches : goal.returns-then-no_branches
 returns-then-no_branches t c =

@@ -1,7 +1,7 @@
 use Rattle.std.proofs.Common.{◌≡◌, ◌++◌, map, drop}
 use Rattle.nf_ast.specs.View.{trees}
 use Rattle.nf_ast.specs.Tops.{view_input}
-use Rattle.nf_printer.specs.Ink.{inked}
+use Rattle.nf_writer.specs.Ink.{inked}
 use Rattle.nf_printer.specs.Tops.{on_lines, some_value}
 use Rattle.nf_printer.proofs.processes.put_input_list.Given as goal
 

@@ -1,6 +1,6 @@
 use Rattle.std.proofs.Common.{◌≡◌, ◌++◌, map, drop}
 use Rattle.nf_ast.specs.View.{view_label, trees}
-use Rattle.nf_printer.specs.Ink.{inked}
+use Rattle.nf_writer.specs.Ink.{inked}
 use Rattle.nf_printer.specs.Exprs.{comma, listed}
 use Rattle.nf_printer.specs.Tops.{inside}
 use Rattle.nf_printer.proofs.processes.put_options.Given as goal

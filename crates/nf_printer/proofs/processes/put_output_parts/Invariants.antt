@@ -2,7 +2,7 @@ use Rattle.std.proofs.Common.{◌≡◌, ◌++◌, ◌∷◌, [], map, drop}
 use Rattle.std.specs.Prelude.{if◌then◌else◌}
 use Rattle.nf_ast.specs.View.{trees}
 use Rattle.nf_ast.specs.Tops.{view_output_part}
-use Rattle.nf_printer.specs.Ink.{inked, blank}
+use Rattle.nf_writer.specs.Ink.{inked, blank}
 use Rattle.nf_printer.specs.Exprs.{comma}
 use Rattle.nf_printer.specs.Tops.{value_parts}
 use Rattle.nf_printer.proofs.processes.put_output_parts.Given as goal

@@ -3,10 +3,10 @@ use Rattle.std.proofs.lemmas.Result.{on_ok_weaker}
 use Rattle.nf_token.specs.declared.token.Mark.TheVariants as m
 use Rattle.nf_ast.specs.View.{trees}
 use Rattle.nf_ast.specs.Tops.{maybe, view_directive, view_inputs, view_outputs, view_task, view_section}
-use Rattle.nf_printer.specs.Ink.{inked, mark}
-use Rattle.nf_printer.specs.Lines.{before_first}
-use Rattle.nf_printer.specs.Tops.{outside, process_head, process_parts}
-use Rattle.nf_printer.specs.Styles.{layout_of}
+use Rattle.nf_writer.specs.Ink.{inked, mark}
+use Rattle.nf_writer.specs.Lines.{before_first, outside}
+use Rattle.nf_printer.specs.Tops.{process_head, process_parts}
+use Rattle.nf_writer.specs.Styles.{layout_of}
 use Rattle.nf_printer.proofs.Lists.{inked_more}
 use Rattle.nf_printer.proofs.Puts.{three}
 use Rattle.nf_printer.proofs.Bodies.{process_text}

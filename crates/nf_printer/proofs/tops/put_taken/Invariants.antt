@@ -1,6 +1,6 @@
 use Rattle.std.proofs.Common.{◌≡◌, ◌++◌, drop}
 use Rattle.nf_ast.specs.View.{names}
-use Rattle.nf_printer.specs.Ink.{inked}
+use Rattle.nf_writer.specs.Ink.{inked}
 use Rattle.nf_printer.specs.Tops.{on_lines, part}
 use Rattle.nf_printer.proofs.tops.put_taken.Given as goal
 

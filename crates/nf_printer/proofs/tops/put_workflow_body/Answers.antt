@@ -3,11 +3,11 @@ use Rattle.std.specs.Prelude.{OnOk}
 use Rattle.std.proofs.lemmas.Result.{on_ok_weaker}
 use Rattle.nf_ast.specs.View.{view_stmt, trees}
 use Rattle.nf_ast.specs.Tops.{view_workflow_body}
-use Rattle.nf_printer.specs.Ink.{inked}
-use Rattle.nf_printer.specs.Lines.{first_before}
+use Rattle.nf_writer.specs.Ink.{inked}
+use Rattle.nf_printer.specs.Bodies.{first_before}
 use Rattle.nf_printer.specs.Exprs.{parts}
 use Rattle.nf_printer.specs.Tops.{workflow_parts}
-use Rattle.nf_printer.specs.Styles.{layout_of}
+use Rattle.nf_writer.specs.Styles.{layout_of}
 use Rattle.nf_printer.proofs.Bodies.{workflow_statements}
 use Rattle.nf_printer.proofs.tops.put_workflow_body.Goals as goal
 

@@ -1,10 +1,9 @@
-//! What is printed so far.
+//! The text that is printed so far, and what can be added to it: a token, a string, a blank, a line end.
 
 ghost use Rattle.std.specs.Prelude.{◌≡◌, [], ◌∷◌, ◌++◌, OnOk, if◌then◌else◌};
-ghost use Rattle.nf_printer.specs.Ink as ink;
-ghost use Rattle.nf_printer.specs.Ink.{inked, escaped, with_letter};
-ghost use Rattle.nf_printer.specs.Exprs.{spaced};
-ghost use Rattle.nf_printer.specs.Styles.{kind_of};
+ghost use Rattle.nf_writer.specs.Ink as ink;
+ghost use Rattle.nf_writer.specs.Ink.{inked, escaped, with_letter, spaced};
+ghost use Rattle.nf_writer.specs.Styles.{kind_of};
 
 use crate::escapes::{Style, letter};
 use crate::spellings::{keyword_text, mark_text};
@@ -14,7 +13,9 @@ use nf_value::{Mem, Txt};
 use std::alloc::Global;
 use std::marker::Model;
 
-/// The bytes of a script that is being printed. Contracts see them.
+/// The text of a script while it is printed. Contracts see its bytes.
+///
+/// Each method adds at the end, and gives `Mem` where there is no memory for that; how much of it was added then is not said.
 #[derive(Drop)]
 pub struct Writer {
     bytes: Vec<u8>,
@@ -46,6 +47,7 @@ impl Writer {
         bytes
     }
 
+    /// These bytes, as they are.
     fn put(&mut self, text: &[u8]) -> Result<(), Mem>
         ensures { OnOk result (self.new ≡ self.old ++ text.now) }
     {
@@ -53,7 +55,7 @@ impl Writer {
         Ok(())
     }
 
-    /// A mark.
+    /// A mark: `(`, `,`, `->` and their like.
     pub fn mark(&mut self, mark: Mark) -> Result<(), Mem>
         ensures { OnOk result (self.new ≡ self.old ++ inked (ink.mark mark ∷ [])) }
     {
@@ -74,7 +76,7 @@ impl Writer {
         self.put(name.as_bytes())
     }
 
-    /// A number.
+    /// A number, in decimal digits.
     pub fn number(&mut self, number: i64) -> Result<(), Mem>
         ensures { OnOk result (self.new ≡ self.old ++ inked (ink.number number ∷ [])) }
     {
@@ -89,7 +91,7 @@ impl Writer {
         self.put(b" ")
     }
 
-    /// A line end, and the margin of the next line.
+    /// A line end, and the blanks that the next line begins with.
     pub fn line(&mut self, margin: &[u8]) -> Result<(), Mem>
         ensures { OnOk result (self.new ≡ self.old ++ inked (ink.line margin.now ∷ [])) }
     {
@@ -97,7 +99,7 @@ impl Writer {
         self.put(margin)
     }
 
-    /// A `;`.
+    /// A `;`, without its blank.
     pub fn separator(&mut self) -> Result<(), Mem>
         ensures { OnOk result (self.new ≡ self.old ++ inked (ink.separator ∷ [])) }
     {
@@ -122,7 +124,7 @@ impl Writer {
         self.blank()
     }
 
-    /// A byte as it stands, or a backslash and this letter.
+    /// A byte as it is, or a backslash and this letter in its place.
     fn byte(&mut self, byte: u8, letter: Option<u8>) -> Result<(), Mem>
         ensures { OnOk result (self.new ≡ self.old ++ with_letter byte letter) }
     {
@@ -132,6 +134,7 @@ impl Writer {
         }
     }
 
+    /// The bytes of a string, each as it is or escaped.
     fn escaped(&mut self, style: Style, on_line: bool, text: &[u8]) -> Result<(), Mem>
         ensures { OnOk result (self.new ≡ self.old ++ escaped (kind_of style) on_line text.now) }
     {
@@ -141,7 +144,7 @@ impl Writer {
         Ok(())
     }
 
-    /// A string of the text that it stands for; `on_line` where it has to stay on its line.
+    /// A string between its quotes. `text` is what the string stands for; where `on_line`, a line end in it is printed as `\n`.
     pub fn plain(&mut self, kind: PlainKind, on_line: bool, text: &Txt) -> Result<(), Mem>
         ensures { OnOk result (self.new ≡ self.old ++ inked (ink.plain kind on_line text.now ∷ [])) }
     {
@@ -151,7 +154,7 @@ impl Writer {
         self.put(style.closing().as_bytes())
     }
 
-    /// A pattern.
+    /// A pattern, `~/../`. `text` is what it stands for.
     pub fn pattern(&mut self, text: &Txt) -> Result<(), Mem>
         ensures { OnOk result (self.new ≡ self.old ++ inked (ink.pattern text.now ∷ [])) }
     {
@@ -160,21 +163,21 @@ impl Writer {
         self.put(b"/")
     }
 
-    /// The opening of a template.
+    /// The quotes that open a template.
     pub fn open_template(&mut self, kind: TemplateKind) -> Result<(), Mem>
         ensures { OnOk result (self.new ≡ self.old ++ inked (ink.open_template kind ∷ [])) }
     {
         self.put(Style::Template(kind).closing().as_bytes())
     }
 
-    /// The closing of a template.
+    /// The quotes that close a template.
     pub fn close_template(&mut self, kind: TemplateKind) -> Result<(), Mem>
         ensures { OnOk result (self.new ≡ self.old ++ inked (ink.close_template kind ∷ [])) }
     {
         self.put(Style::Template(kind).closing().as_bytes())
     }
 
-    /// A text of a template; `on_line` where it has to stay on its line.
+    /// A text of a template, outside its holes; where `on_line`, a line end in it is printed as `\n`.
     pub fn template_text(
         &mut self,
         kind: TemplateKind,
@@ -186,21 +189,21 @@ impl Writer {
         self.escaped(Style::Template(kind), on_line, text.as_str().as_bytes())
     }
 
-    /// The opening of a hole.
+    /// The `${` of a hole.
     pub fn open_hole(&mut self) -> Result<(), Mem>
         ensures { OnOk result (self.new ≡ self.old ++ inked (ink.open_hole ∷ [])) }
     {
         self.put(b"${")
     }
 
-    /// The end of a hole.
+    /// The `}` of a hole.
     pub fn close_hole(&mut self) -> Result<(), Mem>
         ensures { OnOk result (self.new ≡ self.old ++ inked (ink.close_hole ∷ [])) }
     {
         self.put(b"}")
     }
 
-    /// A `(`, where there has to be one.
+    /// A `(` where `brackets` holds, else nothing.
     pub fn open_round(&mut self, brackets: bool) -> Result<(), Mem>
         ensures { OnOk result (self.new ≡ self.old ++ inked (if brackets then ink.mark Mark.OpenRound ∷ [] else [])) }
     {
@@ -210,7 +213,7 @@ impl Writer {
         Ok(())
     }
 
-    /// A `)`, where there has to be one.
+    /// A `)` where `brackets` holds, else nothing.
     pub fn close_round(&mut self, brackets: bool) -> Result<(), Mem>
         ensures { OnOk result (self.new ≡ self.old ++ inked (if brackets then ink.mark Mark.CloseRound ∷ [] else [])) }
     {

@@ -1,33 +1,32 @@
 //! How the parts of a body stand: each on a line of its own, or all on one line.
 
 ghost use Rattle.std.specs.Prelude.{◌≡◌, ◌++◌, IfOk, OnOk};
-ghost use Rattle.nf_printer.specs.Ink.{inked};
-ghost use Rattle.nf_printer.specs.Lines.{is_inline as is_inline_of, deeper as deeper_of, before_first, between as between_of, after_last};
-ghost use Rattle.nf_printer.specs.Styles.{layout_of};
-ghost use Rattle.nf_printer.specs.Tops.{outside};
+ghost use Rattle.nf_writer.specs.Ink.{inked};
+ghost use Rattle.nf_writer.specs.Lines.{is_inline as is_inline_of, deeper as deeper_of, before_first, between as between_of, after_last, outside};
+ghost use Rattle.nf_writer.specs.Styles.{layout_of};
 
 use crate::writer::Writer;
 use nf_value::Mem;
 use std::alloc::Global;
 
-/// Where the parts of a body stand.
+/// Where the parts of a body stand, as the statements between braces.
 #[derive(Drop)]
 pub enum Margin {
-    /// Each on a line of its own, after these blanks.
+    /// Each on a line of its own, which begins with these blanks.
     Lines(Vec<u8>),
-    /// All on one line, as in a hole.
+    /// All on one line, as in a hole of a template.
     Inline,
 }
 
 impl Margin {
-    /// Lines without a margin: outside of all braces.
+    /// Lines that begin with no blank, as those outside of all braces.
     pub fn outside(alloc: Global) -> Margin
         ensures { layout_of result ≡ outside }
     {
         Margin::Lines(Vec::new(alloc))
     }
 
-    /// Whether all stands on one line.
+    /// Whether all parts stand on one line.
     pub fn is_inline(&self) -> bool
         ensures { result ≡ is_inline_of (layout_of self.now) }
     {
@@ -37,7 +36,7 @@ impl Margin {
         }
     }
 
-    /// Inside one more brace: four blanks more.
+    /// The margin inside one more pair of braces: four blanks more.
     ///
     /// # Errors
     ///
@@ -55,7 +54,7 @@ impl Margin {
         }
     }
 
-    /// What stands before the first part of a body.
+    /// Prints what stands before the first part of a body: a line end with the margin, or a blank.
     pub fn before_first(&self, out: &mut Writer) -> Result<(), Mem>
         ensures { OnOk result (out.new ≡ out.old ++ inked (before_first (layout_of self.now))) }
     {
@@ -65,7 +64,7 @@ impl Margin {
         }
     }
 
-    /// What stands between two parts.
+    /// Prints what stands between two parts: a line end with the margin, or `; `.
     pub fn between(&self, out: &mut Writer) -> Result<(), Mem>
         ensures { OnOk result (out.new ≡ out.old ++ inked (between_of (layout_of self.now))) }
     {
@@ -78,7 +77,7 @@ impl Margin {
         }
     }
 
-    /// What stands after the last part.
+    /// Prints what stands after the last part: a line end with the margin, or a blank.
     pub fn after_last(&self, out: &mut Writer) -> Result<(), Mem>
         ensures { OnOk result (out.new ≡ out.old ++ inked (after_last (layout_of self.now))) }
     {

@@ -1,4 +1,4 @@
--- What the inks of closures and statements are settled as.
+-- The tokens of the inks of literals, closures and statements.
 use Rattle.std.proofs.Common.{◌≡◌, ℕ, Bool, true, false, List, [], ◌∷◌, ◌++◌, refl, subst, ◌∙◌}
 use Rattle.std.specs.Prelude.{codes}
 use Rattle.nf_value.specs.declared.place.Place.{Place}
@@ -10,22 +10,23 @@ use Rattle.nf_token.specs.declared.token.Lexeme.{Lexeme}
 use Rattle.nf_lexer.specs.Separators.{goes_on}
 use Rattle.nf_ast.specs.Tree as tree
 use Rattle.nf_ast.specs.Tree.{Tree, empty, cons}
-use Rattle.nf_printer.specs.Ink as ink
-use Rattle.nf_printer.specs.Ink.{Ink}
+use Rattle.nf_writer.specs.Ink as ink
+use Rattle.nf_writer.specs.Ink.{Ink}
 use Rattle.nf_printer.specs.Levels.{round, prints}
-use Rattle.nf_printer.specs.Lines.{Layout, lines, inline, deeper, between, after_last, is_short, first_before, closure_last}
+use Rattle.nf_writer.specs.Lines.{Layout, lines, inline, deeper, between, after_last}
+use Rattle.nf_printer.specs.Bodies.{is_short, first_before, closure_last}
 use Rattle.nf_printer.specs.Exprs as printed
 use Rattle.nf_printer.specs.Exprs.{inks, equals}
 use Rattle.fmt_tokens.specs.Bits.{Bit, token}
-use Rattle.fmt_tokens.specs.Retold.{next_goes_on}
+use Rattle.fmt_tokens.specs.InkTokens.{next_goes_on}
 use Rattle.fmt_trees.specs.Shape as sort
 use Rattle.fmt_trees.specs.Shape.{Sort, Shaped}
-use Rattle.fmt_trees.proofs.Spelt as spelt
-use Rattle.fmt_trees.proofs.Spelt.{spell, mark, word, lx, breaks, maybe_separator}
+use Rattle.fmt_trees.proofs.TreeTokens as tree_tokens
+use Rattle.fmt_trees.proofs.TreeTokens.{spell, mark, word, lx, breaks, maybe_separator}
 use Rattle.fmt_trees.proofs.Rows.{Each, none, some}
 use Rattle.fmt_trees.proofs.Fronts.{Front, front, by_other, by_word, by_more, a_number, a_plain, a_pattern, a_template, a_true, a_false, a_null, a_not, a_minus, a_round, a_square, a_brace}
 use Rattle.fmt_trees.proofs.Settling.{Any, After, Await, told, two, after_any, await_any, any_two, any_three, any_four, any_mark, more_mark, any_token, after_line, await_line, after_separator, first_goes_on}
-use Rattle.fmt_trees.proofs.Told.{Says, ParamsSay, LastSays, PiecesSay, PartSays, after_mark, close_round, close_brace, post_says, listed_says}
+use Rattle.fmt_trees.proofs.SettledExprs.{Says, ParamsSay, LastSays, PiecesSay, PartSays, after_mark, close_round, close_brace, post_says, listed_says}
 
 -- ---- one token
 
@@ -52,11 +53,11 @@ call_with_says e c s u l g rest w h = post_says e l g (ink.blank ∷ inks c l fa
 pub next_two : (xs ys : List Ink) (rest : List Bit) → next_goes_on (told xs (told ys rest)) ≡ false → next_goes_on (told (xs ++ ys) rest) ≡ false
 next_two = two (λ b. next_goes_on b ≡ false)
 
-pub next_parts_say : {xs : Tree} → Each PartSays xs → (l : Layout) (rest : List Bit) (w : List Lexeme) → After rest w → After (told (printed.parts xs l (between l)) rest) (spelt.next_parts xs l w)
+pub next_parts_say : {xs : Tree} → Each PartSays xs → (l : Layout) (rest : List Bit) (w : List Lexeme) → After rest w → After (told (printed.parts xs l (between l)) rest) (tree_tokens.next_parts xs l w)
 next_parts_say none l rest w h = h
 next_parts_say (some {x = x} {xs = xs} p q) (lines margin) rest w h =
     let l : Layout = lines margin in
-    let more : After (told (printed.parts xs l (between l)) rest) (spelt.next_parts xs l w) = next_parts_say q l rest w h in
+    let more : After (told (printed.parts xs l (between l)) rest) (tree_tokens.next_parts xs l w) = next_parts_say q l rest w h in
     after_line (next_two (inks x l (prints x false)) (printed.parts xs l (between l)) rest (p.new_line l _ _ more))
     (any_two (inks x l (prints x false)) (printed.parts xs l (between l)) rest (p.says l (prints x false) _ _ more))
 next_parts_say (some {x = x} {xs = xs} p q) inline rest w h =
@@ -75,14 +76,14 @@ nothing_says false (lines margin) rest w h = await_line (await_any (close_brace 
 nothing_says true inline rest w h = await_any (close_brace h)
 nothing_says false inline rest w h = await_any (close_brace h)
 
--- what stands before the first part of a body is nothing, after what awaits more
+-- the line end before the first part of a body is no separator
 pub first_says : (b : Bool) (l : Layout) (xs ys : List Ink) (rest : List Bit) (w : List Lexeme) → Any (told xs (told ys rest)) w → Await (told (first_before b l ++ xs ++ ys) rest) w
 first_says true l xs ys rest w h = await_any (any_two xs ys rest h)
 first_says false (lines margin) xs ys rest w h = await_line (await_any (any_two xs ys rest h))
 first_says false inline xs ys rest w h = await_any (any_two xs ys rest h)
 
 abbrev pub BodySays : Tree → Type 0
-BodySays xs = (b : Bool) (l : Layout) (rest : List Bit) (w : List Lexeme) → After rest w → Await (told (printed.parts xs (deeper l) (first_before b (deeper l))) (told (closure_last b l) (token (t.Mark m.CloseBrace) ∷ rest))) (spelt.parts xs (deeper l) (maybe_separator (breaks l b xs) (mark m.CloseBrace w)))
+BodySays xs = (b : Bool) (l : Layout) (rest : List Bit) (w : List Lexeme) → After rest w → Await (told (printed.parts xs (deeper l) (first_before b (deeper l))) (told (closure_last b l) (token (t.Mark m.CloseBrace) ∷ rest))) (tree_tokens.parts xs (deeper l) (maybe_separator (breaks l b xs) (mark m.CloseBrace w)))
 
 pub body_says : {xs : Tree} → Each PartSays xs → BodySays xs
 body_says none b l rest w h = nothing_says b l rest w h

@@ -1,4 +1,4 @@
--- The tokens of what stands at the top of a script.
+-- The tokens of sections and tops, without places: a function on trees, with the tokens that follow.
 use Rattle.std.proofs.Common.{ℕ, pos, Bool, true, false, List, [], ◌∷◌}
 use Rattle.std.specs.Prelude.{codes, if◌then◌else◌}
 use Rattle.nf_token.specs.declared.token.Keyword.TheVariants as k
@@ -8,10 +8,11 @@ use Rattle.nf_token.specs.declared.token.Lexeme.{Lexeme}
 use Rattle.nf_ast.specs.Tree as tree
 use Rattle.nf_ast.specs.Tree.{Tree}
 use Rattle.nf_printer.specs.Levels.{begins_round}
-use Rattle.nf_printer.specs.Lines.{is_expr}
-use Rattle.nf_printer.specs.Tops.{inside, outside}
-use Rattle.fmt_trees.proofs.Spelt as spelt
-use Rattle.fmt_trees.proofs.Spelt.{spell, held, mark, word, lx, separator, maybe_separator}
+use Rattle.nf_printer.specs.Bodies.{is_expr}
+use Rattle.nf_printer.specs.Tops.{inside}
+use Rattle.nf_writer.specs.Lines.{outside}
+use Rattle.fmt_trees.proofs.TreeTokens as tree_tokens
+use Rattle.fmt_trees.proofs.TreeTokens.{spell, held, mark, word, lx, separator, maybe_separator}
 
 abbrev pub part_of : Tree → List Lexeme → List Lexeme
 part_of e tl = spell e inside false tl
@@ -38,7 +39,7 @@ is_some (tree.cons x xs) = true
 is_some _ = false
 
 abbrev pub statements_of : Tree → List Lexeme → List Lexeme
-statements_of xs tl = spelt.parts xs inside (maybe_separator (is_some xs) tl)
+statements_of xs tl = tree_tokens.parts xs inside (maybe_separator (is_some xs) tl)
 
 abbrev pub body_of : List ℕ → Tree → List Lexeme → List Lexeme
 body_of x (tree.section p xs) tl = word x (mark m.Colon (statements_of xs tl))
@@ -47,7 +48,7 @@ body_of x _ tl = tl
 -- ---- processes
 
 abbrev pub args_of : Tree → List Lexeme → List Lexeme
-args_of (tree.cons x xs) tl = held (begins_round x) (spelt.listed (tree.cons x xs) inside) tl
+args_of (tree.cons x xs) tl = held (begins_round x) (tree_tokens.listed (tree.cons x xs) inside) tl
 args_of _ tl = tl
 
 abbrev pub directive_of : Tree → List Lexeme → List Lexeme
@@ -66,7 +67,7 @@ some_value_of (tree.tuple p xs) tl = word (codes "tuple") (listed_of value_of xs
 some_value_of x tl = value_of x tl
 
 abbrev pub output_of : Tree → List Lexeme → List Lexeme
-output_of (tree.output x os) tl = some_value_of x (spelt.more os inside tl)
+output_of (tree.output x os) tl = some_value_of x (tree_tokens.more os inside tl)
 output_of _ tl = tl
 
 abbrev pub task_of : Tree → List Lexeme → List Lexeme
@@ -91,7 +92,7 @@ braced_of f tl = mark m.OpenBrace (f (mark m.CloseBrace tl))
 abbrev pub top_of : Tree → List Lexeme → List Lexeme
 top_of (tree.process p n ds xs ys t s) tl = word (codes "process") (part_of n (braced_of (λ us. lines_of directive_of ds (sections_of xs ys t s us)) tl))
 top_of (tree.workflow p n b) tl = word (codes "workflow") (name_of n (braced_of (inside_of b) tl))
-top_of (tree.function p n ps b) tl = lx (t.Keyword k.Def) ∷ part_of n (mark m.OpenRound (spelt.listed ps inside (mark m.CloseRound (braced_of (statements_of b) tl))))
+top_of (tree.function p n ps b) tl = lx (t.Keyword k.Def) ∷ part_of n (mark m.OpenRound (tree_tokens.listed ps inside (mark m.CloseRound (braced_of (statements_of b) tl))))
 top_of (tree.parameter p n e) tl = word (codes "params") (mark m.Dot (part_of n (mark m.Equals (spell e outside false tl))))
 top_of (tree.dsl p) tl = word (codes "nextflow") (mark m.Dot (word (codes "enable") (mark m.Dot (word (codes "dsl") (mark m.Equals (lx (t.Number (pos 2)) ∷ tl))))))
 top_of x tl = spell x outside false tl

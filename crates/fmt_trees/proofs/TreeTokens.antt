@@ -1,4 +1,4 @@
--- The tokens of a tree's canonical text, before what follows.
+-- The tokens of an expression or statement, without places: a function on trees, with the tokens that follow.
 use Rattle.std.proofs.Common.{ℕ, Bool, true, false, List, [], ◌∷◌}
 use Rattle.std.specs.Prelude.{not, ◌&&◌, codes}
 use Rattle.nf_token.specs.declared.token.Keyword.TheVariants as k
@@ -14,10 +14,11 @@ use Rattle.nf_ast.specs.declared.marks.PrefixOperator.TheVariants as f
 use Rattle.nf_ast.specs.Tree as tree
 use Rattle.nf_ast.specs.Tree.{Tree}
 use Rattle.nf_printer.specs.Levels.{left_level, right_level, prefix_level, postfix_level, needs, prints}
-use Rattle.nf_printer.specs.Lines.{Layout, lines, inline, deeper, is_short}
+use Rattle.nf_writer.specs.Lines.{Layout, lines, inline, deeper}
+use Rattle.nf_printer.specs.Bodies.{is_short}
 use Rattle.fmt_trees.specs.Bare.{nowhere}
 
--- a token that stands nowhere
+-- a token without its place
 abbrev pub lx : Token → Lexeme
 lx x = record { token = x; place = nowhere }
 
@@ -68,7 +69,7 @@ abbrev pub else_before : Tree → List Lexeme → List Lexeme
 else_before tree.empty tl = tl
 else_before _ tl = lx (t.Keyword k.Else) ∷ tl
 
--- a line ends after the last part
+-- whether a line ends after the last part of a body
 abbrev pub breaks : Layout → Bool → Tree → Bool
 breaks (lines m) false (tree.cons x xs) = true
 breaks _ _ _ = false
@@ -117,7 +118,7 @@ abbrev mutual
   spell (tree.log p n e) l g tl = word (codes "log") (mark m.Dot (spell n l false (spell e l false tl)))
   spell _ l g tl = tl
 
-  -- with commas between them; the second, after the first
+  -- with commas between them; `more` is what stands after the first
   pub listed : Tree → Layout → List Lexeme → List Lexeme
   listed (tree.cons x xs) l tl = spell x l false (more xs l tl)
   listed _ l tl = tl
@@ -126,7 +127,7 @@ abbrev mutual
   more (tree.cons x xs) l tl = mark m.Comma (spell x l false (more xs l tl))
   more _ l tl = tl
 
-  -- statements or labels with separators between them; the second, after the first
+  -- statements or labels with separators between them; `next_parts` is what stands after the first
   pub parts : Tree → Layout → List Lexeme → List Lexeme
   parts (tree.cons x xs) l tl = spell x l (prints x false) (next_parts xs l tl)
   parts _ l tl = tl

@@ -1,4 +1,4 @@
--- What the inks of each tree are settled as.
+-- The tokens of the inks of expressions.
 use Rattle.std.proofs.Common.{◌≡◌, ℕ, Bool, true, false, List, [], ◌∷◌, ◌++◌, refl}
 use Rattle.std.specs.Prelude.{not, ◌&&◌}
 use Rattle.nf_value.specs.declared.place.Place.{Place}
@@ -14,20 +14,20 @@ use Rattle.nf_ast.specs.declared.marks.PrefixOperator.{PrefixOperator}
 use Rattle.nf_ast.specs.declared.marks.PrefixOperator.TheVariants as f
 use Rattle.nf_ast.specs.Tree as tree
 use Rattle.nf_ast.specs.Tree.{Tree, empty, cons}
-use Rattle.nf_printer.specs.Ink as ink
-use Rattle.nf_printer.specs.Ink.{Ink}
+use Rattle.nf_writer.specs.Ink as ink
+use Rattle.nf_writer.specs.Ink.{Ink, spaced}
 use Rattle.nf_printer.specs.Levels.{needs, within, round, left_level, right_level, prints}
-use Rattle.nf_printer.specs.Lines.{Layout, inline}
+use Rattle.nf_writer.specs.Lines.{Layout, inline}
 use Rattle.nf_printer.specs.Exprs as printed
-use Rattle.nf_printer.specs.Exprs.{inks, infix_inks, comma, colon, equals, spaced}
+use Rattle.nf_printer.specs.Exprs.{inks, infix_inks, comma, colon, equals}
 use Rattle.fmt_tokens.specs.Bits.{Bit, token}
-use Rattle.fmt_tokens.specs.Retold.{next_goes_on}
-use Rattle.fmt_trees.proofs.Spelt as spelt
-use Rattle.fmt_trees.proofs.Spelt.{spell, held, mark, word, lx, separator, infix_token, breaks, maybe_separator}
+use Rattle.fmt_tokens.specs.InkTokens.{next_goes_on}
+use Rattle.fmt_trees.proofs.TreeTokens as tree_tokens
+use Rattle.fmt_trees.proofs.TreeTokens.{spell, held, mark, word, lx, separator, infix_token, breaks, maybe_separator}
 use Rattle.fmt_trees.proofs.Rows.{Each, none, some}
 use Rattle.fmt_trees.proofs.Settling.{Any, After, Await, told, after_any, any_two, any_three, any_five, any_mark, any_token, held_told}
 
--- a tree with at least one token
+-- the tokens of a tree that has at least one
 abbrev pub Says : Tree → Type 0
 Says x = (l : Layout) (g : Bool) (rest : List Bit) (w : List Lexeme) → After rest w → Any (told (inks x l g) rest) (spell x l g w)
 
@@ -35,17 +35,17 @@ abbrev pub ParamsSay : Tree → Type 0
 ParamsSay x = (l : Layout) (rest : List Bit) (w : List Lexeme) → Await rest w → Await (told (inks x l false) rest) (spell x l false w)
 
 abbrev pub LastSays : Tree → Type 0
-LastSays x = (l : Layout) (rest : List Bit) (w : List Lexeme) → After rest w → After (told (printed.else_before x) (told (inks x l false) rest)) (spelt.else_before x (spell x l false w))
+LastSays x = (l : Layout) (rest : List Bit) (w : List Lexeme) → After rest w → After (told (printed.else_before x) (told (inks x l false) rest)) (tree_tokens.else_before x (spell x l false w))
 
 abbrev pub PiecesSay : Tree → Type 0
-PiecesSay xs = (q : TemplateKind) (l : Layout) (rest : List Bit) (w : List Lexeme) → Any rest w → Any (told (printed.pieces xs q l) rest) (spelt.pieces xs l w)
+PiecesSay xs = (q : TemplateKind) (l : Layout) (rest : List Bit) (w : List Lexeme) → Any rest w → Any (told (printed.pieces xs q l) rest) (tree_tokens.pieces xs l w)
 
--- a part of a body, which no line goes on with
+-- a part of a body; the line end before it is a separator
 pub record PartSays (x : Tree) : Type 0 where
   pub says : Says x
   pub new_line : (l : Layout) (rest : List Bit) (w : List Lexeme) → After rest w → next_goes_on (told (inks x l (prints x false)) rest) ≡ false
 
--- ---- marks
+-- ---- operators and marks
 
 infix_told : (x : InfixOperator) {rest : List Bit} {w : List Lexeme} → Any rest w → After (told (infix_inks x) rest) (lx (infix_token x) ∷ w)
 infix_told i.Or h = after_any (any_mark m.Or h)
@@ -126,11 +126,11 @@ index_says p e n s u l g rest w h = post_says e l g (ink.mark m.OpenSquare ∷ i
 
 -- ---- lists
 
-pub more_says : {xs : Tree} → Each Says xs → (l : Layout) (rest : List Bit) (w : List Lexeme) → After rest w → After (told (printed.listed xs l comma) rest) (spelt.more xs l w)
+pub more_says : {xs : Tree} → Each Says xs → (l : Layout) (rest : List Bit) (w : List Lexeme) → After rest w → After (told (printed.listed xs l comma) rest) (tree_tokens.more xs l w)
 more_says none l rest w h = h
 more_says (some {x = x} {xs = xs} p q) l rest w h = after_mark m.Comma (any_two (inks x l false) (printed.listed xs l comma) rest (p l false _ _ (more_says q l rest w h)))
 
-pub listed_says : {xs : Tree} → Each Says xs → (l : Layout) (rest : List Bit) (w : List Lexeme) → Any rest w → Any (told (printed.listed xs l []) rest) (spelt.listed xs l w)
+pub listed_says : {xs : Tree} → Each Says xs → (l : Layout) (rest : List Bit) (w : List Lexeme) → Any rest w → Any (told (printed.listed xs l []) rest) (tree_tokens.listed xs l w)
 listed_says none l rest w h = h
 listed_says (some {x = x} {xs = xs} p q) l rest w h = any_two (inks x l false) (printed.listed xs l comma) rest (p l false _ _ (more_says q l rest w (after_any h)))
 
@@ -144,7 +144,7 @@ map_says p (some {x = x} {xs = xs} s u) l g rest w h = any_mark m.OpenSquare (an
 pub call_says : (p : Place) (e xs : Tree) → Says e → Each Says xs → Says (tree.call p e xs)
 call_says p e xs s u l g rest w h = post_says e l g (round (printed.listed xs l [])) rest _ s (after_mark m.OpenRound (any_two (printed.listed xs l []) (ink.mark m.CloseRound ∷ []) rest (listed_says u l _ _ (close_round h))))
 
--- a name, a mark and an expression
+-- a name, a colon or `=`, and an expression
 colon_says : (n e : Tree) → Says n → Says e → (l : Layout) (rest : List Bit) (w : List Lexeme) → After rest w → Any (told (inks n l false ++ colon ++ inks e l false) rest) (spell n l false (mark m.Colon (spell e l false w)))
 colon_says n e s u l rest w h = any_three (inks n l false) colon (inks e l false) rest (s l false _ _ (after_mark m.Colon (u l false rest w h)))
 

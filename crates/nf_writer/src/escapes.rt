@@ -1,13 +1,13 @@
-//! What stands for a byte in a string.
+//! How each byte of a string is printed: as it is, or as a backslash and a letter (own).
 
 ghost use Rattle.std.specs.Prelude.{◌≡◌, ◌==◌, ◌||◌, if◌then◌else◌};
 ghost use Rattle.nf_token.specs.Spellings.{closing};
-ghost use Rattle.nf_printer.specs.Ink.{letter as letter_of, blank_letter as blank_letter_of, line_letter as line_letter_of};
-ghost use Rattle.nf_printer.specs.Styles.{kind_of};
+ghost use Rattle.nf_writer.specs.Ink.{letter as letter_of, blank_letter as blank_letter_of, line_letter as line_letter_of};
+ghost use Rattle.nf_writer.specs.Styles.{kind_of};
 
 use nf_token::{PlainKind, TemplateKind};
 
-/// How a string is written.
+/// What kind of string is printed.
 #[derive(Clone, Copy)]
 pub enum Style {
     /// A plain string of a kind.
@@ -19,7 +19,7 @@ pub enum Style {
 }
 
 impl Style {
-    /// The marks that close it, and but for a pattern open it.
+    /// The quotes that close it. They open it too; a pattern has a `~` before them.
     pub fn closing(self) -> &'static str
         ensures { result.now ≡ closing (kind_of self) }
     {
@@ -34,8 +34,8 @@ impl Style {
     }
 }
 
-/// The letter that a byte has after a backslash, or none where the byte stands for itself; `on_line` where the string has to stay on
-/// its line.
+/// The letter that stands after a backslash for this byte, or none where the byte is printed as it is: `n` for a line end in single
+/// quotes, the byte itself for a `$` of a template or a `/` of a pattern. Where `on_line`, the string must not go over a line end.
 pub fn letter(style: Style, on_line: bool, byte: u8) -> Option<u8>
     ensures { result ≡ letter_of (kind_of style) on_line byte }
 {
@@ -72,20 +72,21 @@ pub fn letter(style: Style, on_line: bool, byte: u8) -> Option<u8>
     }
 }
 
-/// A byte that means something in a string of single quotes.
+/// A backslash or `'`, which single quotes always escape.
 fn is_single_special(byte: u8) -> bool
     ensures { result ≡ (byte == 92 || byte == 39) }
 {
     byte == b'\\' || byte == b'\''
 }
 
-/// A byte that means something in a template.
+/// A backslash, `"` or `$`, which templates always escape.
 fn is_double_special(byte: u8) -> bool
     ensures { result ≡ (byte == 92 || byte == 34 || byte == 36) }
 {
     byte == b'\\' || byte == b'"' || byte == b'$'
 }
 
+/// A line end, a tab and a carriage return, in strings that stand on one line.
 fn blank_letter(byte: u8) -> Option<u8>
     ensures { result ≡ blank_letter_of byte }
 {
@@ -97,6 +98,7 @@ fn blank_letter(byte: u8) -> Option<u8>
     }
 }
 
+/// A line end in triple quotes: as it is, unless the string has to stay on its line.
 fn line_letter(on_line: bool, byte: u8) -> Option<u8>
     ensures { result ≡ line_letter_of on_line byte }
 {
@@ -107,6 +109,7 @@ fn line_letter(on_line: bool, byte: u8) -> Option<u8>
     }
 }
 
+/// Between slashes only `/` is escaped.
 fn slash_letter(byte: u8) -> Option<u8>
     ensures { result ≡ (if byte == 47 then Some byte else None) }
 {

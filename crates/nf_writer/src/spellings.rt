@@ -1,11 +1,11 @@
 //! How marks and keywords are spelled.
 
 ghost use Rattle.std.specs.Prelude.{◌≡◌};
-ghost use Rattle.nf_printer.specs.Ink.{mark_text as text_of_mark, keyword_text as text_of_keyword};
+ghost use Rattle.nf_writer.specs.Ink.{mark_text as text_of_mark, keyword_text as text_of_keyword};
 
 use nf_token::{Keyword, Mark};
 
-/// The bytes of a mark.
+/// The text of a mark.
 pub fn mark_text(mark: Mark) -> &'static str
     ensures { result.now ≡ text_of_mark mark }
 {
@@ -43,7 +43,7 @@ pub fn mark_text(mark: Mark) -> &'static str
     }
 }
 
-/// The letters of a keyword.
+/// The text of a keyword.
 pub fn keyword_text(keyword: Keyword) -> &'static str
     ensures { result.now ≡ text_of_keyword keyword }
 {

@@ -1,4 +1,4 @@
--- What the inks of sections and tops are settled as.
+-- The tokens of the inks of sections and tops.
 use Rattle.std.proofs.Common.{◌≡◌, ℕ, pos, Bool, true, false, List, [], ◌∷◌, ◌++◌, map, refl, sym, subst, ap, ◌∙◌, append-nil}
 use Rattle.std.specs.Prelude.{not, ◌&&◌, codes, if◌then◌else◌}
 use Rattle.nf_value.specs.declared.place.Place.{Place}
@@ -10,28 +10,28 @@ use Rattle.nf_token.specs.declared.token.PlainKind.{PlainKind}
 use Rattle.nf_token.specs.declared.token.TemplateKind.{TemplateKind}
 use Rattle.nf_ast.specs.Tree as tree
 use Rattle.nf_ast.specs.Tree.{Tree, empty, cons}
-use Rattle.nf_printer.specs.Ink as ink
-use Rattle.nf_printer.specs.Ink.{Ink}
+use Rattle.nf_writer.specs.Ink as ink
+use Rattle.nf_writer.specs.Ink.{Ink}
 use Rattle.nf_printer.specs.Levels.{round, prints, begins_round}
-use Rattle.nf_printer.specs.Lines.{between}
+use Rattle.nf_writer.specs.Lines.{between, outside}
 use Rattle.nf_printer.specs.Exprs as printed
 use Rattle.nf_printer.specs.Exprs.{inks, equals, comma}
 use Rattle.nf_printer.specs.Tops as tops
-use Rattle.nf_printer.specs.Tops.{inside, outside, part, on_lines, section, body_section, braced, value_part, value_parts, some_value, script}
+use Rattle.nf_printer.specs.Tops.{inside, part, on_lines, section, body_section, braced, value_part, value_parts, some_value, script}
 use Rattle.fmt_tokens.specs.Bits.{Bit, ending}
-use Rattle.fmt_tokens.specs.Retold.{inks_bits, next_goes_on, retold}
+use Rattle.fmt_tokens.specs.InkTokens.{inks_bits, next_goes_on, ink_tokens}
 use Rattle.fmt_trees.specs.Shape as sort
 use Rattle.fmt_trees.specs.Shape.{Sort, Shaped}
-use Rattle.fmt_trees.proofs.Spelt as spelt
-use Rattle.fmt_trees.proofs.Spelt.{spell, held, mark, word, lx, separator}
-use Rattle.fmt_trees.proofs.SpeltTops.{part_of, lines_of, commas_of, section_of, statements_of, body_of, args_of, directive_of, value_of, some_value_of, output_of, task_of, sections_of, inside_of, name_of, braced_of, top_of, script_of}
+use Rattle.fmt_trees.proofs.TreeTokens as tree_tokens
+use Rattle.fmt_trees.proofs.TreeTokens.{spell, held, mark, word, lx, separator}
+use Rattle.fmt_trees.proofs.TopTokens.{part_of, lines_of, commas_of, section_of, statements_of, body_of, args_of, directive_of, value_of, some_value_of, output_of, task_of, sections_of, inside_of, name_of, braced_of, top_of, script_of}
 use Rattle.fmt_trees.proofs.Rows.{Each, none, some}
 use Rattle.fmt_trees.proofs.Holds.{Perhaps, nothing, just, Section, in_section}
 use Rattle.fmt_trees.proofs.Posts.{each_plain}
 use Rattle.fmt_trees.proofs.Fronts.{front}
 use Rattle.fmt_trees.proofs.Settling.{settle, settled_is, Any, After, Await, told, three, five, after_any, await_any, any_two, any_three, more_mark, any_token, after_line, await_line}
-use Rattle.fmt_trees.proofs.Told.{Says, PiecesSay, PartSays, after_mark, close_round, close_brace, name_says, assign_says, listed_says, more_says, template_says}
-use Rattle.fmt_trees.proofs.Said.{next_parts_say, next_two, starts_line, front_line, println_says, log_says}
+use Rattle.fmt_trees.proofs.SettledExprs.{Says, PiecesSay, PartSays, after_mark, close_round, close_brace, name_says, assign_says, listed_says, more_says, template_says}
+use Rattle.fmt_trees.proofs.SettledBodies.{next_parts_say, next_two, starts_line, front_line, println_says, log_says}
 
 -- what begins with a line end
 pub record Line (rest : List Bit) (w : List Lexeme) : Type 0 where
@@ -50,7 +50,7 @@ line_three {w} = three (λ b. Line b w)
 pub line_five : {w : List Lexeme} (xs ys zs vs us : List Ink) (rest : List Bit) → Line (told xs (told ys (told zs (told vs (told us rest))))) w → Line (told (xs ++ ys ++ zs ++ vs ++ us) rest) w
 line_five {w} = five (λ b. Line b w)
 
--- inks on a line of their own
+-- the tokens of inks that stand on a line of their own
 pub record LineSays (f : Tree → List Ink) (g : Tree → List Lexeme → List Lexeme) (x : Tree) : Type 0 where
   pub says : (rest : List Bit) (w : List Lexeme) → After rest w → Any (told (f x) rest) (g x w)
   pub new_line : (rest : List Bit) (w : List Lexeme) → After rest w → next_goes_on (told (f x) rest) ≡ false
@@ -82,7 +82,7 @@ stub_says x (just q) rest w h = body_says x q rest w h
 
 -- ---- directives
 
-pub bracketed : (b : Bool) (x xs : Tree) → Says x → Each Says xs → (rest : List Bit) (w : List Lexeme) → After rest w → After (told ((if b then ink.mark m.OpenRound ∷ [] else ink.blank ∷ []) ++ printed.listed (cons x xs) inside [] ++ (if b then ink.mark m.CloseRound ∷ [] else [])) rest) (held b (spelt.listed (cons x xs) inside) w)
+pub bracketed : (b : Bool) (x xs : Tree) → Says x → Each Says xs → (rest : List Bit) (w : List Lexeme) → After rest w → After (told ((if b then ink.mark m.OpenRound ∷ [] else ink.blank ∷ []) ++ printed.listed (cons x xs) inside [] ++ (if b then ink.mark m.CloseRound ∷ [] else [])) rest) (held b (tree_tokens.listed (cons x xs) inside) w)
 bracketed true x xs p q rest w h = after_three (ink.mark m.OpenRound ∷ []) (printed.listed (cons x xs) inside []) (ink.mark m.CloseRound ∷ []) rest (after_mark m.OpenRound (listed_says (some {x = x} {xs = xs} p q) inside _ _ (close_round h)))
 bracketed false x xs p q rest w h = after_three (ink.blank ∷ []) (printed.listed (cons x xs) inside []) [] rest (after_any (any_two (inks x inside false) (printed.listed xs inside comma) rest (p inside false _ _ (more_says q inside rest w h))))
 
@@ -142,7 +142,7 @@ output_says x os u q = record {
   new_line = λ rest w h. next_two (some_value x) (printed.listed os inside comma) rest (u.new_line _ _ (options rest w h));
 }
   where
-    options : (rest : List Bit) (w : List Lexeme) → After rest w → After (told (printed.listed os inside comma) rest) (spelt.more os inside w)
+    options : (rest : List Bit) (w : List Lexeme) → After rest w → After (told (printed.listed os inside comma) rest) (tree_tokens.more os inside w)
     options rest w h = more_says (each_plain (λ y p. p.says) q) inside rest w h
 
 -- ---- what a task runs
@@ -278,5 +278,5 @@ script_says none = record { is = refl }
 script_says (some {x = x} {xs = xs} p q) = after_any (any_two (tops.top x) (ink.line [] ∷ tops.tops xs (ink.line [] ∷ [])) [] (p.says _ _ (tops_say q)))
 
 -- the tokens of a script's canonical text
-pub script_told : {xs : Tree} → Each TopSays xs → map lx (retold (script xs)) ≡ script_of xs
+pub script_told : {xs : Tree} → Each TopSays xs → map lx (ink_tokens (script xs)) ≡ script_of xs
 script_told {xs} h = settled_is (inks_bits (script xs)) [] ∙ ap (settle false false) (sym (append-nil (inks_bits (script xs)))) ∙ (script_says h).is

@@ -1,4 +1,4 @@
--- What a printed script is made of: tokens, and what stands between them.
+-- A printed script is the text of a list of inks: tokens, and the blanks and line ends between them.
 use Rattle.std.specs.Prelude.{ℕ, ℤ, Bool, true, List, [], ◌∷◌, ◌++◌, codes, ◌==◌, ◌||◌, ◌&&◌, Option, Some, None, if◌then◌else◌}
 use Rattle.std.specs.List.{flat_map}
 use Rattle.std.specs.Fmt.{signed_decimal}
@@ -19,7 +19,7 @@ pub data Ink : Type 0 where
   keyword : Keyword → Ink
   name : List ℕ → Ink
   number : ℤ → Ink
-  -- a string with what it stands for; the test says whether it has to stay on its line
+  -- a string with what it stands for; where the test is true, a line end in it is printed as `\n`
   plain : PlainKind → Bool → List ℕ → Ink
   pattern : List ℕ → Ink
   open_template : TemplateKind → Ink
@@ -28,7 +28,7 @@ pub data Ink : Type 0 where
   open_hole : Ink
   close_hole : Ink
   separator : Ink
-  -- a blank, and a line end with the margin after it
+  -- a blank, and a line end with the blanks that the next line begins with
   blank : Ink
   line : List ℕ → Ink
 
@@ -76,9 +76,9 @@ keyword_text k.Null = codes "null"
 keyword_text k.Return = codes "return"
 keyword_text k.True = codes "true"
 
--- ---- what stands for each byte of a string
+-- ---- how each byte of a string is printed
 
--- on one line a line end, a tab and a carriage return are `\n`, `\t` and `\r`
+-- in a string on one line: a line end, a tab and a carriage return are `\n`, `\t` and `\r`
 abbrev pub blank_letter : ℕ → Option ℕ
 blank_letter b =
     if b == 10 then Some 110
@@ -86,11 +86,11 @@ blank_letter b =
     else if b == 13 then Some 114
     else None
 
--- over lines a line end stands for itself, unless all has to stay on one line
+-- in triple quotes: a line end is printed as it is, unless the string has to stay on its line
 abbrev pub line_letter : Bool → ℕ → Option ℕ
 line_letter on_line b = if on_line && b == 10 then Some 110 else None
 
--- the letter that a byte has after a backslash, or none where it stands for itself: `"` is 34, `$` 36, `'` 39, `/` 47, a backslash 92
+-- the letter after a backslash that a byte is printed as, or none where it is printed as it is: `"` is 34, `$` 36, `'` 39, `/` 47, a backslash 92
 abbrev pub letter : TextKind → Bool → ℕ → Option ℕ
 letter (Plain Single) on_line b = if b == 92 || b == 39 then Some b else blank_letter b
 letter (Plain TripleSingle) on_line b = if b == 92 || b == 39 then Some b else line_letter on_line b
@@ -109,7 +109,7 @@ byte_text k on_line b = with_letter b (letter k on_line b)
 abbrev pub escaped : TextKind → Bool → List ℕ → List ℕ
 escaped k on_line s = flat_map (byte_text k on_line) s
 
--- between its marks, which are the same on both sides
+-- between its quotes, which are the same on both sides
 abbrev pub quoted : TextKind → Bool → List ℕ → List ℕ
 quoted k on_line s = closing k ++ escaped k on_line s ++ closing k
 
@@ -133,3 +133,7 @@ ink_text (line margin) = 10 ∷ margin
 
 abbrev pub inked : List Ink → List ℕ
 inked xs = flat_map ink_text xs
+
+-- a token with a blank on both sides
+abbrev pub spaced : Ink → List Ink
+spaced x = blank ∷ x ∷ blank ∷ []

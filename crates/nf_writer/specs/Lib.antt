@@ -1,0 +1,3 @@
+pub mod Ink
+pub mod Lines
+pub mod Styles
