@@ -2,49 +2,35 @@
 # Times a closure on lists of 10,000 and of 100 numbers, each so often that it is applied 10,000 times, and prints the ratio of the two. Then times the
 # built program on 10,000 numbers through `map { it * 3 + 1 }` and `view`, and `perl -ne` that does the same to the lines of a file, and prints that ratio.
 # Each time is the least of ten runs.
-set -eu
-top=$(dirname "$(readlink -f "$0")")/..
-(cd "$top/crates/nf_bench" && rt run -- closure 10) >/dev/null 2>&1
-"$top/pasmovuk" --version >/dev/null
-bench=$top/crates/nf_bench/out/nf_bench
-program=$top/crates/pasmovuk/out/pasmovuk
-folder=$(mktemp -d)
-trap 'rm -rf "$folder"' EXIT
+# shellcheck source=bench/common.sh
+. "$(dirname "$(readlink -f "$0")")/common.sh"
+find_bench
+find_program
 
-numbers() {
-    awk 'BEGIN { for (i = 0; i < 10000; i++) print (i * 7919) % 10007 }'
-}
-
-numbers >"$folder/numbers"
+awk 'BEGIN { for (i = 0; i < 10000; i++) print (i * 7919) % 10007 }' >"$folder/numbers"
 {
     printf 'workflow { channel.of('
     paste -s -d , "$folder/numbers" | tr -d '\n'
     echo ').map { it * 3 + 1 }.view() }'
 } >"$folder/mapped.nf"
 
-# the microseconds of one run of a command
-timed() {
-    start=$(date +%s%N)
-    "$@" >"$folder/printed"
-    end=$(date +%s%N)
-    echo $(((end - start) / 1000))
-}
-
 # what is compared is timed in turn, so that a slow moment of the machine meets all
-for _ in 1 2 3 4 5 6 7 8 9 10; do
-    "$bench" closure 100 2>>"$folder/few" >/dev/null
-    "$bench" closure 10000 2>>"$folder/many" >/dev/null
+for _ in $(seq 10); do
+    benched closure 100 >>"$folder/few"
+    benched closure 10000 >>"$folder/many"
     timed "$program" run "$folder/mapped.nf" >>"$folder/program"
+    # shellcheck disable=SC2016 # perl's own name
     timed perl -ne 'print $_ * 3 + 1, "\n"' "$folder/numbers" >>"$folder/perl"
 done
 
-least() {
-    sort -n "$folder/$1" | head -n 1
+# the microseconds of one of 10,000 items
+each() {
+    awk -v time="$1" 'BEGIN { printf "%.3f", time / 10000 }'
 }
 
-awk -v a="$(least few)" -v b="$(least many)" 'BEGIN {
-    printf "a closure on 10,000 items: %.3f us an item, on 100: %.3f us an item, ratio %.2f (due: at most 1.5)\n", b / 10000, a / 10000, b / a
-}'
-awk -v a="$(least perl)" -v b="$(least program)" 'BEGIN {
-    printf "10,000 items through map and view: %.1f ms, by perl: %.1f ms, ratio %.2f (due: at most 5)\n", b / 1000, a / 1000, b / a
-}'
+few=$(least few)
+many=$(least many)
+mapped=$(least program)
+perl=$(least perl)
+echo "a closure on 10,000 items: $(each "$many") us an item, on 100: $(each "$few") us an item, ratio $(ratio "$many" "$few") (due: at most 1.5)"
+echo "10,000 items through map and view: $(ms "$mapped") ms, by perl: $(ms "$perl") ms, ratio $(ratio "$mapped" "$perl") (due: at most 5)"

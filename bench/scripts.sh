@@ -2,12 +2,9 @@
 # Times the built program on a script of about 524,288 and of about 1,048,576 bytes: reading alone, by a last token that ends in `Unexpected`, and
 # `fmt`, which reads and prints. The scripts are statements, one list, and processes.
 # Prints both times, each the least of ten runs, and their ratio.
-set -eu
-top=$(dirname "$(readlink -f "$0")")/..
-"$top/pasmovuk" --version >/dev/null
-program=$top/crates/pasmovuk/out/pasmovuk
-folder=$(mktemp -d)
-trap 'rm -rf "$folder"' EXIT
+# shellcheck source=bench/common.sh
+. "$(dirname "$(readlink -f "$0")")/common.sh"
+find_program
 
 # so many parts of a kind, as a script
 script() {
@@ -27,12 +24,9 @@ script() {
     }'
 }
 
-# the microseconds of one run, whatever its status
-timed() {
-    start=$(date +%s%N)
-    "$program" "$1" "$2" >"$folder/printed" 2>&1 || true
-    end=$(date +%s%N)
-    echo $(((end - start) / 1000))
+# runs the program, whatever its status
+any() {
+    "$program" "$@" 2>&1 || true
 }
 
 # what is compared is timed in turn, so that a slow moment of the machine meets all
@@ -42,11 +36,11 @@ while read -r kind count; do
     for size in once twice; do
         { cat "$folder/$size.nf"; echo '}'; } >"$folder/$size.broken.nf"
     done
-    for _ in 1 2 3 4 5 6 7 8 9 10; do
+    for _ in $(seq 10); do
         for size in once twice; do
-            timed run "$folder/$size.broken.nf" >>"$folder/read.$size"
+            timed any run "$folder/$size.broken.nf" >>"$folder/read.$size"
             grep -q Unexpected "$folder/printed"
-            timed fmt "$folder/$size.nf" >>"$folder/fmt.$size"
+            timed any fmt "$folder/$size.nf" >>"$folder/fmt.$size"
             if grep -q '^error: ' "$folder/printed"; then
                 cat "$folder/printed" >&2
                 exit 1
@@ -54,12 +48,11 @@ while read -r kind count; do
         done
     done
     for command in read fmt; do
-        once=$(sort -n "$folder/$command.once" | head -n 1)
-        twice=$(sort -n "$folder/$command.twice" | head -n 1)
+        once=$(least "$command.once")
+        twice=$(least "$command.twice")
         rm "$folder/$command.once" "$folder/$command.twice"
-        awk -v name="$kind" -v command="$command" -v bytes="$(wc -c <"$folder/twice.nf")" -v a="$once" -v b="$twice" 'BEGIN {
-            printf "%s, %s: %d bytes: %.1f ms, half as many: %.1f ms, ratio %.2f (due: at most 2.5)\n", command, name, bytes, b / 1000, a / 1000, b / a
-        }'
+        bytes=$(wc -c <"$folder/twice.nf")
+        echo "$command, $kind: $bytes bytes: $(ms "$twice") ms, half as many: $(ms "$once") ms, ratio $(ratio "$twice" "$once") (due: at most 2.5)"
     done
 done <<END
 statements 16000
