@@ -29,7 +29,7 @@ starts_push (e.Start ticket cause ∷ h) x = ap suc (starts_push h x) ∙ omega 
 starts_push (e.Finish ticket report outs ∷ h) x = starts_push h x
 starts_push (e.Abort ticket cause ∷ h) x = starts_push h x
 
--- an event after which nothing more is told
+-- an event that finishes no task adds no finish
 quiet : (R : ProcessRules) (s : State) (h : List Event) (x : Event) → finish_at R (replay s h) x ≡ [] → finishes R s (h ++ x ∷ []) ≡ finishes R s h
 quiet R s h x q = finishes_push R s h x ∙ ap (λ l. finishes R s h ++ l) q ∙ append-nil (finishes R s h)
 

@@ -45,7 +45,7 @@ front_of : {X : Type 0} (P : X → Type 0) (xs ys : List X) → AllByRecursion P
 front_of P [] ys h = tt
 front_of P (x ∷ xs) ys h = (h.0, front_of P xs ys h.1)
 
--- each entry of a front of numbered takes finds its own reports, whatever stands after
+-- each entry of a front of numbered takes finds its own reports, whatever follows
 pub finds : (call : List ℕ) (before : List Taken) (es : List Ended) (us : List Taken) (xs : List (List Plain)) (more : Outcomes) → map taken_of es ++ us ≡ numbered before xs → FindsReports call (map (ended_outcome call) es ++ more) es
 finds call before [] us xs more h = tt
 finds call before (e ∷ es) us [] more h = absurd (subst IsFull h tt)

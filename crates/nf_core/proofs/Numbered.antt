@@ -49,7 +49,7 @@ is_other call t u h = not_both (bytes_eq call call) _ (λ c. not_both (same_item
 
 -- ---- no two are alike
 
--- the takes after these are numbered above n where they have these inputs
+-- each of these takes with inputs x has a number above n
 abbrev Above : List Plain → ℕ → List Taken → Type 0
 Above x n = AllByRecursion (λ u. x ≡ u.inputs → n < u.n)
 

@@ -189,7 +189,7 @@ abort_is_legal R items k t b x s h c = flies k t b s (λ q. IsCause R q x) h.tic
 pub aborted_stop : (R : ProcessRules) (items : List Plain) (k : ℕ) (t : Taken) (b : Bool) (x : Stop) (s : State) → IsFlying R items k t b s → (step s (aborting k x)).stop ≡ Some x
 aborted_stop R items k t b x s h = ap (λ o. (aborted s o (Some x)).stop) (in_flight k t b s.tickets h.tickets) ∙ ap (λ o. or_stop o (Some x)) h.stop
 
--- ---- what a history tells
+-- ---- what a history says
 
 pub no_finish_at_take : (R : ProcessRules) (s : State) (k n : ℕ) → finish_at R s (taking k n) ≡ []
 no_finish_at_take R s k n = refl

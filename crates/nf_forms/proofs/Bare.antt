@@ -14,7 +14,7 @@ use Rattle.nf_forms.specs.Form.{form_of}
 use Rattle.nf_forms.specs.View.{view_plan}
 use Rattle.nf_forms.proofs.Patterned.{none_built}
 
--- what is due of a script over some patterns
+-- a script's plan, over some patterns that `regex` accepts
 abbrev pub PlansOver : List (List ℕ) → (ℕ → List Plain → Option Plain) → Tree → Result Plan FormFault → Type 0
 PlansOver titles answer tree r = OverBuilt titles answer (λ env. Builds (view_plan env.titles env.answer) (form_of env tree) r)
 

@@ -9,7 +9,7 @@ pub then_twice : {A : Type 0} (x : Built A) (p q : Place) → then_at {B = A} (t
 then_twice (Ok x) p q = refl
 then_twice (Err r) p q = refl
 
--- where the first part ends with a fault, so does the whole
+-- a fault of the first part is the fault of the whole
 pub falls : {A B X Y : Type 0} (see : X → A) (look : Y → B) (due : Built A) (whole : Built B) (e : FormFault) (r : Result Y FormFault)
     → ((p : Place) → due ≡ Err p → whole ≡ Err p) → Builds see due (Err e) → r ≡ Err e → Builds look whole r
 falls see look due whole e r leads h is = subst (Builds look whole) (sym is) (went e h)
@@ -22,7 +22,7 @@ falls see look due whole e r leads h is = subst (Builds look whole) (sym is) (we
 pub bind_falls : {A B : Type 0} (due : Built A) (f : A → Built B) (whole : Built B) (p : Place) → whole ≡ (due >>= f) → due ≡ Err p → whole ≡ Err p
 bind_falls due f whole p is h = is ∙ ap (λ d. d >>= f) h
 
--- another answer for what is due, as it is due
+-- the same for an equal answer
 pub builds_as : {A X : Type 0} (see : X → A) (due whole : Built A) (r : Result X FormFault) → whole ≡ due → Builds see due r → Builds see whole r
 builds_as see due whole r is h = subst (λ d. Builds see d r) (sym is) h
 

@@ -46,7 +46,7 @@ module _ (X : Type 0) (R : Tree → X) (F : X → Place → X) (twice : (x : X) 
     same (answered p c a ∷ fs) x y h = same fs (tree.conditional p c a x) (tree.conditional p c a y) (on_conditional p c a x ∙ sym (on_conditional p c a y))
     same (preferred p a ∷ fs) x y h = same fs (tree.elvis p a x) (tree.elvis p a y) (on_elvis p a x ∙ sym (on_elvis p a y))
 
-    -- what stands in a frame doesn't count
+    -- what a frame encloses doesn't count
     inner : (f : Frame) (fs : List Frame) (x y : Tree) → R (ended (f ∷ fs) x) ≡ R (ended (f ∷ fs) y)
     inner (asked p c) fs x y = same fs (tree.conditional p c x tree.empty) (tree.conditional p c y tree.empty) (on_conditional p c x tree.empty ∙ sym (on_conditional p c y tree.empty))
     inner (answered p c a) fs x y = same fs (tree.conditional p c a x) (tree.conditional p c a y) (on_conditional p c a x ∙ sym (on_conditional p c a y))

@@ -20,7 +20,7 @@ none_built = All-nil (λ s. IsPattern (wrapped s))
 pub bare_new : (e : memory.Env) → ((titles : List (List ℕ)) (answer : Answer) → env_of e titles answer ≡ bare titles answer []) → IsBare e
 bare_new e is = ([], none_built, is)
 
--- where there are no functions, there are none by other patterns
+-- if there are no functions with these patterns, there are none with others
 none_defined : (ds : List Definition) (ps qs titles : List (List ℕ)) (answer : Answer) → functions_of ds ps titles answer ≡ [] → functions_of ds qs titles answer ≡ []
 none_defined [] ps qs titles answer none = refl
 none_defined (d ∷ ds) ps qs titles answer none = absurd (cc)

@@ -30,7 +30,7 @@ count_more p s t after x e = record { fine = (refl, after.fine); count = omega (
 pub count_number : (p : List Push) (s : CountState) → IsCountAfter p s → s.count ≤ 2 ^ 32 → to_z w64 s.count ≡ pos (length p)
 count_number p s after few = omega (arith, ints, after.count)
 
--- the value is due where there was no item
+-- the close emits the value if there was no item
 pub none_due : (v : Plain) (p : List Push) → is_none_pushed p ≡ true → single v ≡ if_none v p
 none_due v [] h = refl
 none_due v (x ∷ p) h = cc

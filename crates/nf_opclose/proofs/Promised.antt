@@ -56,7 +56,7 @@ ended items op law ends breaks p fine (Err f) h = broken op law breaks p fine (f
 pub ends_with : (op : Operator) → IsOperator op → Ends → (p : List Push) → AreFine op p → (es : List (ℕ × Value)) (vs : List (ℕ × Plain)) → emits_of es ≡ vs → op.ends p ≡ Ok vs → HasEnded op p (emits_of es)
 ends_with op law ends p fine es vs same e = ends op law p fine (emits_of es) (e ∙ ap Ok (sym same))
 
--- what is due may be named otherwise
+-- the same for an equal answer
 pub due_alike : {T : Type 0} (items : T → List (ℕ × Value)) {given due : Result (List (ℕ × Plain)) Fault} → given ≡ due → (r : Result T OpFault) → IsDue items r given → IsDue items r due
 due_alike items e r h = subst (λ d. IsDue items r d) e h
 
@@ -64,7 +64,7 @@ deep : (x : Push) (f : Option Fault) → IfSome f (HasFaulted pass_row [] x) →
 deep x None h = tt
 deep x (Some g) h = h.gives
 
--- what `view` answers on its first item
+-- what `view` gives for its first item
 pub passed : {T : Type 0} (items : T → List (ℕ × Value)) (x : Push) (r : Result T OpFault) → MatchResult r (λ t. HasEmitted pass_row [] x (emits_of (items t))) (PushRefused pass_row [] x) → IsDue items r (single x.item)
 passed items x (Ok t) h = h.gives
 passed items x (Err f) h = deep x (fault_of f) h

@@ -86,7 +86,7 @@ number_if true true h e = refl
 number_if true false h e = absurd (true≢false e)
 number_if false n h e = absurd (true≢false (sym h))
 
--- where the closure takes numbers alone and no push was a fault, all items are numbers
+-- if the closure takes only numbers and no push had a fault, all items are numbers
 items_taken : (kind : Total) (start : Option Plain) (p : List Push) → takes_numbers kind ≡ true → AreFine (reduce_row kind start) p → list_all is_number (items_in p) ≡ true
 items_taken kind start [] takes h = refl
 items_taken kind start (x ∷ p) takes h =
@@ -101,7 +101,7 @@ start_taken kind (Some v) takes h = let n : is_number v ≡ true = number_if (ta
     kept true e = cc
     kept false e = refl
 
--- what is made of all values is due
+-- the close gives what the closure makes of all values
 pub made_due : (kind : Total) (start : Option Plain) (p : List Push) → AreFine (reduce_row kind start) p → stray_of kind start ≡ None → made_of kind (with_start start (items_in p)) ≡ reduced kind start (items_in p)
 made_due kind start p fine none =
     let vs = with_start start (items_in p) in

@@ -81,7 +81,7 @@ total_alike sums a b s = total_parted a ∙ (λ i. pos (sums gain a b s i) -ℤ 
 pub sum_alike : BagSums → (a b : List Plain) → IsSameBag a b → of_numbers a (total_due (total_of a)) ≡ of_numbers b (total_due (total_of b))
 sum_alike sums a b s = (λ i. cond (list_all_alike sums is_number a b s i) (total_due (total_alike sums a b s i)) (Ok []))
 
--- the test of a value in memory
+-- the test of a value of the code
 abbrev judge : Plain → Result (List (ℕ × Plain)) Fault
 judge z = cond (is_number z) (Ok []) (Err (not_a_number z))
 
@@ -100,7 +100,7 @@ no_number (v.Map ps) h = refl
 pub stray_given : (x : Push) → is_number x.item ≡ false → numeric x ≡ Err (not_a_number x.item)
 stray_given x h = rw h refl
 
--- where no push was a fault, all items are numbers
+-- if no push had a fault, all items are numbers
 pub all_numbers : (op : Operator) → ((p : List Push) (x : Push) → op.gives p x ≡ numeric x) → (p : List Push) → AreFine op p → list_all is_number (items_in p) ≡ true
 all_numbers op judges [] h = refl
 all_numbers op judges (x ∷ p) h = both (is_number x.item) (ap is_ok (sym (judges p x)) ∙ h.0) (all_numbers op judges p h.1)

@@ -137,7 +137,7 @@ module _ (n : ℕ) (wanted : Bool) (law : IsMatching (join n wanted)) where
     unless true f d = refl
     unless false f d = nothing_then (and_then (Ok []) d) ∙ nothing_then d
 
-    -- what the maps give is due
+    -- the maps give what is due
     pub entered_due : (b : Bool) → is_left x ≡ b → (p : List Push) → AreFine (join_row n wanted) p → entered b k r (found n b p k) (found n (not b) p k) ≡ (join_row n wanted).gives p x
     entered_due b l p fine =
         let own : nat_lt 0 (twins (join n wanted) x p) ≡ is_some (found n b p k) = twins_there x k key p ∙ ap (λ c. is_some (found n c p k)) l in
@@ -182,7 +182,7 @@ module _ (n : ℕ) (wanted : Bool) (law : IsMatching (join n wanted)) where
     either true c v w h = let z : (c == 0) ≡ false = grind (arith, nat_tests) in sym (ap {B = List Plain} (λ t. cond t (v ∷ []) []) z)
     either false c v w h = let z : (c == 0) ≡ true = grind (arith, nat_tests) in sym (ap {B = List Plain} (λ t. cond t (v ∷ []) []) z)
 
-    -- an item is left over where its key isn't matched
+    -- an item is left over exactly if its key has no partner
     pub lonely_is : (b : Bool) → is_left x ≡ b → (p : List Push) → In x p → cond (is_matched n p k) [] (padded b k r ∷ []) ≡ lonely n p x
     lonely_is b l p i =
         let mine : is_some (found n b p k) ≡ true = ap (λ c. is_some (found n c p k)) (sym l) ∙ own_found p i in

@@ -24,7 +24,7 @@ use Rattle.nf_opjoin.proofs.Members.{same_value}
 abbrev Entries : Type 0
 Entries = List (Value × List Plain)
 
--- what stands at a key once one more is put in
+-- the rests at a key after one more is put in
 both_apart : {A : Type 0} (a b : Bool) (x y z : A) → (a ≡ true → b ≡ true → ⊥) → cond a x (cond b y z) ≡ cond b y (cond a x z)
 both_apart true true x y z h = absurd (h refl refl)
 both_apart true false x y z h = refl

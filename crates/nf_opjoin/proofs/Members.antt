@@ -84,6 +84,6 @@ times_of x (y ∷ p) h = elim h [
   | inr m ↦ omega (arith, times_of x p m, sum_by-cons (λ z. one_if (is_same_push z x)) y p)
 ]
 
--- what is pushed stands in each input that contains the pushes
+-- a push is a member of each input that contains the pushes
 pub in_input : (x : Push) (p q : List Push) → IsWithin p q → In x p → In x q
 in_input x p q w h = in_times x q (omega (arith, w.at x, times_of x p h))

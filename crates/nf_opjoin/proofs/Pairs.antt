@@ -17,7 +17,7 @@ use Rattle.nf_opjoin.specs.Pairing.{Due, and_then, gathered, given, shown, deep_
 use Rattle.nf_opjoin.proofs.Sums.{Sums, Within, sum_by-plus, sum_alike, sum_less, count_by-append, count_by-flat_map, flat_alike, sent, sent-append}
 use Rattle.nf_opjoin.proofs.Members.{In, contains, in_left, in_right, in_flat_map, in_input}
 
--- what is due one after the other
+-- answers one after another
 record Parts (r s : Due) : Type 0 where
   first : is_ok r ≡ true
   then_ok : is_ok s ≡ true
@@ -103,7 +103,7 @@ culprit h (y ∷ p) f e = elim (fault_part (gathered h p) (h y) f e) [
   | inr k ↦ record { push = y; among = inl refl; is = k }
 ]
 
--- where all that is gathered is fine, each is
+-- if all together is fine, each part is
 each_fine : (h : Push → Due) (p : List Push) → is_ok (gathered h p) ≡ true → (y : Push) → In y p → is_ok (h y) ≡ true
 each_fine h [] k y i = absurd i
 each_fine h (z ∷ p) k y i =
@@ -209,7 +209,7 @@ module _ (m : Matching) (law : IsMatching m) where
   pub judge_fine : (p : List Push) (x : Push) → AreFine (pairing m) (x ∷ p) → is_ok (m.judge x) ≡ true
   judge_fine p x h = (gives p x h.0).judged
 
-  -- where no push was a fault, no item has two twins
+  -- if no push had a fault, no item has two twins
   few_twins : (p : List Push) → AreFine (pairing m) p → (z : Push) → twins m z p ≤ 1
   few_twins [] h z = omega arith
   few_twins (x ∷ p) h z = elim (cases_Bool (m.twin z x)) [
@@ -247,7 +247,7 @@ module _ (m : Matching) (law : IsMatching m) where
         count_by-append test g h,
       )
 
-  -- where no push was a fault
+  -- if no push had a fault, each item may be paired
   fine_gives : (p : List Push) → AreFine (pairing m) p → (x : Push) → In x p → is_ok (m.judge x) ≡ true
   fine_gives [] h x i = absurd i
   fine_gives (y ∷ p) h x i = elim i [ inl e ↦ ap (λ z. is_ok (m.judge z)) e ∙ (gives p y h.0).judged | inr k ↦ fine_gives p h.1 x k ]
@@ -276,7 +276,7 @@ module _ (m : Matching) (law : IsMatching m) where
       let d : deep_faults (m.left_over p) ≡ [] = ap (map too_deep) (none_deep (m.left_over p) (ap is_ok e)) in
       (λ i. a i ++ (b i ++ (c i ++ d i)))
 
-  -- no test holds of a fault of one bag in two orders, where it holds of none in one
+  -- if an input has no fault, it has none in another order
   none_alike : Sums → (p q : List Push) → IsSameInput p q → (pairing m).faults p ≡ [] → (pairing m).faults q ≡ []
   none_alike sums p q s e = empty ((pairing m).faults q) (sym (faults_alike sums p q (λ f. true) s) ∙ ap (count_by (λ f. true)) e)
     where
@@ -284,7 +284,7 @@ module _ (m : Matching) (law : IsMatching m) where
       empty [] k = refl
       empty (f ∷ fs) k = absurd (omega (arith, sum_by-cons (λ (g : Fault). 1) f fs))
 
-  -- where a fault of a push stands
+  -- a fault of a push is a fault of the input
   judge_fault : (q : List Push) (x : Push) (f : Fault) → In x q → m.judge x ≡ Err f → In f ((pairing m).faults q)
   judge_fault q x f i e = in_left f (flat_map (λ y. errs (m.judge y)) q) _ (in_flat_map (λ y. errs (m.judge y)) x f q i (in_errs (m.judge x) f e))
 

@@ -15,7 +15,7 @@ some_nodes : (vs : Plains) → 1 ≤ nodes_all vs
 some_nodes no_items = omega arith
 some_nodes (item v vs) = omega (arith, some_nodes vs)
 
--- an item has fewer nodes than the list that it stands in
+-- an item has fewer nodes than its list
 pub item_is_smaller : (v : Value) (rest left : List Value) (all : List Plain) → left ≡ v ∷ rest → nodes_all (plains_of (map plain_of left)) ≤ nodes_all (plains_of all) → nodes (plain_of v) < nodes_all (plains_of all)
 item_is_smaller v rest left all e h =
     let k : nodes_all (plains_of (map plain_of (v ∷ rest))) ≤ nodes_all (plains_of all) = subst (λ xs. nodes_all (plains_of (map plain_of xs)) ≤ nodes_all (plains_of all)) e h in

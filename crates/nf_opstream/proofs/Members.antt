@@ -49,7 +49,7 @@ module _ {A : Type 0} (eq : A → A → Bool) (law : IsEq eq) where
         let t = taken_from x b g in record { rest = y ∷ t.rest; is = record { at = λ p. omega (arith, t.is.at p) } })
   ]
 
-  -- where no item is more frequent, no test holds more often
+  -- if no item is more frequent, no test holds more often
   pub sub_from_counts : (a b : List A) → ((x : A) → passes (eq x) a ≤ passes (eq x) b) → Sub a b
   sub_from_counts [] b h = record { at = λ p. omega arith }
   sub_from_counts (x ∷ a) b h =

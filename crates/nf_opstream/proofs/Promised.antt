@@ -63,12 +63,12 @@ gives_silent op law p fine x es none e = has_emitted op law p fine x (emits_of e
 pub ends_silent : (op : Operator) → IsOperator op → (p : List Push) → AreFine op p → (es : List (ℕ × Value)) → es ≡ [] → op.ends p ≡ Ok [] → HasEnded op p (emits_of es)
 ends_silent op law p fine es none e = has_ended op law p fine (emits_of es) (e ∙ ap (λ z. Ok (emits_of z)) (sym none))
 
--- what is judged may be named otherwise
+-- the same for equal values that are judged
 pub judged_alike : {T : Type 0} (items : T → List (ℕ × Value)) {given due : List (ℕ × Plain)} → given ≡ due → (r : Result T OpFault)
     → MatchResult r (λ t. judged given ≡ Ok (emits_of (items t))) (IsFault (judged given)) → MatchResult r (λ t. judged due ≡ Ok (emits_of (items t))) (IsFault (judged due))
 judged_alike items e r h = subst (λ es. MatchResult r (λ t. judged es ≡ Ok (emits_of (items t))) (IsFault (judged es))) e h
 
--- what is due may be named otherwise
+-- the same for an equal answer
 pub due_alike : {T : Type 0} (items : T → List (ℕ × Value)) {given due : Result (List (ℕ × Plain)) Fault} → given ≡ due → (r : Result T OpFault)
     → MatchResult r (λ t. given ≡ Ok (emits_of (items t))) (IsFault given) → MatchResult r (λ t. due ≡ Ok (emits_of (items t))) (IsFault due)
 due_alike items e r h = subst (λ d. MatchResult r (λ t. d ≡ Ok (emits_of (items t))) (IsFault d)) e h

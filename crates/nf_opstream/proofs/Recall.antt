@@ -36,7 +36,7 @@ turned true false h = refl
 turned false true h = refl
 turned false false h = h
 
--- an item is new where the set took it
+-- the set takes an item exactly if it is new
 no_equals : (p : List Push) (s : UniqueState) → IsUniqueAfter p s → (copy item : Value) (b : Bool) → copy ≡ item → b ≡ not (contains by_order s.seen copy) → (count (plain_of item) (items_in p) == 0) ≡ b
 no_equals p s after copy item b same h =
     let k : contains by_order s.seen copy ≡ not b = turned b (contains by_order s.seen copy) h in
