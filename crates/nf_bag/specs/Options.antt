@@ -4,7 +4,7 @@ use Rattle.nf_bag.specs.declared.rows.Row.{Row}
 use Rattle.nf_bag.specs.declared.rows.Row.TheVariants.{Combine, IfEmpty}
 use Rattle.nf_bag.specs.declared.options.OpOpts.{OpOpts}
 
--- `combine` pairs by the first items or not at all, and `ifEmpty` has a value; every other operator allows all options
+-- `combine` allows `by: 0` or no `by`, and `ifEmpty` needs its value; every other operator allows all options
 abbrev pub Allows : Row → OpOpts → Type 0
 Allows Combine o = IfSome o.by (λ n. n ≡ 0)
 Allows IfEmpty o = IsSome o.start
