@@ -2,8 +2,8 @@
 
 ghost use Rattle.std.specs.Prelude.{◌≡◌, ◌+◌, ◌<◌, ◌^◌};
 
-use crate::makers::txt;
-use nf_job::{Captured, FileRefs, Found, Job, JobParts, Report, Txts, make_job};
+use crate::makers::job_parts;
+use nf_job::{Captured, Found, Job, Report, make_job};
 use nf_lane::{ChildLane, Finished, Lane, LaneRefusal, Table, TableLane};
 use nf_value::Mem;
 use std::alloc::{Allocator, Global};
@@ -13,23 +13,8 @@ use std::process::{Child, Command, ExitStatus, OpenProcess, Processes, Stdio};
 use std::test::Fail;
 
 fn job(alloc: Global, script: &str, wants_stdout: bool) -> Result<Job, Mem> {
-    let process = txt(alloc, "P")?;
-    let script = txt(alloc, script)?;
-    let inputs = txt(alloc, "l0:")?;
-    make_job(
-        alloc,
-        JobParts {
-            process,
-            script,
-            inputs,
-            stdin: None,
-            staged: FileRefs::of(Vec::new(alloc)),
-            patterns: Txts::of(Vec::new(alloc)),
-            wants_stdout,
-            n: 0,
-            attempt: 1,
-        },
-    )
+    let parts = job_parts(alloc, script, wants_stdout)?;
+    make_job(alloc, parts)
 }
 
 const UNWANTED: i64 = -1;

@@ -1,23 +1,13 @@
-//! Tests of values, bags, codes, jobs, processes, lanes, hosts, words and runs, each over the crate of that name.
+//! Tests of hosts, sinks, lanes and runs: what no program shows. Tables of cases stand in `cases_codes` and `cases_values`.
 #![tactic(auto)]
 
 #[cfg(test)]
-mod bag;
-#[cfg(test)]
-mod codec;
+mod faults;
 #[cfg(test)]
 mod host;
-#[cfg(test)]
-mod job;
 #[cfg(test)]
 mod lane;
 #[cfg(test)]
 mod makers;
 #[cfg(test)]
-mod process;
-#[cfg(test)]
 mod runs;
-#[cfg(test)]
-mod value;
-#[cfg(test)]
-mod words;
