@@ -5,10 +5,15 @@
 //! what it holds, and whether it came at the close. Empty lines and lines that begin with `#` are printed as they are.
 #![tactic(auto)]
 
+mod by_answer;
+mod by_item;
+mod gathers;
+mod joins;
 mod operator;
 mod options;
 mod outcomes;
 mod pushes;
+mod totals;
 mod values;
 
 use anyhow::{Result, bail};

@@ -4,7 +4,7 @@ use crate::operator::Operator;
 use crate::pushes::Push;
 use anyhow::{Result, bail};
 use nf_bag::{OpFault, OpOpts, sorted};
-use nf_value::{Txt, Vals, Value, text_of};
+use nf_value::{Mem, Txt, Vals, Value, text_of};
 use std::alloc::Global;
 
 /// Each outcome of the orders once, with ` | ` between them.
@@ -50,7 +50,7 @@ fn outcome(
     let mut operator = Operator::begin(alloc, name, opts)?;
     let mut emits = Vec::new(alloc);
     for push in first.iter().chain(later.iter()) {
-        match operator.push(push.port, push.item.copy()?, push.answer.copy()?) {
+        match pushed(&mut operator, push) {
             Ok(more) => add(&mut emits, more, outs)?,
             Err(fault) => return shown_fault(alloc, &fault, ""),
         }
@@ -60,6 +60,13 @@ fn outcome(
         Err(fault) => return shown_fault(alloc, &fault, " at the close"),
     }
     shown(alloc, emits.as_slice(), outs)
+}
+
+/// What a push gives.
+fn pushed(operator: &mut Operator, push: &Push) -> Result<Vec<(u32, Value)>, OpFault> {
+    let item = push.item.copy()?;
+    let answer = push.answer.copy()?;
+    operator.push(push.port, item, answer)
 }
 
 /// Adds emits to so many outputs.
@@ -80,29 +87,37 @@ fn shown(alloc: Global, emits: &[(u32, Value)], outs: u32) -> Result<String> {
         if out > 0 {
             text.push_str(", ")?;
         }
-        let mut values = Vec::new(alloc);
-        for (to, value) in emits {
-            if *to == out {
-                values.push(value.copy()?)?;
-            }
-        }
-        let values = sorted(Vals::of(values))?;
-        let values = text_of(alloc, &Value::List(values))?;
+        let values = shown_output(alloc, emits, out)?;
         text.push_str(values.as_str())?;
     }
     Ok(text)
 }
 
-/// A fault with what it holds.
+fn shown_output(alloc: Global, emits: &[(u32, Value)], out: u32) -> Result<Txt, Mem> {
+    let mut values = Vec::new(alloc);
+    for (to, value) in emits {
+        if *to == out {
+            values.push(value.copy()?)?;
+        }
+    }
+    let values = sorted(Vals::of(values))?;
+    text_of(alloc, &Value::List(values))
+}
+
+/// The name of a copy of a fault, with what the fault holds.
 fn shown_fault(alloc: Global, fault: &OpFault, place: &str) -> Result<String> {
-    let held = match fault {
-        OpFault::DuplicateKey { key } => text_of(alloc, key)?,
-        OpFault::NotATuple { item } => text_of(alloc, item)?,
-        OpFault::NotANumber { item } => text_of(alloc, item)?,
-        OpFault::Overflow { total } => Txt::of(format!(in alloc; "{total}")?),
-        OpFault::TooDeep { item } => text_of(alloc, item)?,
-        OpFault::Mem => bail!("want of memory"),
-    };
+    let name = fault.copy()?;
+    let held = held(alloc, fault)?;
     let held = held.as_str();
-    Ok(format!(in alloc; "{fault} on {held}{place}")?)
+    Ok(format!(in alloc; "{name} on {held}{place}")?)
+}
+
+fn held(alloc: Global, fault: &OpFault) -> Result<Txt> {
+    match fault {
+        OpFault::DuplicateKey { key } => Ok(text_of(alloc, key)?),
+        OpFault::NotATuple { item } | OpFault::NotANumber { item } | OpFault::TooDeep { item } =>
+            Ok(text_of(alloc, item)?),
+        OpFault::Overflow { total } => Ok(Txt::of(format!(in alloc; "{total}")?)),
+        OpFault::Mem => bail!("want of memory"),
+    }
 }
