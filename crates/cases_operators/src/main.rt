@@ -1,8 +1,10 @@
-//! Runs a table of operators. Standard input has a row a line: `OPERATOR OPTIONS | PUSHES`. Options have the form `NAME: VALUE` with commas between
-//! them, pushes the form `ITEM` or `ITEM -> ANSWER` with semicolons between them, each after `@PORT` where its port isn't 0; values are JSON, and the
-//! answer is the item where none is given. The items are pushed as they stand, from the last on, and from each of them on round to the one before
-//! it. Each row is printed with what came of these orders, each outcome once: the values at each output in the order of values, or the fault with
-//! what it holds, and whether it came at the close. Empty lines and lines that begin with `#` are printed as they are.
+//! Runs a table of operators. Standard input has a row a line, `OPERATOR OPTIONS | PUSHES`. Options are `NAME: VALUE`, with commas between them.
+//! Pushes are `ITEM` or `ITEM -> ANSWER`, with semicolons between them, each after `@PORT` where its port isn't 0. Values are JSON. An item without an
+//! answer is its own answer.
+//!
+//! The items are pushed in several orders: as they stand, backwards, and from each of them on round to the one before it. Each row is printed with
+//! what came of these orders, each outcome once. An outcome is the values at each output in the order of values, or a fault with what it holds and
+//! whether it came at the close. Empty lines and lines that begin with `#` are printed as they are.
 #![tactic(auto)]
 
 mod by_answer;

@@ -5,8 +5,8 @@ use anyhow::{Result, bail};
 use nf_bag::{OpOpts, Total};
 use std::alloc::Global;
 
-/// The options of a text; where it doesn't name one, there is no key, no remainder, no sorting and no initial value, lists are opened, totals are sums
-/// and there is no label.
+/// The options that a text names. Without them there is no key, no remainder, no sorting and no initial value, `collect` opens lists, a total is the
+/// sum, and there is no label.
 pub(crate) fn options(alloc: Global, text: &str) -> Result<OpOpts> {
     let mut opts = OpOpts {
         by: None,

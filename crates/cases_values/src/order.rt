@@ -33,6 +33,6 @@ fn mark(value: &Value, other: &Value) -> Result<char> {
         (Ordering::Less, false) => Ok('<'),
         (Ordering::Equal, true) => Ok('='),
         (Ordering::Greater, false) => Ok('>'),
-        _ => bail!("values that are equal and in order"),
+        _ => bail!("order and equality disagree"),
     }
 }

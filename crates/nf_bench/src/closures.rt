@@ -12,10 +12,10 @@ use std::alloc::Global;
 use std::rt::Clock;
 use std::time::Instant;
 
-/// How often the closure is applied in all, whatever the length of the list.
+/// How often the closure is applied in all.
 const CALLS: u32 = 10000;
 
-/// Maps a list of so many numbers by `{ it * 3 + 1 }`, so often that the closure is applied about 10,000 times.
+/// Maps a list of COUNT numbers by `{ it * 3 + 1 }`, as often as it takes to apply the closure about 10,000 times.
 pub fn closure<R: Clock + AllocGlobal + Print + Eprint>(rt: &R, count: u32) -> Result<()> {
     let alloc = rt.alloc();
     let closure = read(alloc)?;
@@ -27,8 +27,21 @@ pub fn closure<R: Clock + AllocGlobal + Print + Eprint>(rt: &R, count: u32) -> R
         { program_native(alloc, id, args) },
     );
     let items = numbers(alloc, count)?;
+    time(rt, &items, CALLS / count.max(1), &closure, &natives)
+}
+
+/// Maps a list that many times, and prints how long that took and the number of images of the last list.
+fn time<R: Clock + AllocGlobal + Print + Eprint, N: Natives>(
+    rt: &R,
+    items: &Vals,
+    rounds: u32,
+    closure: &Closure,
+    natives: &N,
+) -> Result<()>
+    requires { N.keeps natives.now }
+{
     let start = Instant::now(rt)?;
-    let mapped = all_mapped(alloc, &items, CALLS / count.max(1), &closure, &natives);
+    let mapped = all_mapped(rt.alloc(), items, rounds, closure, natives);
     took(rt, start)?;
     match mapped {
         Ok(len) => println!(rt; "images {len}")?,
@@ -48,7 +61,7 @@ fn read(alloc: Global) -> Result<Closure> {
     }
 }
 
-/// Maps a list so often, and gives how many images the last list has.
+/// Maps a list that many times, and gives the number of images of the last list.
 fn all_mapped<N: Natives>(
     alloc: Global,
     items: &Vals,

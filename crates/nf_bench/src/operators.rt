@@ -1,4 +1,4 @@
-//! Times operators on items that all have another key.
+//! Times operators on items whose keys all differ.
 
 use crate::took;
 use anyhow::{Result, bail};
@@ -22,7 +22,7 @@ fn options() -> OpOpts {
     }
 }
 
-/// Each number once, and in no order among those near each other.
+/// A key for each place. Keys differ, and within each block of 1,024 they come in no order.
 fn key(place: u32) -> Value {
     let block = place / 1024 * 1024;
     let within = place.wrapping_mul(389) % 1024;
