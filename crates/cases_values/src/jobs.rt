@@ -60,8 +60,9 @@ fn text(alloc: Global, text: &str) -> Result<Txt> {
 }
 
 fn files(alloc: Global, code: &str) -> Result<FileRefs> {
+    let values = list(alloc, code)?;
     let mut files = Vec::new(alloc);
-    for value in list(alloc, code)?.items() {
+    for value in values.items() {
         match value {
             Value::File(file) => files.push(file.copy()?)?,
             _ => bail!("{code}: no files"),
@@ -71,8 +72,9 @@ fn files(alloc: Global, code: &str) -> Result<FileRefs> {
 }
 
 fn texts(alloc: Global, code: &str) -> Result<Txts> {
+    let values = list(alloc, code)?;
     let mut texts = Vec::new(alloc);
-    for value in list(alloc, code)?.items() {
+    for value in values.items() {
         match value {
             Value::Text(text) => texts.push(text.copy()?)?,
             _ => bail!("{code}: no texts"),

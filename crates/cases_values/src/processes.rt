@@ -64,7 +64,8 @@ pub(crate) fn task(alloc: Global, parts: &str) -> Result<String> {
 pub(crate) fn output(alloc: Global, parts: &str) -> Result<String> {
     let (inputs, report) = two(parts)?;
     let inputs = list(alloc, inputs)?;
-    let report = report_of(alloc, report)?.copy()?;
+    let report = report_of(alloc, report)?;
+    let report = report.copy()?;
     match emit_of(alloc, &printf(alloc)?, &inputs, 1, &report) {
         Ok(outputs) => shown(alloc, &outputs),
         Err(refusal) => refused(alloc, &refusal),
