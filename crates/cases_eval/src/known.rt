@@ -23,16 +23,27 @@ const NAMES: &[(&str, &str)] = &[
     ),
 ];
 
-/// An environment with the names and the functions, and with the file `reads`.
+/// Names, and the names of the files that they are bound to.
+const FILES: &[(&str, &str)] = &[
+    ("reads", "reads.fastq.gz"),
+    ("fastq", "a.fq.gz"),
+    ("tarball", "a.tar.gz"),
+    ("dotfile", ".bashrc"),
+    ("readme", "README"),
+    ("dotted", "a."),
+    ("accented", "é.x.y"),
+    ("stem_b", "a.b"),
+    ("file_a", "a"),
+    ("file_b", "b"),
+];
+
+/// An environment with the functions, the files and the names.
 pub(crate) fn known<N: Natives>(alloc: Global, natives: &N) -> Result<Env>
     requires { N.keeps natives.now }
 {
     let mut env = Env::new(alloc);
     add_functions(alloc, &mut env)?;
-    env.define(
-        text(alloc, "reads")?,
-        Value::File(file(alloc, "reads.fastq.gz")?),
-    )?;
+    add_files(alloc, &mut env)?;
     for (name, of) in NAMES.iter().copied() {
         let of = parsed(alloc, of)?;
         match eval(alloc, &of, &env, natives) {
@@ -41,6 +52,14 @@ pub(crate) fn known<N: Natives>(alloc: Global, natives: &N) -> Result<Env>
         }
     }
     Ok(env)
+}
+
+/// Binds names to files.
+fn add_files(alloc: Global, env: &mut Env) -> Result<()> {
+    for (name, of) in FILES.iter().copied() {
+        env.define(text(alloc, name)?, Value::File(file(alloc, of)?))?;
+    }
+    Ok(())
 }
 
 /// An empty file of that name.

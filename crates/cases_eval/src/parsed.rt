@@ -6,7 +6,7 @@ use nf_exprs::expr;
 use nf_lexer::tokens;
 use std::alloc::Global;
 
-/// The expression that a text spells.
+/// A copy of the expression that a text spells, so that each row also shows that copies keep every part.
 pub(crate) fn parsed(alloc: Global, text: &str) -> Result<Expr> {
     let tokens = match tokens(alloc, text.as_bytes()) {
         Ok(tokens) => tokens,
@@ -17,7 +17,7 @@ pub(crate) fn parsed(alloc: Global, text: &str) -> Result<Expr> {
             if next != tokens.items().len() {
                 bail!("{text}: more than an expression");
             }
-            Ok(expr)
+            Ok(expr.copy(alloc)?)
         }
         Err(_) => bail!("{text}: no expression"),
     }

@@ -1,6 +1,5 @@
 //! Prints scripts in their canonical text. Standard input has rows: the lines of a script, a line `==>`, the lines of its canonical
-//! text, and a line `----`. Of each row the script is printed, and then what it prints is printed again; both have to be the
-//! canonical text.
+//! text, and a line `----`. The program prints each script, reads what it printed, and prints that; both have to be the canonical text.
 #![tactic(auto)]
 
 use anyhow::{Result, bail};
@@ -58,6 +57,7 @@ fn compare<R: AllocGlobal + Print>(rt: &R, row: u32, written: &str, due: &str) -
     Ok(())
 }
 
+/// The canonical text of a script.
 fn printed<R: AllocGlobal>(rt: &R, text: &str) -> Result<Vec<u8>> {
     let tokens = match tokens(rt.alloc(), text.as_bytes()) {
         Ok(tokens) => tokens,

@@ -1,15 +1,9 @@
-//! Tests of tables, methods, marks, calls and scopes of names.
+//! Tests of tables, methods and functions of the program that no row of `cases_eval` shows.
 #![tactic(auto)]
 
 #[cfg(test)]
-mod builtins;
+mod methods;
 #[cfg(test)]
-mod calls;
-#[cfg(test)]
-mod makers;
-#[cfg(test)]
-mod marks;
-#[cfg(test)]
-mod scope;
+mod natives;
 #[cfg(test)]
 mod table;

@@ -1,8 +1,7 @@
-//! Tests of tokens, trees, parsers, patterns and of formatting, each over the crate of that name.
+//! Tests of tokens, trees, formatting and patterns that no row of `cases_read`, `cases_fmt` or `cases_eval` shows: the deepest texts, and
+//! bytes that are no text.
 #![tactic(auto)]
 
-#[cfg(test)]
-mod ast;
 #[cfg(test)]
 mod exprs;
 #[cfg(test)]

@@ -1,8 +1,46 @@
-//! The deepest texts, and how a fault of a parser is shown.
+//! A script with two processes, and the deepest texts.
 
-use nf_exprs::ParseFault;
 use std::alloc::Global;
 use std::test::Fail;
+
+/// A script as users write it.
+pub const PIPELINE: &str = "\
+#!/usr/bin/env nextflow
+nextflow.enable.dsl=2
+params.reads = 'data/*_{1,2}.fq'
+params.outdir = 'results'
+process JOINED {
+    tag \"$id\"
+    cpus 2
+    memory '4 GB'
+    container 'quay.io/biocontainers/coreutils'
+    publishDir params.outdir, mode: 'copy'
+    input:
+    tuple val(id), path(reads)
+    output:
+    tuple val(id), path(\"${id}.txt\")
+    script:
+    \"\"\"
+    cat $reads > ${id}.txt
+    \"\"\"
+}
+process SUMMARY {
+    input:
+    path counts
+    output:
+    stdout
+    script:
+    \"\"\"
+    cat $counts
+    \"\"\"
+}
+workflow {
+    pairs = channel.fromFilePairs(params.reads, checkIfExists: true)
+    JOINED(pairs)
+    SUMMARY(JOINED.out.map { id, f -> f }.collect())
+    SUMMARY.out.view()
+}
+";
 
 /// What stands after a bracket or the innermost name, and how often: parts, an operand of each level, and `?:`.
 const AFTER: &[(&str, u32)] = &[
@@ -18,21 +56,8 @@ const AFTER: &[(&str, u32)] = &[
     ("?:a", 256),
 ];
 
-/// The place and the name of a fault.
-pub fn fault_text(alloc: Global, fault: &ParseFault) -> Result<String, Fail> {
-    Ok(match fault {
-        ParseFault::Unexpected { place } => {
-            format!(in alloc; "{}:{} Unexpected", place.line, place.col)?
-        }
-        ParseFault::TooDeep { place } => {
-            format!(in alloc; "{}:{} TooDeep", place.line, place.col)?
-        }
-        ParseFault::Mem => format!(in alloc; "Mem")?,
-    })
-}
-
 /// A text so many times.
-pub fn repeated(alloc: Global, part: &str, count: u32) -> Result<String, Fail> {
+fn repeated(alloc: Global, part: &str, count: u32) -> Result<String, Fail> {
     let mut text = String::new(alloc);
     for _ in 0..count {
         text.push_str(part)?;

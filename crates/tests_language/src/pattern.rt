@@ -1,4 +1,4 @@
-//! Worked globs, paths and regular expressions.
+//! Worked globs and paths, and regular expressions that are refused.
 
 use nf_pattern::laws::literal_matches_itself;
 use nf_pattern::{PatternFault, WholeRe, glob, is_literal};
@@ -79,19 +79,6 @@ const PATHS: &[(&str, bool)] = &[
     ("a,b/c", true),
 ];
 
-/// A regular expression, a text, and whether it matches the whole text.
-const WHOLES: &[(&str, &str, bool)] = &[
-    ("a.c", "abc", true),
-    ("a.c", "abcd", false),
-    ("a.c", "xabc", false),
-    ("a|ab", "ab", true),
-    ("a|ab", "b", false),
-    ("", "", true),
-    ("", "a", false),
-    ("a$", "a\n", false),
-    ("(?i)abc", "ABC", true),
-];
-
 #[test]
 fn globs(rt: HostRuntime) -> Result<(), Fail> {
     for (pattern, name, want) in GLOBS.iter().copied() {
@@ -106,19 +93,6 @@ fn literal_paths(rt: HostRuntime) -> Result<(), Fail> {
         assert_eq!(rt; is_literal(path), want, "at {path:?}");
     }
     literal_matches_itself();
-    Ok(())
-}
-
-#[test]
-fn whole_matches(rt: HostRuntime) -> Result<(), Fail> {
-    for (re, text, want) in WHOLES.iter().copied() {
-        let whole = WholeRe::new(rt.alloc(), re)?;
-        assert_eq!(rt;
-            whole.matches_whole(rt.alloc(), text)?,
-            want,
-            "at {re:?} {text:?}"
-        );
-    }
     Ok(())
 }
 

@@ -53,21 +53,16 @@ fn formats_once(rt: HostRuntime) -> Result<(), Fail> {
     for text in SAME.iter().copied() {
         assert_eq!(rt; answer(rt.alloc(), text)?, "same", "at {text:?}");
     }
+    let text = joined(rt.alloc())?;
+    assert_eq!(rt; answer(rt.alloc(), text.as_str())?, "too deep");
     Ok(())
 }
 
-/// Two chains of 200 operands in brackets become one of 399, and so past the limit.
-#[test]
-fn joins_chains(rt: HostRuntime) -> Result<(), Fail> {
-    let mut text = String::from_str(rt.alloc(), "workflow { (1")?;
+/// Two chains of 200 operands, one in brackets. Formatted they are one of 399, and so past the limit.
+fn joined(alloc: Global) -> Result<String, Fail> {
+    let mut chain = String::new(alloc);
     for _ in 1..200u32 {
-        text.push_str(" + 1")?;
+        chain.push_str(" + 1")?;
     }
-    text.push_str(")")?;
-    for _ in 1..200u32 {
-        text.push_str(" + 1")?;
-    }
-    text.push_str(" }")?;
-    assert_eq!(rt; answer(rt.alloc(), text.as_str())?, "too deep");
-    Ok(())
+    Ok(format!(in alloc; "workflow {{ (1{chain}){chain} }}")?)
 }

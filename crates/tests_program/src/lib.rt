@@ -1,21 +1,12 @@
-//! Tests of the program's call, and of what it makes of a script and runs.
+//! Tests of the program's call that no row of `cases_run` shows: tasks in real children, and the scripts that need most of the stack and of
+//! memory.
 #![tactic(auto)]
 
 #[cfg(test)]
 mod called;
 #[cfg(test)]
-mod calls;
-#[cfg(test)]
-mod forms;
-#[cfg(test)]
-mod fronts;
+mod children;
 #[cfg(test)]
 mod lanes;
 #[cfg(test)]
 mod limits;
-#[cfg(test)]
-mod plans;
-#[cfg(test)]
-mod spellings;
-#[cfg(test)]
-mod tasks;

@@ -1,6 +1,6 @@
 use Rattle.std.proofs.Common.{◌≡◌, ◌∙◌, arith, rules, false, length, ◌<◌}
 use Rattle.tests_calls.proofs.Rows.{row_is_plain}
-use Rattle.tests_calls.proofs.builtins.plain_row.Goals as goal
+use Rattle.tests_calls.proofs.methods.plain_row.Goals as goal
 
 pub returns : goal.returns
 returns c = λ c'.
