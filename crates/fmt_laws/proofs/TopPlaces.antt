@@ -1,13 +1,13 @@
 -- The canonical text of a script doesn't depend on its places: sections and tops.
-use Rattle.std.proofs.Common.{◌≡◌, ℕ, Bool, true, false, List, [], ◌∷◌, ◌++◌, refl, ap, sym, ◌∙◌}
+use Rattle.std.proofs.Common.{◌≡◌, ℕ, false, List, [], ◌∷◌, ◌++◌, refl, ap, sym, ◌∙◌}
 use Rattle.std.specs.Prelude.{codes, if◌then◌else◌}
 use Rattle.nf_token.specs.declared.token.Keyword.TheVariants as k
 use Rattle.nf_token.specs.declared.token.Mark.TheVariants as m
 use Rattle.nf_ast.specs.Tree as tree
 use Rattle.nf_ast.specs.Tree.{Tree}
 use Rattle.nf_writer.specs.Ink.{Ink, mark, keyword, blank, line, inked}
-use Rattle.nf_printer.specs.Levels.{begins_round, round}
-use Rattle.nf_printer.specs.Exprs.{comma, equals, inks, listed, parts}
+use Rattle.nf_printer.specs.Levels.{round}
+use Rattle.nf_printer.specs.Exprs.{comma, equals, parts}
 use Rattle.nf_writer.specs.Lines.{outside}
 use Rattle.nf_printer.specs.Tops.{inside, inner_line, word, part, on_lines, braced, headed, section, statements, body_section, first_begins_round, args_before, args_after, directive_args, directive, value_part, value_parts, some_value, output, task, process_parts, workflow_parts, maybe_name, top, tops, canonical}
 use Rattle.fmt_trees.specs.Bare.{bare}

@@ -1,20 +1,17 @@
 -- What the rules of expressions, closures and statements make.
-use Rattle.std.proofs.Common.{◌≡◌, ℕ, Bool, true, false, List, refl}
+use Rattle.std.proofs.Common.{◌≡◌, ℕ, List}
 use Rattle.nf_value.specs.declared.place.Place.{Place}
-use Rattle.nf_token.specs.declared.token.Lexeme.{Lexeme}
-use Rattle.nf_grammar.specs.Gram.{token, gives, bind, either, only_where, many, rule}
+use Rattle.nf_grammar.specs.Gram.{rule}
 use Rattle.nf_ast.specs.Tree as tree
-use Rattle.nf_ast.specs.Tree.{Tree, empty, cons}
+use Rattle.nf_ast.specs.Tree.{Tree, empty}
 use Rattle.nf_exprs.specs.declared.band.Band.{Band}
 use Rattle.nf_exprs.specs.declared.band.Band.TheVariants as band
-use Rattle.nf_exprs.specs.Level.{Level, Expr, Operands, Pre, Post, Prim, Args, Arg, Pair, Closure, Body, Stmt, Choice, Gram}
-use Rattle.nf_exprs.specs.Rules.{rules, operand, operand_next, after_operand, or_more, prefixed, post_part, square, squared, items, pairs, ended_by_comma, closure_body, parameters, label, some_labels, statement, block, choice, arm, else_arm, defines, assigned, print, log, with_name, with_else}
-use Rattle.fmt_tokens.specs.Fits.{Fits}
+use Rattle.nf_exprs.specs.Level.{Level, Expr, Operands, Pre, Post, Prim, Args, Arg, Pair, Closure, Body, Stmt, Choice}
+use Rattle.nf_exprs.specs.Rules.{rules, operand, operand_next, after_operand, or_more, prefixed, post_part, squared, items, pairs, parameters, label, some_labels, statement, block, choice, arm, else_arm, defines, assigned, print, log, with_name, with_else}
 use Rattle.fmt_trees.specs.Shape as shape
-use Rattle.fmt_trees.specs.Shape.{Sort, Shaped, row, expr, a_name, arg, key, pair, closure, params, body, statement as a_statement, choice as a_choice, last, block as a_block, label as a_label}
-use Rattle.fmt_spellable.specs.Fit.{AreFit}
-use Rattle.fmt_spellable.specs.Made.{Made, sort_of, Makes}
-use Rattle.fmt_spellable.proofs.Steps.{Good, seq, skip, ret, arms, tested, turns, weaker, either_of, skipped, enclosed, ended, some_listed, all_listed, in_series, AtLeastOne, these, all_of, none_made, snoc_some}
+use Rattle.fmt_trees.specs.Shape.{Shaped, row, expr, a_name, arg, pair, closure, params, body, statement as a_statement, choice as a_choice, last, block as a_block, label as a_label}
+use Rattle.fmt_spellable.specs.Made.{Made, sort_of}
+use Rattle.fmt_spellable.proofs.Steps.{Good, seq, skip, ret, arms, tested, turns, weaker, either_of, skipped, enclosed, ended, some_listed, all_listed, in_series, AtLeastOne, these, none_made, snoc_some}
 use Rattle.fmt_spellable.proofs.Tokens.{a_name_good, literal_good, plain_good, infix_good, prefix_good, joined_made, prefixed_made, name_tree, name_key}
 use Rattle.fmt_spellable.proofs.Pieces.{template_good, plain_template_good}
 

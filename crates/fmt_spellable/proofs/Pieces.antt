@@ -1,24 +1,24 @@
 -- The rules of templates make texts and holes that fit.
-use Rattle.std.proofs.Common.{◌≡◌, ℕ, Bool, true, false, List, [], ◌∷◌, Option, Some, refl}
+use Rattle.std.proofs.Common.{◌≡◌, ℕ, Bool, true, false, List, [], ◌∷◌, Some, refl}
 use Rattle.std.specs.Prelude.{◌&&◌}
 use Rattle.nf_token.specs.declared.token.Lexeme.{Lexeme}
 use Rattle.nf_token.specs.declared.token.TemplateKind.{TemplateKind}
 use Rattle.nf_token.specs.declared.token.Token.{Token}
 use Rattle.nf_token.specs.declared.token.Token.TheVariants as t
 use Rattle.nf_value.specs.declared.place.Place.{Place}
-use Rattle.nf_grammar.specs.Gram.{token, gives, bind, either, only_where, many, rule, ◌>>=◌}
+use Rattle.nf_grammar.specs.Gram.{token, gives, rule, ◌>>=◌}
 use Rattle.nf_ast.specs.Tree as tree
 use Rattle.nf_ast.specs.Tree.{Tree, empty, cons, snoc}
 use Rattle.nf_exprs.specs.Level.{Expr}
-use Rattle.nf_exprs.specs.Tokens.{template_text, template_text_at, close_template}
-use Rattle.nf_exprs.specs.Rules.{kind, rules, hole, piece, part_next, pieces, template_of, filled, maybe_text, plain_template, no_part}
-use Rattle.fmt_tokens.specs.Fits.{Fits, FitPieces, FitAfterText, IsPiece}
+use Rattle.nf_exprs.specs.Tokens.{template_text_at, close_template}
+use Rattle.nf_exprs.specs.Rules.{kind, rules, hole, piece, pieces, template_of, filled, plain_template}
+use Rattle.fmt_tokens.specs.Fits.{FitPieces, FitAfterText, IsPiece}
 use Rattle.fmt_trees.specs.Shape as shape
 use Rattle.fmt_trees.specs.Shape.{Shaped, expr, key, holes}
 use Rattle.fmt_spellable.specs.Fit.{AreFit, is_text, text_next}
 use Rattle.fmt_spellable.specs.Made.{Made}
 use Rattle.fmt_spellable.proofs.Holds.{Holds, holds_token, holds_bind, holds_either, holds_many, holds_more, holds_gives}
-use Rattle.fmt_spellable.proofs.Steps.{Good, seq, skip, ret, arms, tested, weaker, either_of}
+use Rattle.fmt_spellable.proofs.Steps.{Good, seq, skip, ret, weaker, either_of}
 use Rattle.fmt_spellable.proofs.Tokens.{Opened, opened, IsText, a_text, open_good, text_good, text_made}
 
 -- texts and holes, where a text may stand before them, or last

@@ -1,16 +1,15 @@
 -- What the parts of the grammar that many rules share make of fit tokens.
-use Rattle.std.proofs.Common.{◌≡◌, ℕ, Bool, List, ◌∷◌, Option, Some, refl}
+use Rattle.std.proofs.Common.{◌≡◌, ℕ, Bool, List, ◌∷◌, Some}
 use Rattle.nf_token.specs.declared.token.Lexeme.{Lexeme}
-use Rattle.nf_grammar.specs.Gram.{token, gives, bind, either, only_where, many, rule}
-use Rattle.nf_ast.specs.Tree as tree
+use Rattle.nf_grammar.specs.Gram.{token, gives, bind, either, only_where, many}
 use Rattle.nf_ast.specs.Tree.{Tree, empty, cons, snoc}
-use Rattle.nf_exprs.specs.Level.{Level, Gram}
+use Rattle.nf_exprs.specs.Level.{Gram}
 use Rattle.nf_exprs.specs.Tokens.{Kind}
-use Rattle.nf_exprs.specs.Rules.{rules, maybe, listed, series, separated, with_sep, comma_then, skips, sep, closes, closed, past_separator}
+use Rattle.nf_exprs.specs.Rules.{rules, maybe, listed, series, with_sep, skips, sep, closes, closed}
 use Rattle.fmt_tokens.specs.Fits.{Fits}
 use Rattle.fmt_trees.specs.Shape.{Sort, row, Shaped, no_more, one_more}
 use Rattle.fmt_spellable.specs.Fit.{AreFit}
-use Rattle.fmt_spellable.specs.Made.{Made, Makes}
+use Rattle.fmt_spellable.specs.Made.{Made}
 use Rattle.fmt_spellable.proofs.Holds.{Holds, holds_token, holds_gives, holds_bind, holds_either, holds_where, holds_many, holds_more}
 
 -- of fit tokens a part makes a tree of which this holds, and leaves fit tokens

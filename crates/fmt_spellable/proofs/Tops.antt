@@ -1,21 +1,19 @@
 -- What the rules of processes, workflows and the other tops make.
-use Rattle.std.proofs.Common.{◌≡◌, ℕ, Bool, true, false, List, refl}
-use Rattle.std.specs.Prelude.{codes}
+use Rattle.std.proofs.Common.{◌≡◌, ℕ, List}
 use Rattle.nf_value.specs.declared.place.Place.{Place}
-use Rattle.nf_token.specs.declared.token.Lexeme.{Lexeme}
-use Rattle.nf_grammar.specs.Gram.{token, gives, bind, either, only_where, many, rule, ◌>>=◌}
+use Rattle.nf_grammar.specs.Gram.{gives, rule, ◌>>=◌}
 use Rattle.nf_ast.specs.Tree as tree
-use Rattle.nf_ast.specs.Tree.{Tree, empty, cons}
+use Rattle.nf_ast.specs.Tree.{Tree, empty}
 use Rattle.nf_exprs.specs.Level.{Level, Expr, Args, Body, Script, Top, Process, Directive, Input, Inputs, Output, Outputs, Task, Workflow, Parts, Function, Gram}
-use Rattle.nf_exprs.specs.Rules.{rules, directive, directive_args, one_name, input, some_input, input_section, output_value, some_output, one_output, options, output_section, body_section, task, string, sections, second_inputs, stub_end, task_end, process, emit, emits, taken_names, take_section, emit_section, workflow_parts, workflow_inside, workflow, function, parameter, dsl, tops, maybe_section, headed}
+use Rattle.nf_exprs.specs.Rules.{rules, one_name, output_value, one_output, options, body_section, second_inputs, stub_end, emit, parameter, tops, maybe_section, headed}
 use Rattle.fmt_tokens.specs.Fits.{Fits}
 use Rattle.fmt_trees.specs.Shape as shape
 use Rattle.fmt_trees.specs.Shape.{Sort, Shaped, row, maybe, section, expr, a_name, arg, statement as a_statement, label as a_label, directive as a_directive, input as an_input, inputs as some_inputs, output_value as a_value, outputs as some_outputs, output as an_output, task as a_task, emit as an_emit, inside, top}
 use Rattle.fmt_spellable.specs.Made.{Made, sort_of}
-use Rattle.fmt_spellable.proofs.Steps.{Good, Any, seq, skip, ret, arms, tested, turns, weaker, either_of, skipped, closing, enclosed, ended, some_listed, all_listed, in_series, AtLeastOne, these, all_of, none_made, snoc_made}
+use Rattle.fmt_spellable.proofs.Steps.{Good, Any, seq, skip, ret, arms, tested, turns, weaker, either_of, skipped, closing, enclosed, ended, some_listed, all_listed, in_series, AtLeastOne, these, none_made, snoc_made}
 use Rattle.fmt_spellable.proofs.Tokens.{a_name_good, string_good, name_tree}
 use Rattle.fmt_spellable.proofs.Pieces.{template_task_good}
-use Rattle.fmt_spellable.proofs.Exprs.{label_good, assigned_good}
+use Rattle.fmt_spellable.proofs.Exprs.{label_good}
 
 -- ---- what is made of parts
 

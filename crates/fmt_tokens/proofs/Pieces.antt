@@ -17,7 +17,7 @@ use Rattle.nf_lexer.specs.Separators as s
 use Rattle.nf_lexer.specs.Place.{place_of}
 use Rattle.nf_token.specs.Spellings.{closing}
 use Rattle.nf_writer.specs.Ink as ink
-use Rattle.nf_writer.specs.Ink.{Ink, ink_text, inked, letter, with_letter, byte_text, escaped}
+use Rattle.nf_writer.specs.Ink.{Ink, inked, letter, with_letter, byte_text, escaped}
 use Rattle.nf_writer.specs.Lines.{Layout, inline, is_inline}
 use Rattle.fmt_tokens.specs.Leads.{Leads}
 use Rattle.fmt_tokens.specs.Bits.{Bit, token, Gives}

@@ -62,7 +62,7 @@ abbrev pub is_apart : List ℕ → Bool
 is_apart [] = true
 is_apart (b ∷ rest) = parts_tokens b
 
--- these bytes make no token before them longer
+-- a name, a keyword or a number ends before these bytes
 abbrev pub Apart : List ℕ → Type 0
 Apart rest = is_apart rest ≡ true
 

@@ -20,7 +20,7 @@ use Rattle.fmt_trees.specs.Bare.{bare}
 use Rattle.fmt_trees.specs.Shape as sort
 use Rattle.fmt_trees.specs.Shape.{Shaped}
 use Rattle.fmt_trees.proofs.TreeTokens as tree_tokens
-use Rattle.fmt_trees.proofs.TreeTokens.{spell, held, mark, word, lx, separator, else_before, breaks, maybe_separator}
+use Rattle.fmt_trees.proofs.TreeTokens.{spell, mark, separator, else_before, breaks, maybe_separator}
 use Rattle.fmt_trees.proofs.Own.{IsRead, whole}
 use Rattle.fmt_trees.proofs.Prims.{prim_open}
 use Rattle.fmt_trees.proofs.Rows.{Each, none, some, a_row, no_row, Closes, by_comma, by_round, by_square, by_brace, by_separator, by_arrow, by_nothing, Plain, Part, listed_read, series_read}

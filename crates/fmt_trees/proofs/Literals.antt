@@ -16,7 +16,7 @@ use Rattle.nf_exprs.specs.Rules.{rules, squared, template_of, no_part, part_next
 use Rattle.nf_writer.specs.Lines.{Layout, inline}
 use Rattle.fmt_trees.specs.Bare.{bare, nowhere}
 use Rattle.fmt_trees.proofs.TreeTokens as tree_tokens
-use Rattle.fmt_trees.proofs.TreeTokens.{spell, held, mark, lx, colon_alone}
+use Rattle.fmt_trees.proofs.TreeTokens.{spell, mark, lx, colon_alone}
 use Rattle.fmt_trees.proofs.Levels.{ends}
 use Rattle.fmt_trees.proofs.Own.{IsRead, whole}
 use Rattle.fmt_trees.proofs.Rows.{Each, none, some, no_row, joined_snoc, joined_nothing, snoc_row, Closes, by_comma, by_round, by_square, by_brace, by_separator, by_arrow, by_nothing, Plain, listed_read}

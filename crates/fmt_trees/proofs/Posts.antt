@@ -7,7 +7,7 @@ use Rattle.nf_token.specs.declared.token.Lexeme.{Lexeme}
 use Rattle.nf_grammar.specs.Gram.{rule}
 use Rattle.nf_grammar.specs.Reads.{Reads, reads_token, reads_gives, reads_bind, reads_left, reads_right, reads_where, reads_more, reads_rule}
 use Rattle.nf_ast.specs.Tree as tree
-use Rattle.nf_ast.specs.Tree.{Tree, empty, cons}
+use Rattle.nf_ast.specs.Tree.{Tree}
 use Rattle.nf_exprs.specs.Level.{Args, Arg}
 use Rattle.nf_exprs.specs.Tokens.{no_start}
 use Rattle.nf_exprs.specs.Rules.{rules, maybe, post_part, no_comma}

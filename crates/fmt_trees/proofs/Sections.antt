@@ -12,7 +12,7 @@ use Rattle.nf_grammar.specs.Reads.{Reads, reads_token, reads_gives, reads_bind, 
 use Rattle.nf_ast.specs.declared.marks.PrefixOperator.{PrefixOperator}
 use Rattle.nf_ast.specs.declared.marks.PrefixOperator.TheVariants as f
 use Rattle.nf_ast.specs.Tree as tree
-use Rattle.nf_ast.specs.Tree.{Tree, empty, cons, snoc}
+use Rattle.nf_ast.specs.Tree.{Tree, cons}
 use Rattle.nf_exprs.specs.Level.{Body, Arg, Directive, Input, Output, Task, Gram}
 use Rattle.nf_exprs.specs.Tokens.{mark_of, no_option, body_ends, outputs_end}
 use Rattle.nf_exprs.specs.Rules.{rules, separated, listed, comma_then, no_comma, directive_args, some_input, some_output, output_value, option_next, emit, body_section}
@@ -23,7 +23,7 @@ use Rattle.fmt_trees.specs.Bare.{bare}
 use Rattle.fmt_trees.specs.Shape as sort
 use Rattle.fmt_trees.specs.Shape.{Shaped}
 use Rattle.fmt_trees.proofs.TreeTokens as tree_tokens
-use Rattle.fmt_trees.proofs.TreeTokens.{spell, held, mark, word, lx, separator, prefix_token, maybe_separator}
+use Rattle.fmt_trees.proofs.TreeTokens.{spell, held, mark, lx, separator, prefix_token}
 use Rattle.fmt_trees.proofs.TopTokens.{part_of, lines_of, commas_of, listed_of, args_of, directive_of, value_of, some_value_of, output_of, task_of, statements_of, body_of}
 use Rattle.fmt_trees.proofs.Own.{IsRead}
 use Rattle.fmt_trees.proofs.Rows.{Each, none, some, IsRow, no_row, a_row, joined, joined_snoc, joined_nothing, snoc_row, Closes, by_comma, by_round, by_separator, listed_read, more_closes}

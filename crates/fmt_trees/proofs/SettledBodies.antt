@@ -20,9 +20,9 @@ use Rattle.nf_printer.specs.Exprs.{inks, equals}
 use Rattle.fmt_tokens.specs.Bits.{Bit, token}
 use Rattle.fmt_tokens.specs.InkTokens.{next_goes_on}
 use Rattle.fmt_trees.specs.Shape as sort
-use Rattle.fmt_trees.specs.Shape.{Sort, Shaped}
+use Rattle.fmt_trees.specs.Shape.{Shaped}
 use Rattle.fmt_trees.proofs.TreeTokens as tree_tokens
-use Rattle.fmt_trees.proofs.TreeTokens.{spell, mark, word, lx, breaks, maybe_separator}
+use Rattle.fmt_trees.proofs.TreeTokens.{spell, mark, lx, breaks, maybe_separator}
 use Rattle.fmt_trees.proofs.Rows.{Each, none, some}
 use Rattle.fmt_trees.proofs.Fronts.{Front, front, by_other, by_word, by_more, a_number, a_plain, a_pattern, a_template, a_true, a_false, a_null, a_not, a_minus, a_round, a_square, a_brace}
 use Rattle.fmt_trees.proofs.Settling.{Any, After, Await, told, two, after_any, await_any, any_two, any_three, any_four, any_mark, more_mark, any_token, after_line, await_line, after_separator, first_goes_on}

@@ -13,7 +13,7 @@ use Rattle.nf_ast.specs.declared.marks.InfixOperator.TheVariants as i
 use Rattle.nf_ast.specs.declared.marks.PrefixOperator.{PrefixOperator}
 use Rattle.nf_ast.specs.declared.marks.PrefixOperator.TheVariants as f
 use Rattle.nf_ast.specs.Tree as tree
-use Rattle.nf_ast.specs.Tree.{Tree, empty, cons}
+use Rattle.nf_ast.specs.Tree.{Tree, cons}
 use Rattle.nf_writer.specs.Ink as ink
 use Rattle.nf_writer.specs.Ink.{Ink, spaced}
 use Rattle.nf_printer.specs.Levels.{needs, within, round, left_level, right_level, prints}
@@ -23,7 +23,7 @@ use Rattle.nf_printer.specs.Exprs.{inks, infix_inks, comma, colon, equals}
 use Rattle.fmt_tokens.specs.Bits.{Bit, token}
 use Rattle.fmt_tokens.specs.InkTokens.{next_goes_on}
 use Rattle.fmt_trees.proofs.TreeTokens as tree_tokens
-use Rattle.fmt_trees.proofs.TreeTokens.{spell, held, mark, word, lx, separator, infix_token, breaks, maybe_separator}
+use Rattle.fmt_trees.proofs.TreeTokens.{spell, held, mark, lx, separator, infix_token}
 use Rattle.fmt_trees.proofs.Rows.{Each, none, some}
 use Rattle.fmt_trees.proofs.Settling.{Any, After, Await, told, after_any, any_two, any_three, any_five, any_mark, any_token, held_told}
 

@@ -9,7 +9,7 @@ use Rattle.nf_token.specs.declared.token.Lexeme.{Lexeme}
 use Rattle.nf_token.specs.declared.token.PlainKind.{PlainKind}
 use Rattle.nf_token.specs.declared.token.TemplateKind.{TemplateKind}
 use Rattle.nf_ast.specs.Tree as tree
-use Rattle.nf_ast.specs.Tree.{Tree, empty, cons}
+use Rattle.nf_ast.specs.Tree.{Tree, cons}
 use Rattle.nf_writer.specs.Ink as ink
 use Rattle.nf_writer.specs.Ink.{Ink}
 use Rattle.nf_printer.specs.Levels.{round, prints, begins_round}
@@ -23,7 +23,7 @@ use Rattle.fmt_tokens.specs.InkTokens.{inks_bits, next_goes_on, ink_tokens}
 use Rattle.fmt_trees.specs.Shape as sort
 use Rattle.fmt_trees.specs.Shape.{Sort, Shaped}
 use Rattle.fmt_trees.proofs.TreeTokens as tree_tokens
-use Rattle.fmt_trees.proofs.TreeTokens.{spell, held, mark, word, lx, separator}
+use Rattle.fmt_trees.proofs.TreeTokens.{held, mark, word, lx, separator}
 use Rattle.fmt_trees.proofs.TopTokens.{part_of, lines_of, commas_of, section_of, statements_of, body_of, args_of, directive_of, value_of, some_value_of, output_of, task_of, sections_of, inside_of, name_of, braced_of, top_of, script_of}
 use Rattle.fmt_trees.proofs.Rows.{Each, none, some}
 use Rattle.fmt_trees.proofs.Holds.{Perhaps, nothing, just, Section, in_section}

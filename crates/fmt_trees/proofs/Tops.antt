@@ -8,19 +8,19 @@ use Rattle.nf_grammar.specs.Gram.{rule}
 use Rattle.nf_grammar.specs.Parts.{no_next}
 use Rattle.nf_grammar.specs.Reads.{Reads, reads_token, reads_gives, reads_bind, reads_left, reads_right, reads_where, reads_rule}
 use Rattle.nf_ast.specs.Tree as tree
-use Rattle.nf_ast.specs.Tree.{Tree, empty, cons}
+use Rattle.nf_ast.specs.Tree.{Tree}
 use Rattle.nf_exprs.specs.Level.{Directive, Inputs, Output, Outputs, Task, Top, Script}
 use Rattle.nf_exprs.specs.Tokens.{word_of, directives_end, no_start, body_ends, separator}
 use Rattle.nf_exprs.specs.Tokens as tokens
-use Rattle.nf_exprs.specs.Rules.{rules, kind, maybe, maybe_section, second_inputs, stub_end, sections, directives, closed, closes, names, some_input, input_words, output_words, no_word, no_top, emit, workflow_inside, past_separator, print}
+use Rattle.nf_exprs.specs.Rules.{rules, kind, maybe, maybe_section, second_inputs, stub_end, sections, closed, names, some_input, input_words, output_words, no_word, no_top, emit, workflow_inside}
 use Rattle.nf_exprs.specs.Rules as grammar
 use Rattle.nf_printer.specs.Tops.{inside}
 use Rattle.nf_writer.specs.Lines.{outside}
 use Rattle.fmt_trees.specs.Bare.{bare, nowhere}
 use Rattle.fmt_trees.specs.Shape as sort
-use Rattle.fmt_trees.specs.Shape.{Sort, Shaped}
+use Rattle.fmt_trees.specs.Shape.{Shaped}
 use Rattle.fmt_trees.proofs.TreeTokens as tree_tokens
-use Rattle.fmt_trees.proofs.TreeTokens.{spell, mark, word, lx}
+use Rattle.fmt_trees.proofs.TreeTokens.{mark}
 use Rattle.fmt_trees.proofs.TopTokens.{part_of, lines_of, section_of, body_of, directive_of, some_value_of, output_of, task_of, sections_of, inside_of, name_of, top_of, script_of}
 use Rattle.fmt_trees.proofs.Own.{IsRead}
 use Rattle.fmt_trees.proofs.Rows.{Each, none, some, no_row, by_round, by_separator}

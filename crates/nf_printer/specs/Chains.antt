@@ -76,7 +76,7 @@ parts_inks (x ∷ xs) l = part_inks x l ++ parts_inks xs l
 
 -- ---- conditional expressions; the number is how many `?` wait for their `:`, and the test whether any operator came before
 
--- a `:` that no `?` waits for is printed as `?:`, with all before it as its left operand
+-- whether this is a `:` that no `?` waits for, after another operator; it is printed as `?:`, with all before it in brackets
 abbrev pub is_late : BranchOperator → ℕ → Bool → Bool
 is_late Else zero begun = begun
 is_late _ n begun = false
@@ -100,7 +100,7 @@ branch_inks Elvis n begun = spaced (mark m.Elvis)
 branch_inks Else zero begun = bracket begun m.CloseRound ++ spaced (mark m.Elvis)
 branch_inks Else (suc n) begun = spaced (mark m.Colon)
 
--- a `(` before the first operand for each `:` that no `?` waits for
+-- a `(` before the first operand for each `:` that is late
 abbrev pub opens_late : List BranchTree → ℕ → Bool → List Ink
 opens_late [] n begun = []
 opens_late (x ∷ xs) n begun = bracket (is_late x.mark n begun) m.OpenRound ++ opens_late xs (asked_after x.mark n) true

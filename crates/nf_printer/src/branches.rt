@@ -44,7 +44,7 @@ impl BranchState {
         BranchState { asked, begun: true }
     }
 
-    /// Whether this is a `:` that no `?` waits for. It is printed as `?:`, and all before it is its left operand, in brackets.
+    /// Whether this is a `:` that no `?` waits for, and an operator came before. It is printed as `?:`, with all before it in brackets.
     fn is_late(self, operator: BranchOperator) -> bool
         ensures { result ≡ is_late_of operator self.asked self.begun }
     {
@@ -96,7 +96,7 @@ pub fn holds(expr: &Expr, after: &[Branch], state: BranchState) -> bool
     }
 }
 
-/// Whether some `:` has no `?` that waits for it, so that a `(` opens before the first operand.
+/// Whether some `:` is late, so that a `(` opens before the first operand.
 pub fn has_late(rest: &[Branch]) -> bool
     ensures { not result ≡ none_late_of (map view_branch rest.now) 0 false }
 {
@@ -110,7 +110,7 @@ pub fn has_late(rest: &[Branch]) -> bool
     false
 }
 
-/// Prints a `(` before the first operand for each `:` that no `?` waits for.
+/// Prints a `(` before the first operand for each `:` that is late.
 pub fn open_late(rest: &[Branch], out: &mut Writer) -> Result<(), Mem>
     ensures { OnOk result (out.new ≡ out.old ++ inked (opens_late_of (map view_branch rest.now) 0 false)) }
 {

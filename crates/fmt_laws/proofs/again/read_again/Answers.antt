@@ -2,7 +2,6 @@ use Rattle.std.proofs.Common.{◌∙◌, subst}
 use Rattle.nf_lexer.specs.Tokens.{IsTokensOf, Refuses}
 use Rattle.nf_ast.specs.Tops.{view_script}
 use Rattle.nf_printer.specs.Tops.{canonical}
-use Rattle.fmt_trees.specs.Again.{SpellsAgain}
 use Rattle.fmt_laws.proofs.Reading.{spelled_again, lex_limit, read_of}
 use Rattle.fmt_laws.proofs.again.read_again.Goals as goal
 
