@@ -186,7 +186,7 @@ within n e = leb-false 256 n e
 beyond : (n : ℕ) → row.past_chain n ≡ true → 256 ≤ n
 beyond n e = leb-true 256 n e
 
--- what comes after the mark leads to how the whole ends
+-- what comes after the operator leads to how the whole ends
 module _ (d : ℕ) (fs : List Frame) (e : Tree) (nested : ℕ) (kept : List ℕ) (ts after us : List Lexeme) (p : Place) where
   abbrev pub here : ℕ → Type 0
   here n = Reading d (record { frames = fs; expr = e }) n kept ts us
@@ -255,7 +255,7 @@ turned_le q (asked p c ∷ fs) e few = few
 turned_le q (answered p c a ∷ fs) e few = turned_le q fs (tree.conditional p c a e) (omega (arith, few))
 turned_le q (preferred p a ∷ fs) e few = turned_le q fs (tree.elvis p a e) (omega (arith, few))
 
--- so many stand round what comes after a mark within the limit
+-- so many stand round what comes after an operator within the limit
 pub next_within : (d : ℕ) (a : Tree) (xs ys : List Branch) (y : Branch) (nested next : ℕ) (kept left : List ℕ) (ts r2 us : List Lexeme) (p : Place) (mark : BranchOperator) (x : Tree) → past_branch mark nested ≡ false → nested ≤ 256 → ys ≡ xs ++ y ∷ [] → view_branch y ≡ record { place = p; mark = mark; expr = x } → Reading d (seen a xs) nested kept ts us → Reading d (seen a ys) next left r2 us → next ≤ 256
 next_within d a xs ys y nested next kept left ts r2 us p mark x few le e f old new =
     let s = seen a xs in
@@ -279,7 +279,7 @@ seen_goes d a xs nested next kept left ts after us p mark due few some k n r o s
 pub seen_dives : (d : ℕ) (a : Tree) (xs : List Branch) (nested : ℕ) (kept : List ℕ) (ts after us : List Lexeme) (p : Place) (mark : BranchOperator) (due : Bool) → past_branch mark nested ≡ true → TakesBranch due mark ts p after → Reading d (seen a xs) nested kept ts us → Outcome (rule (Expr d 0)) us (too_deep (length ts))
 seen_dives d a xs nested kept ts after us p mark due many k r = branch_dives d (seen a xs).frames (seen a xs).expr nested kept ts after us p mark due many k r
 
--- a mark is one token
+-- an operator is one token
 pub branch_shorter : (due : Bool) (mark : BranchOperator) (ts after : List Lexeme) (p : Place) → TakesBranch due mark ts p after → length ts ≡ suc (length after)
 branch_shorter due Then ts after p k = ap length k.0.2
 branch_shorter due Else ts after p k = ap length k.0.2

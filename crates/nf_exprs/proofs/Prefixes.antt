@@ -1,4 +1,4 @@
--- Marks before an operand.
+-- Operators before an operand.
 use Rattle.std.proofs.Common.{◌≡◌, ℕ, suc, ◌≤◌, ◌<◌, true, List, [], ◌∷◌, ◌++◌, length, refl, sym, subst, ap}
 use Rattle.nf_value.specs.declared.place.Place.{Place}
 use Rattle.nf_token.specs.declared.token.Lexeme.{Lexeme}
@@ -48,7 +48,7 @@ module _ (d n : ℕ) (ts after : List Lexeme) (p : Place) (mark : PrefixOperator
   unfolding rules
   prefix_dives h = at_deep takes_it.2 (ruled (first_arm (dives (sinks (long n h) takes_it.1)) no_post_here))
 
-  -- after marks that were read
+  -- after operators that were read
   pub prefix_next : (ms : List Prefix) (us : List Lexeme) → n < 256 → Leads (rule (Pre d n)) ts (prefixes ms) (rule (Pre d 0)) us → Leads (rule (Pre d (suc n))) after (prefixes (ms ++ (record { place = p; mark = mark }) ∷ [])) (rule (Pre d 0)) us
   prefix_next ms us h before =
       let next = prefix_leads h in
@@ -65,11 +65,11 @@ module _ (d n : ℕ) (ts after : List Lexeme) (p : Place) (mark : PrefixOperator
 pub first_leads : (g : Gram) (ts : List Lexeme) (ms : List Prefix) → ms ≡ [] → Leads g ts (prefixes ms) g ts
 first_leads g ts ms e = subst (λ l. Leads g ts (prefixes l) g ts) (sym e) (same_leads g ts)
 
--- no mark stands here
+-- no operator stands here
 pub prefix_none : (d n : ℕ) (ts : List Lexeme) (o : Out Lexeme Tree) → no_next prefix_operator ts ≡ true → Outcome (rule (Post d)) ts o → Outcome (rule (Pre d n)) ts o
 unfolding rules
 prefix_none d n ts o e p = ruled (second_arm (off e) p)
 
--- the chain after the marks
+-- the chain after the operators
 pub prefix_ends : (d n : ℕ) (ts us rest : List Lexeme) (ms : List Prefix) (v e : Tree) → no_next prefix_operator ts ≡ true → Leads (rule (Pre d n)) ts (prefixes ms) (rule (Pre d 0)) us → e ≡ prefixes ms v → Outcome (rule (Post d)) ts (got v rest (length rest)) → Outcome (rule (Pre d 0)) us (got e rest (length rest))
 prefix_ends d n ts us rest ms v e none before is q = subst (λ x. Outcome (rule (Pre d 0)) us (got x rest (length rest))) (sym is) (before.goes v rest (prefix_none d n ts (got v rest (length rest)) none q))

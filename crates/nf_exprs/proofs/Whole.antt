@@ -1,4 +1,4 @@
--- An expression of one part without marks, and where a reading of such a part stands.
+-- An expression of one part without operators, and where a reading of such a part stands.
 use Rattle.std.proofs.Common.{◌≡◌, ℕ, true, List, ◌∷◌, length, refl, ap, ◌∙◌}
 use Rattle.std.specs.Prelude.{◌&&◌}
 use Rattle.nf_value.specs.declared.place.Place.{Place}
