@@ -30,8 +30,8 @@ pub(crate) enum Subject {
     Safe(Value, Place, Txt),
     /// `Math.name`, which isn't read yet.
     Math(Place, Txt),
-    /// A call with one argument less than this number, and its result. It has no result yet where a closure comes next, which is the argument that is
-    /// missing.
+    /// A call, the number of its arguments (counting one more, the closure that may come next), and its result. It has no result yet where that closure
+    /// comes next.
     Call(Called, usize, Option<Result<Value, EvalFault>>),
 }
 
