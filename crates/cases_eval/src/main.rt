@@ -1,5 +1,5 @@
 //! Evaluates a table of expressions. Standard input has a row a line: an expression, or `CLOSURE <- LIST` for a closure that is applied to
-//! the items of a list, and either after `in a process: `. Each row is printed with its value, where a text stands in single marks, or
+//! the items of a list, and either after `in a process: `. Each row is printed with its value, where a text stands in single quotes, or
 //! with its fault and the fault's place. After `uses: ` stands an expression that is printed with what it uses, and after `unbound: ` one with the place
 //! of the first that nothing binds. Empty lines and lines that begin with `#` are printed as they are.
 #![tactic(auto)]
@@ -77,7 +77,7 @@ fn shown(alloc: Global, answer: Result<Value, EvalRefusal>) -> Result<String> {
     }
 }
 
-/// The text of a value, with single marks round one that is a text itself.
+/// The text of a value, with single quotes round one that is a text itself.
 fn shown_value(alloc: Global, value: &Value) -> Result<String> {
     let text = text_of(alloc, value)?;
     let text = text.as_str();

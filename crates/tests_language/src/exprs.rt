@@ -6,8 +6,8 @@ use nf_lexer::tokens;
 use std::alloc::Global;
 use std::test::Fail;
 
-/// A bracket and its closing, how many of them, and how reading ends. Of tokens there are 256 marks, 2 brackets, 512 of parts, 2556 of the
-/// levels and 512 of `?:` for each bracket, and one name; of bytes, 256 marks stand before each bracket.
+/// A bracket and its closing, how many of them, and how reading ends. Of tokens there are 256 operators before it, 2 brackets, 512 of parts, 2556 of the
+/// levels and 512 of `?:` for each bracket, and one name; of bytes, 256 operators stand before each bracket.
 const DEEPEST: &[(&str, &str, u32, &str)] = &[
     ("(", ")", 64, "ok 245633 of 245633"),
     ("{", "}", 64, "ok 245633 of 245633"),

@@ -65,7 +65,7 @@ fn repeated(alloc: Global, part: &str, count: u32) -> Result<String, Fail> {
     Ok(text)
 }
 
-/// So many brackets inside each other, each after 256 marks, and with 256 parts and a full chain of each kind after it.
+/// So many brackets inside each other, each after 256 operators, and with 256 parts and a full chain of each kind after it.
 pub fn deepest(alloc: Global, open: &str, close: &str, brackets: u32) -> Result<String, Fail> {
     let mut opens = repeated(alloc, "!-", 128)?;
     opens.push_str(open)?;

@@ -44,7 +44,7 @@ fn read(alloc: Global, text: &str) -> Result<Script, Fail> {
 }
 
 /// A bracket and its closing, how many bytes the canonical text of `workflow { channel.of(..) }` round the deepest expression has for each
-/// bracket, and how many besides. For each bracket: 256 marks and 512 bytes of parts; of the levels 255 times ` * a`, ` + a`, ` | a`, ` && a`
+/// bracket, and how many besides. For each bracket: 256 operators before it and 512 bytes of parts; of the levels 255 times ` * a`, ` + a`, ` | a`, ` && a`
 /// and ` || a`, which are 5610, and `..a`, ` < a` and ` == a`, which are 12; 256 times ` ?: a`, which are 1280. That is 7670. A closure has
 /// `{ ` and ` }` besides; a round bracket 2, but the innermost, round a name alone, isn't printed. Outside are the name `a`, `workflow {` and
 /// its line end, four blanks, `channel.of(`, `)` and its line end, `}` and its line end: 31.
