@@ -171,7 +171,7 @@ module _ (env : Env) where
   pub form_ends : (due : Built Form) (fault : FormFault) (e : End) → Builds (view_plan env.titles env.answer) due (Err fault) → e ≡ end_of_form fault → Plans env due (Err e)
   form_ends due fault e h is = subst (FormRefused due) (sym is) (form_refused due fault h)
 
--- ---- over some patterns that `regex` accepts
+-- ---- over some patterns that the grammar of `regex` reads
 
 module _ (titles : List (List ℕ)) (answer : ℕ → List Plain → Option Plain) where
   abbrev around : List (List ℕ) → Env

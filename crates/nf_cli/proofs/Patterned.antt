@@ -1,4 +1,4 @@
--- Statements over some set of patterns that `regex` accepts.
+-- Statements over some set of patterns that the grammar of `regex` reads.
 use Rattle.std.proofs.Common.{ℕ, List, [], Option, rules}
 use Rattle.nf_value.specs.Plain.{Plain}
 use Rattle.nf_placed.specs.Scope.{Env}

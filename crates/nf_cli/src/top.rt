@@ -31,9 +31,10 @@ pub const LANES: usize = 16;
 ///
 /// `natives` are the functions that the program adds to the language. A script's expressions find these and no other names.
 ///
-/// If the host reveals its files, the contract is about those; otherwise about some files. It assumes some set of patterns
-/// that `regex` accepts: no contract says which ones `regex` refuses for their size. Written bytes are described if the sink
-/// reveals them, and the tasks' reports if the lane reveals its world. Any call may end by `End::Mem`; then it wrote nothing.
+/// If the host reveals its files, the contract is about those; otherwise about some files. It speaks of some set of patterns
+/// that the grammar of `regex` reads: no contract says which of them `regex` refuses for their size. Written bytes are
+/// described if the sink reveals them, and the tasks' reports if the lane reveals its world. Any call may end by `End::Mem`;
+/// then it wrote nothing.
 pub fn nf_main<H: Host, N: Natives, L: Lane, O: Sink>(
     alloc: Global,
     words: &[String],
@@ -49,7 +50,7 @@ pub fn nf_main<H: Host, N: Natives, L: Lane, O: Sink>(
     // The status is the end's.
     ensures status { result.status ≡ status_of result.end }
 
-    // For the host's files and some patterns that `regex` accepts (`EndsOver`):
+    // For the host's files and some patterns that the grammar of `regex` reads (`EndsOver`):
     // - The end follows from the command line, the files and the history. Each end has its cause, and each cause its end,
     //   unless the host failed or memory ran out.
     // - The history is lawful. Each Start is one run of a lane; each Finish has a job of its own that was run, and its report.

@@ -1,4 +1,4 @@
--- What holds in a scope's environment holds over some patterns that `regex` accepts.
+-- What holds in a scope's environment holds over some patterns that the grammar of `regex` reads.
 use Rattle.std.proofs.Common.{ℕ, List, [], Option, Result, Err, subst}
 use Rattle.nf_value.specs.Plain.{Plain}
 use Rattle.nf_ast.specs.Tree.{Tree}
@@ -14,7 +14,7 @@ use Rattle.nf_forms.specs.Form.{form_of}
 use Rattle.nf_forms.specs.View.{view_plan}
 use Rattle.nf_forms.proofs.Patterned.{none_built}
 
--- a script's plan, over some patterns that `regex` accepts
+-- a script's plan, over some patterns that the grammar of `regex` reads
 abbrev pub PlansOver : List (List ℕ) → (ℕ → List Plain → Option Plain) → Tree → Result Plan FormFault → Type 0
 PlansOver titles answer tree r = OverBuilt titles answer (λ env. Builds (view_plan env.titles env.answer) (form_of env tree) r)
 

@@ -1,4 +1,4 @@
--- Environments without names, with patterns that `regex` accepts.
+-- Environments without names, with patterns that the grammar of `regex` reads.
 use Rattle.std.proofs.Common.{◌≡◌, ℕ, List, [], ◌∷◌, ◌++◌, Option, refl, ap, ◌∙◌}
 use Rattle.std.proofs.lemmas.List.Elements.{All-nil, All-push}
 use Rattle.nf_value.specs.Plain.{Plain}

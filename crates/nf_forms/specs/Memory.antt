@@ -11,6 +11,6 @@ use Rattle.nf_forms.specs.Values.{AreBuilt, bare}
 abbrev pub view_around : ScriptScope → List (List ℕ) → (ℕ → List Plain → Option Plain) → Env
 view_around a titles answer = env_of a.env titles answer
 
--- it has no names, and only patterns that `regex` accepts
+-- it has no names, and only patterns that the grammar of `regex` reads
 abbrev pub IsBare : memory.Env → Type 0
 IsBare e = (patterns : List (List ℕ)) × AreBuilt patterns × ((titles : List (List ℕ)) (answer : ℕ → List Plain → Option Plain) → env_of e titles answer ≡ bare titles answer patterns)

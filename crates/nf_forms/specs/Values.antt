@@ -23,7 +23,7 @@ AreBuilt patterns = All (λ s. IsPattern (wrapped s)) patterns
 abbrev pub bare : List (List ℕ) → (ℕ → List Plain → Option Plain) → List (List ℕ) → Env
 bare titles answer patterns = record { names = []; captured = []; functions = []; patterns = patterns; titles = titles; answer = answer; in_process = false }
 
--- P holds in the environment with some set of patterns that `regex` accepts
+-- P holds in the environment with some set of patterns that the grammar of `regex` reads
 abbrev pub OverBuilt : List (List ℕ) → (ℕ → List Plain → Option Plain) → (Env → Type 0) → Type 0
 OverBuilt titles answer P = (patterns : List (List ℕ)) × AreBuilt patterns × P (bare titles answer patterns)
 

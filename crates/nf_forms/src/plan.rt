@@ -68,7 +68,7 @@ pub struct Tops {
 /// `Mem` if there is no memory for the plan.
 pub fn plan_of<N: Natives>(alloc: Global, script: &Script, natives: &N) -> Result<Plan, FormFault>
     requires { N.keeps natives.now }
-    // Over some patterns that `regex` accepts, the plan is the script's form.
+    // Over some patterns that the grammar of `regex` reads, the plan is the script's form.
     ensures { OverBuilt (N.titles natives.now) (N.answer natives.now) (λ env. Builds (view_plan env.titles env.answer) (form_of env (view_script script.now)) result) }
 {
     let around = ScriptScope::of_script(alloc, script)?;
