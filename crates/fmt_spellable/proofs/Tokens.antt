@@ -8,8 +8,8 @@ use Rattle.nf_token.specs.declared.token.TemplateKind.{TemplateKind}
 use Rattle.nf_token.specs.declared.token.Token.{Token}
 use Rattle.nf_token.specs.declared.token.Token.TheVariants as t
 use Rattle.nf_token.specs.declared.token.Lexeme.{Lexeme}
-use Rattle.nf_ast.specs.declared.marks.InfixOperator.{InfixOperator}
-use Rattle.nf_ast.specs.declared.marks.PrefixOperator.{PrefixOperator}
+use Rattle.nf_ast.specs.declared.operators.InfixOperator.{InfixOperator}
+use Rattle.nf_ast.specs.declared.operators.PrefixOperator.{PrefixOperator}
 use Rattle.nf_ast.specs.Tree as tree
 use Rattle.nf_ast.specs.Tree.{Tree, empty, cons}
 use Rattle.nf_grammar.specs.Gram.{token}

@@ -10,7 +10,7 @@ use Rattle.nf_token.specs.declared.token.Token.{Token}
 use Rattle.nf_token.specs.declared.token.Token.TheVariants as t
 use Rattle.nf_token.specs.declared.token.Lexeme.{Lexeme}
 use Rattle.nf_grammar.specs.Parts.{no_next, none_of}
-use Rattle.nf_ast.specs.declared.marks.InfixOperator.{InfixOperator}
+use Rattle.nf_ast.specs.declared.operators.InfixOperator.{InfixOperator}
 use Rattle.nf_ast.specs.Tree.{Tree}
 use Rattle.nf_exprs.specs.declared.band.Band.{Band}
 use Rattle.nf_exprs.specs.Tokens.{Kind, mark_at, mark_of, keyword_at, keyword_of, name_at, name_of, word_at, word_of, separator_at, literal_at, plain_at, two_at, open_template_at, close_template_at, template_text_at, template_text, open_hole_at, open_hole, close_hole_at, same_mark, same_keyword, is_two, infix_operator, waits, infix_of, prefix_operator_at, on_first, starts, no_start, is_next, after, labels, body_ends, directives_end, no_post, items_end, outputs_end, no_option, params_from, no_params, at_end, prints, logs, at_place, separator}

@@ -5,8 +5,8 @@ use Rattle.nf_token.specs.declared.token.Lexeme.{Lexeme}
 use Rattle.nf_grammar.specs.Gram.{gives, many, rule}
 use Rattle.nf_grammar.specs.Parts.{no_next}
 use Rattle.nf_grammar.specs.Reads.{Reads, reads_token, reads_gives, reads_bind, reads_left, reads_right, reads_where, reads_end, reads_more, reads_rule}
-use Rattle.nf_ast.specs.declared.marks.InfixOperator.{InfixOperator}
-use Rattle.nf_ast.specs.declared.marks.InfixOperator.TheVariants as i
+use Rattle.nf_ast.specs.declared.operators.InfixOperator.{InfixOperator}
+use Rattle.nf_ast.specs.declared.operators.InfixOperator.TheVariants as i
 use Rattle.nf_ast.specs.Tree.{Tree, binary}
 use Rattle.nf_exprs.specs.declared.band.Band.TheVariants as band
 use Rattle.nf_exprs.specs.Level.{Gram, Expr, Operands, Pre, Post, Prim}

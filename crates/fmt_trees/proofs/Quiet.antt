@@ -4,10 +4,10 @@ use Rattle.std.specs.Prelude.{not, ◌&&◌, ◌||◌, codes, bytes_eq, if◌the
 use Rattle.nf_token.specs.declared.token.Mark.TheVariants as m
 use Rattle.nf_token.specs.declared.token.Lexeme.{Lexeme}
 use Rattle.nf_grammar.specs.Parts.{none_of}
-use Rattle.nf_ast.specs.declared.marks.InfixOperator.{InfixOperator}
-use Rattle.nf_ast.specs.declared.marks.InfixOperator.TheVariants as i
-use Rattle.nf_ast.specs.declared.marks.PrefixOperator.{PrefixOperator}
-use Rattle.nf_ast.specs.declared.marks.PrefixOperator.TheVariants as f
+use Rattle.nf_ast.specs.declared.operators.InfixOperator.{InfixOperator}
+use Rattle.nf_ast.specs.declared.operators.InfixOperator.TheVariants as i
+use Rattle.nf_ast.specs.declared.operators.PrefixOperator.{PrefixOperator}
+use Rattle.nf_ast.specs.declared.operators.PrefixOperator.TheVariants as f
 use Rattle.nf_value.specs.declared.place.Place.{Place}
 use Rattle.nf_ast.specs.Tree as tree
 use Rattle.nf_ast.specs.Tree.{Tree}

@@ -9,8 +9,8 @@ use Rattle.nf_token.specs.declared.token.TemplateKind.{TemplateKind}
 use Rattle.nf_grammar.specs.Gram.{rule, many}
 use Rattle.nf_grammar.specs.Parts.{no_next}
 use Rattle.nf_grammar.specs.Reads.{Reads, reads_token, reads_gives, reads_bind, reads_left, reads_right, reads_where, reads_end, reads_more, reads_rule}
-use Rattle.nf_ast.specs.declared.marks.PrefixOperator.{PrefixOperator}
-use Rattle.nf_ast.specs.declared.marks.PrefixOperator.TheVariants as f
+use Rattle.nf_ast.specs.declared.operators.PrefixOperator.{PrefixOperator}
+use Rattle.nf_ast.specs.declared.operators.PrefixOperator.TheVariants as f
 use Rattle.nf_ast.specs.Tree as tree
 use Rattle.nf_ast.specs.Tree.{Tree, cons}
 use Rattle.nf_exprs.specs.Level.{Body, Arg, Directive, Input, Output, Task, Gram}

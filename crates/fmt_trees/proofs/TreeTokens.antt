@@ -7,10 +7,10 @@ use Rattle.nf_token.specs.declared.token.Mark.TheVariants as m
 use Rattle.nf_token.specs.declared.token.Token.{Token}
 use Rattle.nf_token.specs.declared.token.Token.TheVariants as t
 use Rattle.nf_token.specs.declared.token.Lexeme.{Lexeme}
-use Rattle.nf_ast.specs.declared.marks.InfixOperator.{InfixOperator}
-use Rattle.nf_ast.specs.declared.marks.InfixOperator.TheVariants as i
-use Rattle.nf_ast.specs.declared.marks.PrefixOperator.{PrefixOperator}
-use Rattle.nf_ast.specs.declared.marks.PrefixOperator.TheVariants as f
+use Rattle.nf_ast.specs.declared.operators.InfixOperator.{InfixOperator}
+use Rattle.nf_ast.specs.declared.operators.InfixOperator.TheVariants as i
+use Rattle.nf_ast.specs.declared.operators.PrefixOperator.{PrefixOperator}
+use Rattle.nf_ast.specs.declared.operators.PrefixOperator.TheVariants as f
 use Rattle.nf_ast.specs.Tree as tree
 use Rattle.nf_ast.specs.Tree.{Tree}
 use Rattle.nf_printer.specs.Levels.{left_level, right_level, prefix_level, postfix_level, needs, prints}

@@ -3,8 +3,8 @@ use Rattle.std.specs.Prelude.{ℕ, ℤ, Bool, List, ◌∷◌}
 use Rattle.nf_value.specs.declared.place.Place.{Place}
 use Rattle.nf_token.specs.declared.token.PlainKind.{PlainKind}
 use Rattle.nf_token.specs.declared.token.TemplateKind.{TemplateKind}
-use Rattle.nf_ast.specs.declared.marks.InfixOperator.{InfixOperator}
-use Rattle.nf_ast.specs.declared.marks.PrefixOperator.{PrefixOperator}
+use Rattle.nf_ast.specs.declared.operators.InfixOperator.{InfixOperator}
+use Rattle.nf_ast.specs.declared.operators.PrefixOperator.{PrefixOperator}
 use Rattle.nf_ast.specs.Tree as tree
 use Rattle.nf_ast.specs.Tree.{Tree, empty, cons, name}
 

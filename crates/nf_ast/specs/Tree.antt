@@ -1,8 +1,8 @@
 -- What a script is, apart from where it lies in memory.
 use Rattle.std.specs.Prelude.{ℤ, ℕ, Bool, List}
 use Rattle.nf_value.specs.declared.place.Place.{Place}
-use Rattle.nf_ast.specs.declared.marks.InfixOperator.{InfixOperator}
-use Rattle.nf_ast.specs.declared.marks.PrefixOperator.{PrefixOperator}
+use Rattle.nf_ast.specs.declared.operators.InfixOperator.{InfixOperator}
+use Rattle.nf_ast.specs.declared.operators.PrefixOperator.{PrefixOperator}
 use Rattle.nf_token.specs.declared.token.PlainKind.{PlainKind}
 use Rattle.nf_token.specs.declared.token.TemplateKind.{TemplateKind}
 

@@ -1,8 +1,8 @@
 -- The tree of what lies in memory.
 use Rattle.std.specs.Prelude.{ℕ, List, [], ◌∷◌, Option, Some, None, map, option_map}
 use Rattle.nf_value.specs.declared.place.Place.{Place}
-use Rattle.nf_ast.specs.declared.marks.BranchOperator.{BranchOperator}
-use Rattle.nf_ast.specs.declared.marks.BranchOperator.TheVariants as branch
+use Rattle.nf_ast.specs.declared.operators.BranchOperator.{BranchOperator}
+use Rattle.nf_ast.specs.declared.operators.BranchOperator.TheVariants as branch
 use Rattle.nf_ast.specs.declared.expr.Prefix.{Prefix}
 use Rattle.nf_ast.specs.declared.expr.Key.{Key}
 use Rattle.nf_ast.specs.declared.expr.Key.TheVariants as key
@@ -40,12 +40,12 @@ names ns = trees (map name_tree ns)
 -- Operands of one level, joined from the left: each of the list is an operator with an empty left operand.
 abbrev pub operands : Tree → List Tree → Tree
 operands a [] = a
-operands a (tree.binary p mark x b ∷ xs) = operands (tree.binary p mark a b) xs
+operands a (tree.binary p operator x b ∷ xs) = operands (tree.binary p operator a b) xs
 operands a (_ ∷ xs) = operands a xs
 
 abbrev pub prefixes : List Prefix → Tree → Tree
 prefixes [] e = e
-prefixes (x ∷ xs) e = tree.prefix x.place x.mark (prefixes xs e)
+prefixes (x ∷ xs) e = tree.prefix x.place x.operator (prefixes xs e)
 
 -- a part of a chain, which stands on `empty`, put on the expression before it
 abbrev pub applied : Tree → Tree → Tree
@@ -93,13 +93,13 @@ framed p branch.Elvis fs e = preferred p e ∷ fs
 
 pub record BranchTree : Type 0 where
   pub place : Place
-  pub mark : BranchOperator
+  pub operator : BranchOperator
   pub expr : Tree
 
 -- a conditional expression, from its operands in the order of the text, each with the operator before it
 abbrev pub conditional : List Frame → Tree → List BranchTree → Tree
 conditional fs e [] = ended fs e
-conditional fs e (x ∷ xs) = conditional (framed x.place x.mark fs e) x.expr xs
+conditional fs e (x ∷ xs) = conditional (framed x.place x.operator fs e) x.expr xs
 
 -- ---- the arms of a choice
 
@@ -159,10 +159,10 @@ abbrev pub pair_step : Pair-F Tree Tree Tree Tree Tree Tree ArmTree BranchTree T
 pair_step x = tree.pair (key_tree x.key) x.value
 
 abbrev pub operand_step : Operand-F Tree Tree Tree Tree Tree Tree ArmTree BranchTree Tree Tree Tree Tree → Tree
-operand_step x = tree.binary x.place x.mark empty x.expr
+operand_step x = tree.binary x.place x.operator empty x.expr
 
 abbrev pub branch_step : Branch-F Tree Tree Tree Tree Tree Tree ArmTree BranchTree Tree Tree Tree Tree → BranchTree
-branch_step x = record { place = x.place; mark = x.mark; expr = x.expr }
+branch_step x = record { place = x.place; operator = x.operator; expr = x.expr }
 
 abbrev pub postfix_step : Postfix-F Tree Tree Tree Tree Tree Tree ArmTree BranchTree Tree Tree Tree Tree → Tree
 postfix_step (o.Property p n) = tree.property empty (name p n)

@@ -121,7 +121,7 @@ impl Operand {
         ensures { IfOk result (λ o. view_operand o ≡ view_operand self.now) }
     {
         let expr = self.expr.copy(alloc)?;
-        Ok(Operand::new(self.place, self.mark, expr))
+        Ok(Operand::new(self.place, self.operator, expr))
     }
 }
 
@@ -136,7 +136,7 @@ impl Branch {
         ensures { IfOk result (λ b. view_branch b ≡ view_branch self.now) }
     {
         let expr = self.expr.copy(alloc)?;
-        Ok(Branch::new(self.place, self.mark, expr))
+        Ok(Branch::new(self.place, self.operator, expr))
     }
 }
 

@@ -4,7 +4,7 @@ ghost use Rattle.std.specs.Prelude.{◌≡◌, [], map, IfOk, option_map};
 ghost use Rattle.nf_ast.specs.Tree as tree;
 ghost use Rattle.nf_ast.specs.View.{view, views, view_stmts, view_operand, view_branch, view_postfix, view_piece, view_pair, view_arg, view_closure, view_body, view_label, view_stmt, view_arm, trees, operands, conditional, postfix, prefixes, choice, last_arm, params_tree, key_tree, with_name, names};
 
-use crate::marks::{BranchOperator, InfixOperator, PrefixOperator};
+use crate::operators::{BranchOperator, InfixOperator, PrefixOperator};
 use nf_token::{PlainKind, TemplateKind};
 use nf_value::{Mem, Place, Txt};
 use std::alloc::Global;
@@ -83,7 +83,7 @@ pub struct Prefix {
     /// The place of the operator.
     pub place: Place,
     /// The operator.
-    pub mark: PrefixOperator,
+    pub operator: PrefixOperator,
 }
 
 /// An operand with the operator before it.
@@ -93,7 +93,7 @@ pub struct Operand {
     /// The place of the operator.
     pub place: Place,
     /// The operator.
-    pub mark: InfixOperator,
+    pub operator: InfixOperator,
     /// The operand.
     pub expr: Expr,
 }
@@ -105,7 +105,7 @@ pub struct Branch {
     /// The place of the operator.
     pub place: Place,
     /// The operator.
-    pub mark: BranchOperator,
+    pub operator: BranchOperator,
     /// The operand.
     pub expr: Expr,
 }
@@ -263,10 +263,14 @@ impl Expr {
 
 impl Operand {
     /// An operand with the operator before it. Takes no memory.
-    pub fn new(place: Place, mark: InfixOperator, expr: Expr) -> Operand
-        ensures { view_operand result ≡ tree.binary place mark tree.empty (view expr) }
+    pub fn new(place: Place, operator: InfixOperator, expr: Expr) -> Operand
+        ensures { view_operand result ≡ tree.binary place operator tree.empty (view expr) }
     {
-        Operand { place, mark, expr }
+        Operand {
+            place,
+            operator,
+            expr,
+        }
     }
 }
 
@@ -371,10 +375,14 @@ impl Pair {
 
 impl Branch {
     /// An operand with the operator before it. Takes no memory.
-    pub fn new(place: Place, mark: BranchOperator, expr: Expr) -> Branch
-        ensures { view_branch result ≡ record { place = place; mark = mark; expr = view expr } }
+    pub fn new(place: Place, operator: BranchOperator, expr: Expr) -> Branch
+        ensures { view_branch result ≡ record { place = place; operator = operator; expr = view expr } }
     {
-        Branch { place, mark, expr }
+        Branch {
+            place,
+            operator,
+            expr,
+        }
     }
 }
 

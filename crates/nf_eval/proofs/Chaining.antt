@@ -11,8 +11,8 @@ use Rattle.nf_value.specs.declared.fault.EvalFault.{EvalFault}
 use Rattle.nf_value.specs.declared.fault.EvalRefusal.{EvalRefusal}
 use Rattle.nf_value.specs.declared.fault.EvalRefusal.TheVariants as refusal
 use Rattle.nf_value.specs.declared.fault.EvalKind.TheVariants.{WrongKind}
-use Rattle.nf_ast.specs.declared.marks.InfixOperator.{InfixOperator}
-use Rattle.nf_ast.specs.declared.marks.InfixOperator.TheVariants as infix_operator
+use Rattle.nf_ast.specs.declared.operators.InfixOperator.{InfixOperator}
+use Rattle.nf_ast.specs.declared.operators.InfixOperator.TheVariants as infix_operator
 use Rattle.nf_ast.specs.declared.expr.Prefix.{Prefix}
 use Rattle.nf_ast.specs.declared.expr.Postfix.{Postfix}
 use Rattle.nf_ast.specs.declared.expr.ClosureBody.TheOpen as o
@@ -52,7 +52,7 @@ regrouped (Err e) f g = refl
 
 pub prefixes_value : (ms : List Prefix) (e : Tree) (env : Env) → (meaning_of (prefixes ms e)).value env ≡ ((meaning_of e).value env >>= prefixed ms)
 prefixes_value [] e env = kept ((meaning_of e).value env)
-prefixes_value (x ∷ ms) e env = ap (λ (r : Placed Plain). r >>= λ v. made x.place (prefix_of x.mark v)) (prefixes_value ms e env) ∙ regrouped ((meaning_of e).value env) (prefixed ms) (λ v. made x.place (prefix_of x.mark v))
+prefixes_value (x ∷ ms) e env = ap (λ (r : Placed Plain). r >>= λ v. made x.place (prefix_of x.operator v)) (prefixes_value ms e env) ∙ regrouped ((meaning_of e).value env) (prefixed ms) (λ v. made x.place (prefix_of x.operator v))
 
 -- ---- operands
 

@@ -3,9 +3,9 @@ use Rattle.std.proofs.Common.{◌≡◌, ◌∙◌, Bool, true, false, List, [],
 use Rattle.std.specs.Prelude.{None, not}
 use Rattle.std.proofs.lemmas.Bool.{false≢true}
 use Rattle.nf_value.specs.declared.place.Place.{Place}
-use Rattle.nf_ast.specs.declared.marks.InfixOperator.{InfixOperator}
-use Rattle.nf_ast.specs.declared.marks.BranchOperator.{BranchOperator}
-use Rattle.nf_ast.specs.declared.marks.BranchOperator.TheVariants as branch
+use Rattle.nf_ast.specs.declared.operators.InfixOperator.{InfixOperator}
+use Rattle.nf_ast.specs.declared.operators.BranchOperator.{BranchOperator}
+use Rattle.nf_ast.specs.declared.operators.BranchOperator.TheVariants as branch
 use Rattle.nf_ast.specs.declared.expr.Branch.{Branch}
 use Rattle.nf_ast.specs.declared.expr.Prefix.{Prefix}
 use Rattle.nf_ast.specs.declared.expr.Postfix.{Postfix}
@@ -76,10 +76,10 @@ by_operator P t e l branch.Else = l
 
 frames_chain : (bs : List BranchTree) (f : Frame) (fs : List Frame) (e : Tree) → IsFlatChain (conditional (f ∷ fs) e bs)
 frames_chain [] f fs e = some_frames f fs e
-frames_chain (b ∷ bs) f fs e = by_operator (λ k. IsFlatChain (conditional (framed b.place k (f ∷ fs) e) b.expr bs)) (frames_chain bs (asked b.place e) (f ∷ fs) b.expr) (frames_chain bs (preferred b.place e) (f ∷ fs) b.expr) (some_turned (λ gs. IsFlatChain (conditional gs b.expr bs)) (λ g gs. frames_chain bs g gs b.expr) b.place (f ∷ fs) e) b.mark
+frames_chain (b ∷ bs) f fs e = by_operator (λ k. IsFlatChain (conditional (framed b.place k (f ∷ fs) e) b.expr bs)) (frames_chain bs (asked b.place e) (f ∷ fs) b.expr) (frames_chain bs (preferred b.place e) (f ∷ fs) b.expr) (some_turned (λ gs. IsFlatChain (conditional gs b.expr bs)) (λ g gs. frames_chain bs g gs b.expr) b.place (f ∷ fs) e) b.operator
 
 conditional_chain : (b : BranchTree) (bs : List BranchTree) (e : Tree) → IsFlatChain (conditional [] e (b ∷ bs))
-conditional_chain b bs e = by_operator (λ k. IsFlatChain (conditional (framed b.place k [] e) b.expr bs)) (frames_chain bs (asked b.place e) [] b.expr) (frames_chain bs (preferred b.place e) [] b.expr) (frames_chain bs (preferred b.place e) [] b.expr) b.mark
+conditional_chain b bs e = by_operator (λ k. IsFlatChain (conditional (framed b.place k [] e) b.expr bs)) (frames_chain bs (asked b.place e) [] b.expr) (frames_chain bs (preferred b.place e) [] b.expr) (frames_chain bs (preferred b.place e) [] b.expr) b.operator
 
 -- ---- what is read or called
 

@@ -7,8 +7,8 @@ use Rattle.nf_value.specs.declared.place.Place.{Place}
 use Rattle.nf_value.specs.declared.value.Value.{Value}
 use Rattle.nf_value.specs.declared.fault.EvalFault.{EvalFault}
 use Rattle.nf_value.specs.declared.fault.EvalKind.TheVariants.{WrongKind}
-use Rattle.nf_ast.specs.declared.marks.BranchOperator.{BranchOperator}
-use Rattle.nf_ast.specs.declared.marks.BranchOperator.TheVariants as branch
+use Rattle.nf_ast.specs.declared.operators.BranchOperator.{BranchOperator}
+use Rattle.nf_ast.specs.declared.operators.BranchOperator.TheVariants as branch
 use Rattle.nf_ast.specs.Tree as tree
 use Rattle.nf_ast.specs.Tree.{Tree}
 use Rattle.nf_ast.specs.View.{BranchTree, Frame, asked, answered, preferred, ended, turned, framed, conditional}
@@ -158,12 +158,12 @@ module _ (env : Env) where
 
   spoilt_all : (x : EvalFault) (fs : List Frame) (e : Tree) (bs : List BranchTree) → Spoilt x fs → gives (conditional fs e bs) ≡ Err x
   spoilt_all x fs e [] s = spoilt_ends x fs e s
-  spoilt_all x fs e (b ∷ bs) s = spoilt_all x (framed b.place b.mark fs e) b.expr bs (frame_spoilt x b.place b.mark fs e s)
+  spoilt_all x fs e (b ∷ bs) s = spoilt_all x (framed b.place b.operator fs e) b.expr bs (frame_spoilt x b.place b.operator fs e s)
 
   -- whatever comes after it
   pub fault_all : (x : EvalFault) (n : ℕ) (fs : List Frame) (e : Tree) (bs : List BranchTree) → gives e ≡ Err x → Open env n fs → gives (conditional fs e bs) ≡ Err x
   fault_all x n fs e [] is h = open_ends n fs e h ∙ is
-  fault_all x n fs e (b ∷ bs) is h = spoilt_all x (framed b.place b.mark fs e) b.expr bs (frame_fault x n b.place b.mark fs e is h)
+  fault_all x n fs e (b ∷ bs) is h = spoilt_all x (framed b.place b.operator fs e) b.expr bs (frame_fault x n b.place b.operator fs e is h)
 
   -- ---- the state that the code keeps
 

@@ -6,8 +6,8 @@ use Rattle.nf_value.specs.declared.place.Place.{Place}
 use Rattle.nf_value.specs.declared.fault.EvalKind.TheVariants.{WrongKind, DivZero, Arity, NoMethod, NoProperty}
 use Rattle.nf_token.specs.declared.token.PlainKind.TheVariants as kind
 use Rattle.nf_token.specs.declared.token.TemplateKind.TheVariants as template_kind
-use Rattle.nf_ast.specs.declared.marks.InfixOperator.TheVariants as infix_operator
-use Rattle.nf_ast.specs.declared.marks.PrefixOperator.TheVariants as before
+use Rattle.nf_ast.specs.declared.operators.InfixOperator.TheVariants as infix_operator
+use Rattle.nf_ast.specs.declared.operators.PrefixOperator.TheVariants as before
 use Rattle.nf_ast.specs.Tree as tree
 use Rattle.nf_ast.specs.Tree.{Tree, empty, cons}
 use Rattle.nf_infix.specs.Compare.{matches}

@@ -10,7 +10,7 @@ use Rattle.nf_value.specs.declared.fault.EvalRefusal.TheVariants as refusal
 use Rattle.nf_value.specs.declared.place.Place.{Place}
 use Rattle.nf_value.specs.declared.fault.EvalKind.TheVariants.{WrongKind}
 use Rattle.nf_infix.specs.Property.{property}
-use Rattle.nf_ast.specs.declared.marks.InfixOperator.{InfixOperator}
+use Rattle.nf_ast.specs.declared.operators.InfixOperator.{InfixOperator}
 use Rattle.nf_ast.specs.declared.expr.Prefix.{Prefix}
 use Rattle.nf_ast.specs.Tree as tree
 use Rattle.nf_ast.specs.Tree.{Tree}
@@ -32,7 +32,7 @@ use Rattle.nf_eval.specs.Gives.{IsRefused}
 
 abbrev pub prefixed : List Prefix → Plain → Placed Plain
 prefixed [] v = Ok v
-prefixed (x ∷ xs) v = prefixed xs v >>= λ w. made x.place (prefix_of x.mark w)
+prefixed (x ∷ xs) v = prefixed xs v >>= λ w. made x.place (prefix_of x.operator w)
 
 -- ---- operands after a value
 

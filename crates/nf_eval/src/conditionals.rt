@@ -46,10 +46,10 @@ pub(crate) fn step<N: Natives>(
 ) -> Result<Turn, EvalRefusal>
     requires kept { N.keeps natives.now }
     requires room { suc (waits turn) ≤ usize.MAX }
-    ensures steps { (fs : List Frame) (e : Tree) → IsAt (seen around.now (N.titles natives.now) (N.answer natives.now)) fs e turn → Steps (seen around.now (N.titles natives.now) (N.answer natives.now)) (framed (view_branch branch.now).place branch.now.mark fs e) (view_branch branch.now).expr result }
+    ensures steps { (fs : List Frame) (e : Tree) → IsAt (seen around.now (N.titles natives.now) (N.answer natives.now)) fs e turn → Steps (seen around.now (N.titles natives.now) (N.answer natives.now)) (framed (view_branch branch.now).place branch.now.operator fs e) (view_branch branch.now).expr result }
     ensures fits { IfOk result (λ t. waits t ≤ suc (waits turn)) }
 {
-    match after(branch.mark, turn) {
+    match after(branch.operator, turn) {
         Next::Due(outer) => {
             let value = crate::values::value(alloc, &branch.expr, around, natives)?;
             Ok(Turn::Live(outer, value))

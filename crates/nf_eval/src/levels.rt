@@ -35,7 +35,7 @@ pub(crate) fn operands<N: Natives>(
             alloc,
             &operand.expr,
             operand.place,
-            operand.mark,
+            operand.operator,
             left,
             around,
             natives,

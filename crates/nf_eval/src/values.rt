@@ -81,7 +81,7 @@ fn prefixed(operators: &[Prefix], of: Value) -> Result<Value, EvalRefusal>
     let mut end = operators.len();
     while end > 0 {
         end -= 1;
-        value = prefix_value(operators[end].place, operators[end].mark, &value)?;
+        value = prefix_value(operators[end].place, operators[end].operator, &value)?;
     }
     Ok(value)
 }

@@ -7,7 +7,7 @@ use Rattle.nf_grammar.specs.Parts.{no_next, none_of}
 use Rattle.nf_grammar.specs.Outcome.{Out, got, unexpected, too_deep}
 use Rattle.nf_grammar.proofs.Short.{at, at_deep, ret, takes, sinks, seq, fails, dives, off, ruled, stops, goes, part_fails, part_dives, maybe_not, maybe_is, IsStop}
 use Rattle.nf_exprs.specs.declared.band.Band.{Band}
-use Rattle.nf_ast.specs.declared.marks.InfixOperator.{InfixOperator}
+use Rattle.nf_ast.specs.declared.operators.InfixOperator.{InfixOperator}
 use Rattle.nf_ast.specs.declared.expr.Operand.{Operand}
 use Rattle.nf_ast.specs.Tree.{Tree, empty, binary}
 use Rattle.nf_exprs.specs.Level.{Operands, Gram}

@@ -10,8 +10,8 @@ use Rattle.nf_grammar.specs.Parts.{no_next}
 use Rattle.nf_grammar.specs.Outcome.{Out, got, unexpected, too_deep}
 use Rattle.nf_grammar.proofs.Outcomes.{arms_first, grouped, alone, ruled_first, maybe_is_then}
 use Rattle.nf_grammar.proofs.Short.{ret, seq, fails, dives, off, first_arm, second_arm, ruled, maybe_not, maybe_is, stop, IsStop}
-use Rattle.nf_ast.specs.declared.marks.BranchOperator.{BranchOperator}
-use Rattle.nf_ast.specs.declared.marks.BranchOperator.TheVariants.{Then, Else, Elvis}
+use Rattle.nf_ast.specs.declared.operators.BranchOperator.{BranchOperator}
+use Rattle.nf_ast.specs.declared.operators.BranchOperator.TheVariants.{Then, Else, Elvis}
 use Rattle.nf_ast.specs.declared.expr.Branch.{Branch}
 use Rattle.nf_ast.specs.Tree as tree
 use Rattle.nf_ast.specs.Tree.{Tree, empty, point}
@@ -158,18 +158,18 @@ pub record State : Type 0 where
 
 abbrev pub state : List Frame → Tree → List BranchTree → State
 state fs e [] = record { frames = fs; expr = e }
-state fs e (x ∷ xs) = state (framed x.place x.mark fs e) x.expr xs
+state fs e (x ∷ xs) = state (framed x.place x.operator fs e) x.expr xs
 
 abbrev pub with_branch : BranchTree → State → State
-with_branch x s = record { frames = framed x.place x.mark s.frames s.expr; expr = x.expr }
+with_branch x s = record { frames = framed x.place x.operator s.frames s.expr; expr = x.expr }
 
 state_push : (fs : List Frame) (e : Tree) (xs : List BranchTree) (x : BranchTree) → state fs e (xs ++ x ∷ []) ≡ with_branch x (state fs e xs)
 state_push fs e [] x = refl
-state_push fs e (y ∷ ys) x = state_push (framed y.place y.mark fs e) y.expr ys x
+state_push fs e (y ∷ ys) x = state_push (framed y.place y.operator fs e) y.expr ys x
 
 state_ends : (fs : List Frame) (e : Tree) (xs : List BranchTree) → conditional fs e xs ≡ ended (state fs e xs).frames (state fs e xs).expr
 state_ends fs e [] = refl
-state_ends fs e (x ∷ xs) = state_ends (framed x.place x.mark fs e) x.expr xs
+state_ends fs e (x ∷ xs) = state_ends (framed x.place x.operator fs e) x.expr xs
 
 -- what was read so far, the numbers that were kept, and what is left
 pub record Reading (d : ℕ) (s : State) (nested : ℕ) (kept : List ℕ) (ts us : List Lexeme) : Type 0 where
@@ -191,7 +191,7 @@ module _ (d : ℕ) (fs : List Frame) (e : Tree) (nested : ℕ) (kept : List ℕ)
   abbrev pub here : ℕ → Type 0
   here n = Reading d (record { frames = fs; expr = e }) n kept ts us
 
-  pub branch_goes : (next : ℕ) (left : List ℕ) (mark : BranchOperator) (due : Bool) → past_branch mark nested ≡ false → (due ≡ true → kept ≡ [] → ⊥) → TakesBranch due mark ts p after → Nests mark kept nested left next → here nested → Going (operand_then d (framed p mark fs e)) after (rule (Expr d 0)) us
+  pub branch_goes : (next : ℕ) (left : List ℕ) (operator : BranchOperator) (due : Bool) → past_branch operator nested ≡ false → (due ≡ true → kept ≡ [] → ⊥) → TakesBranch due operator ts p after → Nests operator kept nested left next → here nested → Going (operand_then d (framed p operator fs e)) after (rule (Expr d 0)) us
   branch_goes next left Then due few some k n r o q = r.leads o (then_goes d fs e ts after p k.0 (subst (λ x. x < 256) (sym r.depth) (within nested few)) o q)
   branch_goes next left Elvis due few some k n r o q = r.leads o (elvis_goes d fs e ts after p k.0 (subst (λ x. x < 256) (sym r.depth) (within nested few)) o q)
   branch_goes next left Else due few some k n r o q = r.leads o (else_goes d fs e left next ts after p (r.waiting ∙ pending kept (some k.1) n) k.0 o q)
@@ -200,13 +200,13 @@ module _ (d : ℕ) (fs : List Frame) (e : Tree) (nested : ℕ) (kept : List ℕ)
       pending [] h g = absurd (h refl)
       pending (x ∷ xs) h g = g
 
-  pub branch_dives : (mark : BranchOperator) (due : Bool) → past_branch mark nested ≡ true → TakesBranch due mark ts p after → here nested → Outcome (rule (Expr d 0)) us (too_deep (length ts))
+  pub branch_dives : (operator : BranchOperator) (due : Bool) → past_branch operator nested ≡ true → TakesBranch due operator ts p after → here nested → Outcome (rule (Expr d 0)) us (too_deep (length ts))
   branch_dives Then due many k r = r.leads (too_deep (length ts)) (then_dives d fs e ts after p k.0 (subst (λ x. 256 ≤ x) (sym r.depth) (beyond nested many)))
   branch_dives Elvis due many k r = r.leads (too_deep (length ts)) (elvis_dives d fs e ts after p k.0 (subst (λ x. 256 ≤ x) (sym r.depth) (beyond nested many)))
   branch_dives Else due many k r = absurd cc
 
   -- with the next operand
-  pub branch_read : (next : ℕ) (left : List ℕ) (mark : BranchOperator) (due : Bool) (x : Tree) (r2 : List Lexeme) → past_branch mark nested ≡ false → (due ≡ true → kept ≡ [] → ⊥) → TakesBranch due mark ts p after → Nests mark kept nested left next → here nested → Outcome (rule (Operands d band.Or)) after (got x r2 (length r2)) → Reading d (record { frames = framed p mark fs e; expr = x }) next left r2 us
+  pub branch_read : (next : ℕ) (left : List ℕ) (operator : BranchOperator) (due : Bool) (x : Tree) (r2 : List Lexeme) → past_branch operator nested ≡ false → (due ≡ true → kept ≡ [] → ⊥) → TakesBranch due operator ts p after → Nests operator kept nested left next → here nested → Outcome (rule (Operands d band.Or)) after (got x r2 (length r2)) → Reading d (record { frames = framed p operator fs e; expr = x }) next left r2 us
   branch_read next left Then due x r2 few some k n r q = record { leads = λ o g. branch_goes next left Then due few some k n r o (seq q g); waiting = ap (λ l. l ++ suc (length fs) ∷ []) r.waiting ∙ ap (λ i. kept ++ suc i ∷ []) r.depth ∙ sym n.0; depth = ap suc r.depth ∙ sym n.1 }
   branch_read next left Elvis due x r2 few some k n r q = record { leads = λ o g. branch_goes next left Elvis due few some k n r o (seq q g); waiting = r.waiting ∙ sym n.0; depth = ap suc r.depth ∙ sym n.1 }
   branch_read next left Else due x r2 few some k n r q =
@@ -238,11 +238,11 @@ seen_push a xs ys y e = ap (seen a) e ∙ ap (state [] a) (map_pushed xs) ∙ st
 pub seen_none : (d : ℕ) (a : Tree) (xs : List Branch) (kept : List ℕ) (ts us : List Lexeme) → xs ≡ [] → kept ≡ [] → Outcome (rule (Operands d band.Or)) us (got a ts (length ts)) → Reading d (seen a xs) 0 kept ts us
 seen_none d a xs kept ts us e f p = subst (λ l. Reading d (seen a l) 0 kept ts us) (sym e) (subst (λ k. Reading d (seen a []) 0 k ts us) (sym f) (first_read d a ts us p))
 
-pub seen_next : (d : ℕ) (a : Tree) (xs ys : List Branch) (y : Branch) (nested next : ℕ) (kept left : List ℕ) (ts after r2 us : List Lexeme) (p : Place) (mark : BranchOperator) (due : Bool) (x : Tree) → past_branch mark nested ≡ false → (due ≡ true → kept ≡ [] → ⊥) → TakesBranch due mark ts p after → Nests mark kept nested left next → ys ≡ xs ++ y ∷ [] → view_branch y ≡ record { place = p; mark = mark; expr = x } → Outcome (rule (Operands d band.Or)) after (got x r2 (length r2)) → Reading d (seen a xs) nested kept ts us → Reading d (seen a ys) next left r2 us
-seen_next d a xs ys y nested next kept left ts after r2 us p mark due x few some k n e f q r =
+pub seen_next : (d : ℕ) (a : Tree) (xs ys : List Branch) (y : Branch) (nested next : ℕ) (kept left : List ℕ) (ts after r2 us : List Lexeme) (p : Place) (operator : BranchOperator) (due : Bool) (x : Tree) → past_branch operator nested ≡ false → (due ≡ true → kept ≡ [] → ⊥) → TakesBranch due operator ts p after → Nests operator kept nested left next → ys ≡ xs ++ y ∷ [] → view_branch y ≡ record { place = p; operator = operator; expr = x } → Outcome (rule (Operands d band.Or)) after (got x r2 (length r2)) → Reading d (seen a xs) nested kept ts us → Reading d (seen a ys) next left r2 us
+seen_next d a xs ys y nested next kept left ts after r2 us p operator due x few some k n e f q r =
     let s = seen a xs in
     subst (λ z. Reading d z next left r2 us) (sym (seen_push a xs ys y e ∙ ap (λ z. with_branch z s) f))
-    (branch_read d s.frames s.expr nested kept ts after us p next left mark due x r2 few some k n r q)
+    (branch_read d s.frames s.expr nested kept ts after us p next left operator due x r2 few some k n r q)
 
 pub seen_ends : (d : ℕ) (a e : Tree) (xs : List Branch) (nested : ℕ) (kept : List ℕ) (ts us : List Lexeme) (due : Bool) → kept ≡ [] → NoBranch due ts → e ≡ conditional [] a (map view_branch xs) → Reading d (seen a xs) nested kept ts us → Outcome (rule (Expr d 0)) us (got e ts (length ts))
 seen_ends d a e xs nested kept ts us due f n g r =
@@ -256,11 +256,11 @@ turned_le q (answered p c a ∷ fs) e few = turned_le q fs (tree.conditional p c
 turned_le q (preferred p a ∷ fs) e few = turned_le q fs (tree.elvis p a e) (omega (arith, few))
 
 -- so many stand round what comes after an operator within the limit
-pub next_within : (d : ℕ) (a : Tree) (xs ys : List Branch) (y : Branch) (nested next : ℕ) (kept left : List ℕ) (ts r2 us : List Lexeme) (p : Place) (mark : BranchOperator) (x : Tree) → past_branch mark nested ≡ false → nested ≤ 256 → ys ≡ xs ++ y ∷ [] → view_branch y ≡ record { place = p; mark = mark; expr = x } → Reading d (seen a xs) nested kept ts us → Reading d (seen a ys) next left r2 us → next ≤ 256
-next_within d a xs ys y nested next kept left ts r2 us p mark x few le e f old new =
+pub next_within : (d : ℕ) (a : Tree) (xs ys : List Branch) (y : Branch) (nested next : ℕ) (kept left : List ℕ) (ts r2 us : List Lexeme) (p : Place) (operator : BranchOperator) (x : Tree) → past_branch operator nested ≡ false → nested ≤ 256 → ys ≡ xs ++ y ∷ [] → view_branch y ≡ record { place = p; operator = operator; expr = x } → Reading d (seen a xs) nested kept ts us → Reading d (seen a ys) next left r2 us → next ≤ 256
+next_within d a xs ys y nested next kept left ts r2 us p operator x few le e f old new =
     let s = seen a xs in
-    let h : length (framed p mark s.frames s.expr) ≡ next = subst (λ z. length z.frames ≡ next) (seen_push a xs ys y e ∙ ap (λ z. with_branch z s) f) new.depth in
-    by_mark mark s.frames s.expr few old.depth h
+    let h : length (framed p operator s.frames s.expr) ≡ next = subst (λ z. length z.frames ≡ next) (seen_push a xs ys y e ∙ ap (λ z. with_branch z s) f) new.depth in
+    by_mark operator s.frames s.expr few old.depth h
   where
     by_mark : (k : BranchOperator) (fs : List Frame) (v : Tree) → past_branch k nested ≡ false → length fs ≡ nested → length (framed p k fs v) ≡ next → next ≤ 256
     by_mark Then fs v g h i = let j = within nested g in omega (arith, h, i, j)
@@ -273,14 +273,14 @@ missing_at d a xs nested kept ts us true f g n r = branch_missing d (seen a xs).
 
 -- ---- the same, by the list in memory
 
-pub seen_goes : (d : ℕ) (a : Tree) (xs : List Branch) (nested next : ℕ) (kept left : List ℕ) (ts after us : List Lexeme) (p : Place) (mark : BranchOperator) (due : Bool) → past_branch mark nested ≡ false → (due ≡ true → kept ≡ [] → ⊥) → TakesBranch due mark ts p after → Nests mark kept nested left next → Reading d (seen a xs) nested kept ts us → (o : Out Lexeme Tree) → IsStop o → Outcome (rule (Operands d band.Or)) after o → Outcome (rule (Expr d 0)) us o
-seen_goes d a xs nested next kept left ts after us p mark due few some k n r o s q = branch_goes d (seen a xs).frames (seen a xs).expr nested kept ts after us p next left mark due few some k n r o (stop o s q)
+pub seen_goes : (d : ℕ) (a : Tree) (xs : List Branch) (nested next : ℕ) (kept left : List ℕ) (ts after us : List Lexeme) (p : Place) (operator : BranchOperator) (due : Bool) → past_branch operator nested ≡ false → (due ≡ true → kept ≡ [] → ⊥) → TakesBranch due operator ts p after → Nests operator kept nested left next → Reading d (seen a xs) nested kept ts us → (o : Out Lexeme Tree) → IsStop o → Outcome (rule (Operands d band.Or)) after o → Outcome (rule (Expr d 0)) us o
+seen_goes d a xs nested next kept left ts after us p operator due few some k n r o s q = branch_goes d (seen a xs).frames (seen a xs).expr nested kept ts after us p next left operator due few some k n r o (stop o s q)
 
-pub seen_dives : (d : ℕ) (a : Tree) (xs : List Branch) (nested : ℕ) (kept : List ℕ) (ts after us : List Lexeme) (p : Place) (mark : BranchOperator) (due : Bool) → past_branch mark nested ≡ true → TakesBranch due mark ts p after → Reading d (seen a xs) nested kept ts us → Outcome (rule (Expr d 0)) us (too_deep (length ts))
-seen_dives d a xs nested kept ts after us p mark due many k r = branch_dives d (seen a xs).frames (seen a xs).expr nested kept ts after us p mark due many k r
+pub seen_dives : (d : ℕ) (a : Tree) (xs : List Branch) (nested : ℕ) (kept : List ℕ) (ts after us : List Lexeme) (p : Place) (operator : BranchOperator) (due : Bool) → past_branch operator nested ≡ true → TakesBranch due operator ts p after → Reading d (seen a xs) nested kept ts us → Outcome (rule (Expr d 0)) us (too_deep (length ts))
+seen_dives d a xs nested kept ts after us p operator due many k r = branch_dives d (seen a xs).frames (seen a xs).expr nested kept ts after us p operator due many k r
 
 -- an operator is one token
-pub branch_shorter : (due : Bool) (mark : BranchOperator) (ts after : List Lexeme) (p : Place) → TakesBranch due mark ts p after → length ts ≡ suc (length after)
+pub branch_shorter : (due : Bool) (operator : BranchOperator) (ts after : List Lexeme) (p : Place) → TakesBranch due operator ts p after → length ts ≡ suc (length after)
 branch_shorter due Then ts after p k = ap length k.0.2
 branch_shorter due Else ts after p k = ap length k.0.2
 branch_shorter due Elvis ts after p k = ap length k.0.2

@@ -4,9 +4,9 @@ use denote.Bor.{Bor}
 use Rattle.nf_token.specs.declared.token.Lexeme.{Lexeme}
 use Rattle.nf_value.specs.declared.place.Place.{Place}
 use Rattle.nf_grammar.specs.Parts.{no_next}
-use Rattle.nf_ast.specs.declared.marks.BranchOperator.{BranchOperator}
-use Rattle.nf_ast.specs.declared.marks.BranchOperator.TheVariants.{Then, Else, Elvis}
-use Rattle.nf_ast.specs.declared.marks.InfixOperator.{InfixOperator}
+use Rattle.nf_ast.specs.declared.operators.BranchOperator.{BranchOperator}
+use Rattle.nf_ast.specs.declared.operators.BranchOperator.TheVariants.{Then, Else, Elvis}
+use Rattle.nf_ast.specs.declared.operators.InfixOperator.{InfixOperator}
 use Rattle.nf_exprs.specs.declared.band.Band.{Band}
 use Rattle.nf_exprs.specs.Tokens.{infix_of, operator}
 use Rattle.nf_exprs.specs.Rules.{past_chain, is_single}

@@ -13,8 +13,8 @@ use Rattle.nf_exprs.specs.declared.fault.Fault.{Fault}
 use Rattle.nf_exprs.specs.declared.fault.Fault.TheVariants.{Unexpected, TooDeep, Mem}
 use Rattle.nf_exprs.specs.Level.{Gram}
 use Rattle.nf_exprs.specs.Rules.{rules}
-use Rattle.nf_ast.specs.declared.marks.BranchOperator.{BranchOperator}
-use Rattle.nf_ast.specs.declared.marks.BranchOperator.TheVariants as branch
+use Rattle.nf_ast.specs.declared.operators.BranchOperator.{BranchOperator}
+use Rattle.nf_ast.specs.declared.operators.BranchOperator.TheVariants as branch
 use Rattle.nf_token.specs.declared.token.Mark.TheVariants as m
 use Rattle.nf_exprs.specs.Tokens.{Kind, mark_of, labels, after}
 

@@ -194,10 +194,7 @@ fn prefixed(alloc: Global, depth: u32, tokens: &[Lexeme]) -> Result<(Expr, &[Lex
         if parts >= MOST_PARTS {
             return Err(Fault::TooDeep(rest.len()));
         }
-        operators.push(Prefix {
-            place,
-            mark: operator,
-        })?;
+        operators.push(Prefix { place, operator })?;
         rest = after;
         parts += 1;
     }

@@ -1,9 +1,9 @@
 -- Functions that read a chain from the left: they give the first operand's answer, with the first operator after it.
 use Rattle.std.proofs.Common.{◌≡◌, List, [], ◌∷◌, Option, Some, None, map, refl, sym, ap, ◌∙◌}
 use Rattle.nf_value.specs.declared.place.Place.{Place}
-use Rattle.nf_ast.specs.declared.marks.InfixOperator.{InfixOperator}
-use Rattle.nf_ast.specs.declared.marks.BranchOperator.{BranchOperator}
-use Rattle.nf_ast.specs.declared.marks.BranchOperator.TheVariants as branch
+use Rattle.nf_ast.specs.declared.operators.InfixOperator.{InfixOperator}
+use Rattle.nf_ast.specs.declared.operators.BranchOperator.{BranchOperator}
+use Rattle.nf_ast.specs.declared.operators.BranchOperator.TheVariants as branch
 use Rattle.nf_ast.specs.declared.expr.Postfix.{Postfix}
 use Rattle.nf_ast.specs.Tree as tree
 use Rattle.nf_ast.specs.Tree.{Tree}
@@ -74,7 +74,7 @@ module _ (X : Type 0) (R : Tree → X) (F : X → Place → X) (twice : (x : X) 
 
       going : (fs : List Frame) (e : Tree) (xs : List BranchTree) → R (ended fs e) ≡ r → R (conditional fs e xs) ≡ r
       going fs e [] h = h
-      going fs e (x ∷ xs) h = going (framed x.place x.mark fs e) x.expr xs (goes x.place x.mark fs e x.expr h)
+      going fs e (x ∷ xs) h = going (framed x.place x.operator fs e) x.expr xs (goes x.place x.operator fs e x.expr h)
 
     begins : (p : Place) (k : BranchOperator) (e t : Tree) → R (ended (framed p k [] e) t) ≡ F (R e) p
     begins p branch.Then e t = on_conditional p e t tree.empty
@@ -83,4 +83,4 @@ module _ (X : Type 0) (R : Tree → X) (F : X → Place → X) (twice : (x : X) 
 
     pub branches_first : (a : Tree) (xs : List BranchTree) → R (conditional [] a xs) ≡ more (R a) (branch_at xs)
     branches_first a [] = refl
-    branches_first a (x ∷ xs) = going (F (R a) x.place) (twice (R a) x.place) (framed x.place x.mark [] a) x.expr xs (begins x.place x.mark a x.expr)
+    branches_first a (x ∷ xs) = going (F (R a) x.place) (twice (R a) x.place) (framed x.place x.operator [] a) x.expr xs (begins x.place x.operator a x.expr)

@@ -2,8 +2,8 @@
 use Rattle.std.specs.Prelude.{ℕ, false, List, [], ◌∷◌, Option, Some, None, Ok, Err, All}
 use Rattle.nf_value.specs.declared.place.Place.{Place}
 use Rattle.nf_value.specs.Plain.{Plain}
-use Rattle.nf_ast.specs.declared.marks.InfixOperator.{InfixOperator}
-use Rattle.nf_ast.specs.declared.marks.InfixOperator.TheVariants as mark
+use Rattle.nf_ast.specs.declared.operators.InfixOperator.{InfixOperator}
+use Rattle.nf_ast.specs.declared.operators.InfixOperator.TheVariants as mark
 use Rattle.nf_ast.specs.Tree as tree
 use Rattle.nf_ast.specs.Tree.{Tree}
 use Rattle.nf_pattern.specs.Wrapped.{wrapped}

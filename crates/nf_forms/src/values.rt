@@ -104,7 +104,7 @@ fn last_range(first: Option<Place>, rest: &[Operand]) -> Option<Place>
 {
     let mut range = first;
     for operand in rest {
-        range = range_mark(operand.place, operand.mark);
+        range = range_mark(operand.place, operand.operator);
     }
     range
 }

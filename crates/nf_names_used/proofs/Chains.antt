@@ -3,8 +3,8 @@ use Rattle.std.proofs.Common.{◌≡◌, Bool, true, false, List, [], ◌∷◌,
 use Rattle.std.proofs.lemmas.Bool.{false≢true}
 use Rattle.std.proofs.lemmas.List.{append_assoc, append-nil}
 use Rattle.nf_value.specs.declared.place.Place.{Place}
-use Rattle.nf_ast.specs.declared.marks.BranchOperator.{BranchOperator}
-use Rattle.nf_ast.specs.declared.marks.BranchOperator.TheVariants.{Then, Else, Elvis}
+use Rattle.nf_ast.specs.declared.operators.BranchOperator.{BranchOperator}
+use Rattle.nf_ast.specs.declared.operators.BranchOperator.TheVariants.{Then, Else, Elvis}
 use Rattle.nf_ast.specs.declared.expr.Prefix.{Prefix}
 use Rattle.nf_ast.specs.declared.expr.Operand.{Operand}
 use Rattle.nf_ast.specs.declared.expr.ClosureBody.TheOpen.{Operand-F}
@@ -66,7 +66,7 @@ of_operand P h y =
     subst P (sym (fold_out-Operand Tree Tree Tree Tree Tree Tree ArmTree BranchTree Tree Tree Tree Tree body_step expr_step piece_step postfix_step stmt_step arg_step arm_step branch_step closure_step label_step operand_step pair_step y)) (h _)
 
 pub operands_chain : (a : Tree) (y : Operand) (ys : List Operand) → is_chain (operands a (map view_operand (y ∷ ys))) ≡ true
-operands_chain a y ys = of_operand (λ t. is_chain (operands a (t ∷ map view_operand ys)) ≡ true) (λ z. still_chain (tree.binary z.place z.mark a z.expr) (map view_operand ys) refl) y
+operands_chain a y ys = of_operand (λ t. is_chain (operands a (t ∷ map view_operand ys)) ≡ true) (λ z. still_chain (tree.binary z.place z.operator a z.expr) (map view_operand ys) refl) y
 
 pub prefixes_used : (names : Names) (ms : List Prefix) (e : Tree) → uses (prefixes ms e) names ≡ uses e names
 prefixes_used names [] e = refl
@@ -105,7 +105,7 @@ within_used : (names : Names) (fs : List Frame) (e : Tree) (xs : List BranchTree
 within_used names fs e [] = ended_used names fs e ∙ ap (λ v. frames_uses fs names ++ v) (sym (append-nil (uses e names)))
 within_used names fs e (x ∷ xs) =
     let rest = uses x.expr names ++ branches_uses xs names in
-    within_used names (framed x.place x.mark fs e) x.expr xs ∙ ap (λ v. v ++ rest) (framed_used names x.place x.mark fs e) ∙ append_assoc (frames_uses fs names) (uses e names) rest
+    within_used names (framed x.place x.operator fs e) x.expr xs ∙ ap (λ v. v ++ rest) (framed_used names x.place x.operator fs e) ∙ append_assoc (frames_uses fs names) (uses e names) rest
 
 pub branches_used : (names : Names) (e : Tree) (xs : List BranchTree) → uses (conditional [] e xs) names ≡ uses e names ++ branches_uses xs names
 branches_used names e xs = within_used names [] e xs
@@ -134,10 +134,10 @@ framed_chain P h p Elvis fs e = h (preferred p e) fs
 
 held_chain : (xs : List BranchTree) (f : Frame) (fs : List Frame) (e : Tree) → is_chain (conditional (f ∷ fs) e xs) ≡ true
 held_chain [] f fs e = one_ended f fs e
-held_chain (x ∷ xs) f fs e = framed_chain (λ gs. is_chain (conditional gs x.expr xs) ≡ true) (λ g gs. held_chain xs g gs x.expr) x.place x.mark (f ∷ fs) e
+held_chain (x ∷ xs) f fs e = framed_chain (λ gs. is_chain (conditional gs x.expr xs) ≡ true) (λ g gs. held_chain xs g gs x.expr) x.place x.operator (f ∷ fs) e
 
 pub branches_chain : (e : Tree) (x : BranchTree) (xs : List BranchTree) → is_chain (conditional [] e (x ∷ xs)) ≡ true
-branches_chain e x xs = framed_chain (λ gs. is_chain (conditional gs x.expr xs) ≡ true) (λ g gs. held_chain xs g gs x.expr) x.place x.mark [] e
+branches_chain e x xs = framed_chain (λ gs. is_chain (conditional gs x.expr xs) ≡ true) (λ g gs. held_chain xs g gs x.expr) x.place x.operator [] e
 
 -- ---- arms
 

@@ -2,8 +2,8 @@
 use Rattle.std.specs.Prelude.{ℕ, Bool, true, false, ◌||◌, List, [], ◌∷◌, ◌++◌, codes, if◌then◌else◌}
 use Rattle.nf_value.specs.declared.place.Place.{Place}
 use Rattle.nf_builtins.specs.Natives.{is_among}
-use Rattle.nf_ast.specs.declared.marks.InfixOperator.{InfixOperator}
-use Rattle.nf_ast.specs.declared.marks.InfixOperator.TheVariants as infix_operator
+use Rattle.nf_ast.specs.declared.operators.InfixOperator.{InfixOperator}
+use Rattle.nf_ast.specs.declared.operators.InfixOperator.TheVariants as infix_operator
 use Rattle.nf_ast.specs.Tree as tree
 use Rattle.nf_ast.specs.Tree.{Tree, empty, cons, place_of}
 use Rattle.nf_placed.specs.Body.{name_in, names_in, is_math}

@@ -164,7 +164,7 @@ fn put_operands(rest: &[Operand], seen: &Seen, alloc: Global, out: &mut Vec<Use>
     ensures { OnOk result (out.new.items ≡ out.old.items ++ operands_uses (map view_operand rest.now) seen.now) }
 {
     for operand in rest {
-        put_pattern(operand.mark, &operand.expr, out)?;
+        put_pattern(operand.operator, &operand.expr, out)?;
         put_expr(&operand.expr, seen, alloc, out)?;
     }
     Ok(())

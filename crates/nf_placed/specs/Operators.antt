@@ -4,10 +4,10 @@ use Rattle.nf_value.specs.Plain.{Plain, truth}
 use Rattle.nf_value.specs.Truth.{truth_of}
 use Rattle.nf_value.specs.declared.fault.EvalKind.TheVariants.{WrongKind}
 use Rattle.nf_texts.specs.Outcome.{Outcome}
-use Rattle.nf_ast.specs.declared.marks.InfixOperator.{InfixOperator}
-use Rattle.nf_ast.specs.declared.marks.InfixOperator.TheVariants as infix_operator
-use Rattle.nf_ast.specs.declared.marks.PrefixOperator.{PrefixOperator}
-use Rattle.nf_ast.specs.declared.marks.PrefixOperator.TheVariants as before
+use Rattle.nf_ast.specs.declared.operators.InfixOperator.{InfixOperator}
+use Rattle.nf_ast.specs.declared.operators.InfixOperator.TheVariants as infix_operator
+use Rattle.nf_ast.specs.declared.operators.PrefixOperator.{PrefixOperator}
+use Rattle.nf_ast.specs.declared.operators.PrefixOperator.TheVariants as before
 use Rattle.nf_infix.specs.Sum.{plus, minus}
 use Rattle.nf_infix.specs.Product.{times, remainder, negative}
 use Rattle.nf_infix.specs.Compare.{less, at_most, greater, at_least, same, differs, is_in}

@@ -4,8 +4,8 @@ use Rattle.std.specs.Prelude.{◌&&◌, not}
 use Rattle.std.proofs.lemmas.List.{append_assoc, append-nil}
 use Rattle.nf_value.specs.declared.place.Place.{Place}
 use Rattle.nf_token.specs.declared.token.Mark.TheVariants as m
-use Rattle.nf_ast.specs.declared.marks.BranchOperator.{BranchOperator}
-use Rattle.nf_ast.specs.declared.marks.BranchOperator.TheVariants.{Then, Else, Elvis}
+use Rattle.nf_ast.specs.declared.operators.BranchOperator.{BranchOperator}
+use Rattle.nf_ast.specs.declared.operators.BranchOperator.TheVariants.{Then, Else, Elvis}
 use Rattle.nf_ast.specs.Tree as tree
 use Rattle.nf_ast.specs.Tree.{Tree}
 use Rattle.nf_ast.specs.View.{Frame, asked, answered, preferred, ended, turned, framed, BranchTree, conditional}
@@ -110,7 +110,7 @@ from_operand e xs n b l g = held_inks (is_held e xs n b) e l g ++ branches_inks 
 
 late_one : (xs : List BranchTree) (n : ℕ) (b : Bool) → opens_late xs n b ++ mark m.OpenRound ∷ [] ≡ mark m.OpenRound ∷ opens_late xs n b
 late_one [] n b = refl
-late_one (x ∷ xs) n b = one (is_late x.mark n b) (opens_late xs (asked_after x.mark n) true) (late_one xs (asked_after x.mark n) true)
+late_one (x ∷ xs) n b = one (is_late x.operator n b) (opens_late xs (asked_after x.operator n) true) (late_one xs (asked_after x.operator n) true)
   where
     one : (c : Bool) (ys : List Ink) → ys ++ mark m.OpenRound ∷ [] ≡ mark m.OpenRound ∷ ys → bracket c m.OpenRound ++ ys ++ mark m.OpenRound ∷ [] ≡ mark m.OpenRound ∷ (bracket c m.OpenRound ++ ys)
     one true ys h = ap (λ v. mark m.OpenRound ∷ v) h
@@ -125,17 +125,17 @@ joined : (o b h q w t : List Ink) → o ++ (b ++ (h ++ q)) ++ (w ++ t) ≡ o ++ 
 joined o b h q w t = simp append_assoc
 
 module _ (p : Place) (t : Tree) (xs : List BranchTree) (fs : List Frame) (e : Tree) (l : Layout) (g : Bool) (ih : (fs : List Frame) (n : ℕ) (b : Bool) → waiting fs ≡ n → begun fs ≡ b → IsText xs fs t (conditional fs t xs) n b l g) where
-  after_then : (n : ℕ) (b : Bool) → waiting fs ≡ n → IsText (record { place = p; mark = Then; expr = t } ∷ xs) fs e (conditional (asked p e ∷ fs) t xs) n b l g
+  after_then : (n : ℕ) (b : Bool) → waiting fs ≡ n → IsText (record { place = p; operator = Then; expr = t } ∷ xs) fs e (conditional (asked p e ∷ fs) t xs) n b l g
   after_then n b h =
       let k = g && none_late xs (suc n) true in
       ih (asked p e ∷ fs) (suc n) true (ap suc h) refl ∙ joined (opens_late xs (suc n) true) (before fs l k) (held_inks (needs 1 e) e l (inner_guard fs k)) (spaced (mark m.Question)) (held_inks (is_held t xs (suc n) true) t l false) (branches_inks xs (suc n) true l)
 
-  after_elvis : (n : ℕ) (b : Bool) → waiting fs ≡ n → IsText (record { place = p; mark = Elvis; expr = t } ∷ xs) fs e (conditional (preferred p e ∷ fs) t xs) n b l g
+  after_elvis : (n : ℕ) (b : Bool) → waiting fs ≡ n → IsText (record { place = p; operator = Elvis; expr = t } ∷ xs) fs e (conditional (preferred p e ∷ fs) t xs) n b l g
   after_elvis n b h =
       let k = g && none_late xs n true in
       ih (preferred p e ∷ fs) n true h refl ∙ joined (opens_late xs n true) (before fs l k) (held_inks (needs 1 e) e l (inner_guard fs k)) (spaced (mark m.Elvis)) (held_inks (is_held t xs n true) t l false) (branches_inks xs n true l)
 
-  after_else : (n : ℕ) (b : Bool) → waiting fs ≡ suc n → IsText (record { place = p; mark = Else; expr = t } ∷ xs) fs e (conditional (turned p fs e) t xs) (suc n) b l g
+  after_else : (n : ℕ) (b : Bool) → waiting fs ≡ suc n → IsText (record { place = p; operator = Else; expr = t } ∷ xs) fs e (conditional (turned p fs e) t xs) (suc n) b l g
   after_else n b h =
       let r = turns p fs e n h in
       let k = g && none_late xs n true in
@@ -148,7 +148,7 @@ module _ (p : Place) (t : Tree) (xs : List BranchTree) (fs : List Frame) (e : Tr
       ∙ joined o (before fs l k) (inks e l (inner_guard fs k)) c w (branches_inks xs n true l)
       ∙ ap (λ v. o ++ before fs l k ++ (inks e l v ++ (c ++ w ++ branches_inks xs n true l))) (sym (and_true (inner_guard fs k)))
 
-late_text : (p : Place) (t : Tree) (xs : List BranchTree) (fs : List Frame) (e : Tree) (l : Layout) (g b : Bool) → ((fs : List Frame) (n : ℕ) (b : Bool) → waiting fs ≡ n → begun fs ≡ b → IsText xs fs t (conditional fs t xs) n b l g) → waiting fs ≡ zero → begun fs ≡ b → IsText (record { place = p; mark = Else; expr = t } ∷ xs) fs e (conditional (turned p fs e) t xs) zero b l g
+late_text : (p : Place) (t : Tree) (xs : List BranchTree) (fs : List Frame) (e : Tree) (l : Layout) (g b : Bool) → ((fs : List Frame) (n : ℕ) (b : Bool) → waiting fs ≡ n → begun fs ≡ b → IsText xs fs t (conditional fs t xs) n b l g) → waiting fs ≡ zero → begun fs ≡ b → IsText (record { place = p; operator = Else; expr = t } ∷ xs) fs e (conditional (turned p fs e) t xs) zero b l g
 late_text p t xs [] e l g true ih h k = absurd cc
 late_text p t xs [] e l g false ih h k =
     let j = g && none_late xs zero true in
@@ -178,7 +178,7 @@ late_text p t xs (f ∷ fs) e l g true ih h k =
     ∙ sym due
     ∙ ap (λ v. (open_ ∷ o) ++ before (f ∷ fs) l v ++ (i ++ ((close ∷ q) ++ w ++ r))) (sym guard)
 
-step : (p : Place) (k : BranchOperator) (t : Tree) (xs : List BranchTree) (fs : List Frame) (e : Tree) (n : ℕ) (b : Bool) (l : Layout) (g : Bool) → ((fs : List Frame) (n : ℕ) (b : Bool) → waiting fs ≡ n → begun fs ≡ b → IsText xs fs t (conditional fs t xs) n b l g) → waiting fs ≡ n → begun fs ≡ b → IsText (record { place = p; mark = k; expr = t } ∷ xs) fs e (conditional (framed p k fs e) t xs) n b l g
+step : (p : Place) (k : BranchOperator) (t : Tree) (xs : List BranchTree) (fs : List Frame) (e : Tree) (n : ℕ) (b : Bool) (l : Layout) (g : Bool) → ((fs : List Frame) (n : ℕ) (b : Bool) → waiting fs ≡ n → begun fs ≡ b → IsText xs fs t (conditional fs t xs) n b l g) → waiting fs ≡ n → begun fs ≡ b → IsText (record { place = p; operator = k; expr = t } ∷ xs) fs e (conditional (framed p k fs e) t xs) n b l g
 step p Then t xs fs e n b l g ih h k = after_then p t xs fs e l g ih n b h
 step p Elvis t xs fs e n b l g ih h k = after_elvis p t xs fs e l g ih n b h
 step p Else t xs fs e zero b l g ih h k = late_text p t xs fs e l g b ih h k
@@ -188,7 +188,7 @@ all_text : (xs : List BranchTree) (fs : List Frame) (e : Tree) (n : ℕ) (b : Bo
 all_text [] fs e n b l g h k =
     let one : before fs l g ++ inks e l (inner_guard fs g) ++ colons n ≡ before fs l g ++ (inks e l (inner_guard fs g && true) ++ colons n) = append_assoc (before fs l g) (inks e l (inner_guard fs g)) (colons n) ∙ ap (λ v. before fs l g ++ (inks e l v ++ colons n)) (sym (and_true (inner_guard fs g))) in
     ended_text fs e l g ∙ ap (λ v. before fs l g ++ inks e l (inner_guard fs g) ++ colons v) h ∙ one ∙ ap (λ v. before fs l v ++ (inks e l (inner_guard fs v && true) ++ colons n)) (sym (and_true g))
-all_text (x ∷ xs) fs e n b l g h k = step x.place x.mark x.expr xs fs e n b l g (λ fs n b. all_text xs fs x.expr n b l g) h k
+all_text (x ∷ xs) fs e n b l g h k = step x.place x.operator x.expr xs fs e n b l g (λ fs n b. all_text xs fs x.expr n b l g) h k
 
 pub branches_text : (e : Tree) (xs : List BranchTree) (l : Layout) (g : Bool) → inks (conditional [] e xs) l g ≡ opens_late xs zero false ++ (within (is_held e xs zero false) (inks e l ((g && none_late xs zero false) && not (is_held e xs zero false))) ++ branches_inks xs zero false l)
 branches_text e xs l g = all_text xs [] e zero false l g refl refl ∙ simp append-nil

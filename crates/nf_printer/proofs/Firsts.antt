@@ -2,8 +2,8 @@
 use Rattle.std.proofs.Common.{◌≡◌, ℕ, zero, suc, Bool, true, false, List, [], ◌∷◌, refl, sym, ap, ◌∙◌}
 use Rattle.std.specs.Prelude.{◌&&◌, ◌||◌, not, if◌then◌else◌}
 use Rattle.nf_value.specs.declared.place.Place.{Place}
-use Rattle.nf_ast.specs.declared.marks.BranchOperator.{BranchOperator}
-use Rattle.nf_ast.specs.declared.marks.BranchOperator.TheVariants.{Then, Else, Elvis}
+use Rattle.nf_ast.specs.declared.operators.BranchOperator.{BranchOperator}
+use Rattle.nf_ast.specs.declared.operators.BranchOperator.TheVariants.{Then, Else, Elvis}
 use Rattle.nf_ast.specs.Tree as tree
 use Rattle.nf_ast.specs.Tree.{Tree}
 use Rattle.nf_ast.specs.View.{Frame, asked, answered, preferred, ended, turned, framed, BranchTree, conditional}
@@ -75,11 +75,11 @@ module _ (X : Type 0) (R F : Tree → X) (z : X) where
     more [] gs e n b h = refl
     more (x ∷ xs) [] e n b h = absurd cc
     more (x ∷ xs) (f ∷ fs) e n b h =
-        let r = one_more x.place x.mark f fs e x.expr n h in
-        more xs (framed x.place x.mark (f ∷ fs) e) x.expr (asked_after x.mark n) r.goes r.waits
-        ∙ ap (told (none_late xs (asked_after x.mark n) true)) r.first
-        ∙ told_both (none_late xs (asked_after x.mark n) true) (not (is_late x.mark n true)) (R (ended (f ∷ fs) e))
-        ∙ ap (λ b. told b (R (ended (f ∷ fs) e))) (swapped (none_late xs (asked_after x.mark n) true) (not (is_late x.mark n true)))
+        let r = one_more x.place x.operator f fs e x.expr n h in
+        more xs (framed x.place x.operator (f ∷ fs) e) x.expr (asked_after x.operator n) r.goes r.waits
+        ∙ ap (told (none_late xs (asked_after x.operator n) true)) r.first
+        ∙ told_both (none_late xs (asked_after x.operator n) true) (not (is_late x.operator n true)) (R (ended (f ∷ fs) e))
+        ∙ ap (λ b. told b (R (ended (f ∷ fs) e))) (swapped (none_late xs (asked_after x.operator n) true) (not (is_late x.operator n true)))
       where
         swapped : (b c : Bool) → b && c ≡ c && b
         swapped true true = refl
@@ -99,8 +99,8 @@ module _ (X : Type 0) (R F : Tree → X) (z : X) where
 
     pub of_first : (e : Tree) (x : BranchTree) (xs : List BranchTree) → R (conditional [] e (x ∷ xs)) ≡ told (none_late (x ∷ xs) zero false) (F e)
     of_first e x xs =
-        let r = a_first x.place x.mark e x.expr in
-        more xs (framed x.place x.mark [] e) x.expr (asked_after x.mark zero) r.goes r.waits ∙ ap (told (none_late xs (asked_after x.mark zero) true)) r.first ∙ ap (λ b. told (not b && none_late xs (asked_after x.mark zero) true) (F e)) (sym (never_late x.mark))
+        let r = a_first x.place x.operator e x.expr in
+        more xs (framed x.place x.operator [] e) x.expr (asked_after x.operator zero) r.goes r.waits ∙ ap (told (none_late xs (asked_after x.operator zero) true)) r.first ∙ ap (λ b. told (not b && none_late xs (asked_after x.operator zero) true) (F e)) (sym (never_late x.operator))
       where
         never_late : (k : BranchOperator) → is_late k zero false ≡ false
         never_late Then = refl
@@ -110,7 +110,7 @@ module _ (X : Type 0) (R F : Tree → X) (z : X) where
 -- ---- the readings
 
 first_held : (e : Tree) (x : BranchTree) (xs : List BranchTree) → is_held e (x ∷ xs) zero false ≡ needs 1 e
-first_held e x xs = ap (λ b. b && needs 1 e) (condition x.mark)
+first_held e x xs = ap (λ b. b && needs 1 e) (condition x.operator)
   where
     condition : (k : BranchOperator) → is_condition k zero false ≡ true
     condition Then = refl

@@ -3,8 +3,8 @@ use Rattle.std.specs.Prelude.{ℕ, zero, suc, Bool, true, false, not, ◌&&◌, 
 use Rattle.nf_token.specs.declared.token.Keyword.TheVariants as k
 use Rattle.nf_token.specs.declared.token.Mark.{Mark}
 use Rattle.nf_token.specs.declared.token.Mark.TheVariants as m
-use Rattle.nf_ast.specs.declared.marks.BranchOperator.{BranchOperator}
-use Rattle.nf_ast.specs.declared.marks.BranchOperator.TheVariants.{Then, Else, Elvis}
+use Rattle.nf_ast.specs.declared.operators.BranchOperator.{BranchOperator}
+use Rattle.nf_ast.specs.declared.operators.BranchOperator.TheVariants.{Then, Else, Elvis}
 use Rattle.nf_ast.specs.declared.expr.Prefix.{Prefix}
 use Rattle.nf_ast.specs.Tree as tree
 use Rattle.nf_ast.specs.Tree.{Tree}
@@ -26,7 +26,7 @@ is_nil (x ∷ xs) = false
 
 abbrev pub prefixes_inks : List Prefix → List Ink
 prefixes_inks [] = []
-prefixes_inks (x ∷ xs) = prefix_ink x.mark ∷ prefixes_inks xs
+prefixes_inks (x ∷ xs) = prefix_ink x.operator ∷ prefixes_inks xs
 
 -- ---- operands of one level, each with the operator before it; the number is the level of what stands before
 
@@ -103,11 +103,11 @@ branch_inks Else (suc n) begun = spaced (mark m.Colon)
 -- a `(` before the first operand for each `:` that is late
 abbrev pub opens_late : List BranchTree → ℕ → Bool → List Ink
 opens_late [] n begun = []
-opens_late (x ∷ xs) n begun = bracket (is_late x.mark n begun) m.OpenRound ++ opens_late xs (asked_after x.mark n) true
+opens_late (x ∷ xs) n begun = bracket (is_late x.operator n begun) m.OpenRound ++ opens_late xs (asked_after x.operator n) true
 
 abbrev pub none_late : List BranchTree → ℕ → Bool → Bool
 none_late [] n begun = true
-none_late (x ∷ xs) n begun = not (is_late x.mark n begun) && none_late xs (asked_after x.mark n) true
+none_late (x ∷ xs) n begun = not (is_late x.operator n begun) && none_late xs (asked_after x.operator n) true
 
 -- the `:` of each `?` that still waits, with nothing after it
 abbrev pub colons : ℕ → List Ink
@@ -117,12 +117,12 @@ colons (suc n) = spaced (mark m.Colon) ++ colons n
 -- whether an operand stands in brackets, by the operator after it
 abbrev pub is_held : Tree → List BranchTree → ℕ → Bool → Bool
 is_held e [] n begun = false
-is_held e (x ∷ xs) n begun = is_condition x.mark n begun && needs 1 e
+is_held e (x ∷ xs) n begun = is_condition x.operator n begun && needs 1 e
 
 -- what stands after an operand: each operator with the operand after it
 abbrev pub branches_inks : List BranchTree → ℕ → Bool → Layout → List Ink
 branches_inks [] n begun l = colons n
-branches_inks (x ∷ xs) n begun l = branch_inks x.mark n begun ++ within (is_held x.expr xs (asked_after x.mark n) true) (inks x.expr l false) ++ branches_inks xs (asked_after x.mark n) true l
+branches_inks (x ∷ xs) n begun l = branch_inks x.operator n begun ++ within (is_held x.expr xs (asked_after x.operator n) true) (inks x.expr l false) ++ branches_inks xs (asked_after x.operator n) true l
 
 -- ---- arms of an `if`
 

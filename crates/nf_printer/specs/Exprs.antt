@@ -3,10 +3,10 @@ use Rattle.std.specs.Prelude.{Bool, true, false, not, ◌&&◌, List, [], ◌∷
 use Rattle.nf_token.specs.declared.token.Keyword.TheVariants as k
 use Rattle.nf_token.specs.declared.token.Mark.TheVariants as m
 use Rattle.nf_token.specs.declared.token.TemplateKind.{TemplateKind}
-use Rattle.nf_ast.specs.declared.marks.InfixOperator.{InfixOperator}
-use Rattle.nf_ast.specs.declared.marks.InfixOperator.TheVariants as i
-use Rattle.nf_ast.specs.declared.marks.PrefixOperator.{PrefixOperator}
-use Rattle.nf_ast.specs.declared.marks.PrefixOperator.TheVariants as f
+use Rattle.nf_ast.specs.declared.operators.InfixOperator.{InfixOperator}
+use Rattle.nf_ast.specs.declared.operators.InfixOperator.TheVariants as i
+use Rattle.nf_ast.specs.declared.operators.PrefixOperator.{PrefixOperator}
+use Rattle.nf_ast.specs.declared.operators.PrefixOperator.TheVariants as f
 use Rattle.nf_ast.specs.Tree as tree
 use Rattle.nf_ast.specs.Tree.{Tree}
 use Rattle.nf_writer.specs.Ink as ink

@@ -92,7 +92,7 @@ pub fn holds(expr: &Expr, after: &[Branch], state: BranchState) -> bool
 {
     match after {
         [] => false,
-        [branch, ..] => state.is_condition(branch.mark) && level(expr) < CONDITION,
+        [branch, ..] => state.is_condition(branch.operator) && level(expr) < CONDITION,
     }
 }
 
@@ -102,10 +102,10 @@ pub fn has_late(rest: &[Branch]) -> bool
 {
     let mut state = BranchState::none();
     for branch in rest {
-        if state.is_late(branch.mark) {
+        if state.is_late(branch.operator) {
             return true;
         }
-        state = state.after(branch.mark);
+        state = state.after(branch.operator);
     }
     false
 }
@@ -116,8 +116,8 @@ pub fn open_late(rest: &[Branch], out: &mut Writer) -> Result<(), Mem>
 {
     let mut state = BranchState::none();
     for branch in rest {
-        out.open_round(state.is_late(branch.mark))?;
-        state = state.after(branch.mark);
+        out.open_round(state.is_late(branch.operator))?;
+        state = state.after(branch.operator);
     }
     Ok(())
 }

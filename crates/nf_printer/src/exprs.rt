@@ -91,7 +91,7 @@ fn put_prefixes(prefixes: &[Prefix], out: &mut Writer) -> Result<(), Mem>
     ensures { OnOk result (out.new ≡ out.old ++ inked (prefixes_inks prefixes.now)) }
 {
     for prefix in prefixes {
-        match prefix.mark {
+        match prefix.operator {
             PrefixOperator::Not => out.mark(Mark::Not)?,
             PrefixOperator::Minus => out.mark(Mark::Minus)?,
         }
@@ -107,8 +107,8 @@ fn put_opens(rest: &[Operand], first: u8, out: &mut Writer) -> Result<(), Mem>
 {
     let mut last = first;
     for operand in rest {
-        out.open_round(last < left_level(operand.mark))?;
-        last = infix_level(operand.mark);
+        out.open_round(last < left_level(operand.operator))?;
+        last = infix_level(operand.operator);
     }
     Ok(())
 }
@@ -121,7 +121,7 @@ fn put_operands(rest: &[Operand], first: u8, margin: &Margin, out: &mut Writer) 
     let mut last = first;
     for operand in rest {
         put_operand(operand, last, margin, out)?;
-        last = infix_level(operand.mark);
+        last = infix_level(operand.operator);
     }
     Ok(())
 }
@@ -131,9 +131,9 @@ fn put_operands(rest: &[Operand], first: u8, margin: &Margin, out: &mut Writer) 
 fn put_operand(operand: &Operand, last: u8, margin: &Margin, out: &mut Writer) -> Result<(), Mem>
     ensures { OnOk result (out.new ≡ out.old ++ inked (operand_inks (view_operand operand.now) last (layout_of margin.now))) }
 {
-    let brackets = level(&operand.expr) < right_level(operand.mark);
-    out.close_round(last < left_level(operand.mark))?;
-    put_infix(operand.mark, out)?;
+    let brackets = level(&operand.expr) < right_level(operand.operator);
+    out.close_round(last < left_level(operand.operator))?;
+    put_infix(operand.operator, out)?;
     out.open_round(brackets)?;
     put_expr(&operand.expr, margin, false, out)?;
     out.close_round(brackets)
@@ -172,8 +172,8 @@ fn put_branches(rest: &[Branch], margin: &Margin, out: &mut Writer) -> Result<()
 {
     let mut state = BranchState::none();
     for (place, branch) in rest.iter().enumerate() {
-        state.put(branch.mark, out)?;
-        state = state.after(branch.mark);
+        state.put(branch.operator, out)?;
+        state = state.after(branch.operator);
         let brackets = holds(&branch.expr, &rest[place + 1..], state);
         out.open_round(brackets)?;
         put_expr(&branch.expr, margin, false, out)?;

@@ -56,7 +56,7 @@ fn next_minus(rest: &[Operand], next: bool) -> bool
 {
     match rest {
         [] => next,
-        [operand, ..] => operand.mark == InfixOperator::Minus,
+        [operand, ..] => operand.operator == InfixOperator::Minus,
     }
 }
 

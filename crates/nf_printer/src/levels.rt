@@ -74,7 +74,7 @@ pub fn level(expr: &Expr) -> u8
         }
         Expr::Infix(first, rest) => match rest.last() {
             None => level(first),
-            Some(operand) => infix_level(operand.mark),
+            Some(operand) => infix_level(operand.operator),
         },
         Expr::Conditional(first, rest) => { if no_branches(rest) { level(first) } else { 0 } }
         Expr::Postfix(first, rest) => {
@@ -145,10 +145,10 @@ pub fn is_bare(rest: &[Operand], first: u8) -> bool
 {
     let mut last = first;
     for operand in rest {
-        if last < left_level(operand.mark) {
+        if last < left_level(operand.operator) {
             return false;
         }
-        last = infix_level(operand.mark);
+        last = infix_level(operand.operator);
     }
     true
 }

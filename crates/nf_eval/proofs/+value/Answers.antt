@@ -23,7 +23,7 @@ use Rattle.nf_eval.proofs.+value.Goals.{values::text-in-Plain+in_ok-push-in-Plai
 use Rattle.std.proofs.lemmas.Bool.{false≢true}
 use Rattle.std.specs.Prelude.{Option, Some, not, option_map}
 use Rattle.nf_placed.specs.Body.{pattern_in, names_in, split, paired}
-use Rattle.nf_ast.specs.declared.marks.BranchOperator.{BranchOperator}
+use Rattle.nf_ast.specs.declared.operators.BranchOperator.{BranchOperator}
 use Rattle.nf_ast.specs.declared.expr.Branch.{Branch, the_lemmas as branch_lemmas}
 use Rattle.nf_eval.specs.Shapes.{is_nil, is_flat, is_closure, block_of}
 use Rattle.nf_eval.proofs.Shaping.{prefixes_none, prefixes_some, operands_none, operands_some, conditional_none, conditional_some, closure_argument, plain_argument, prefixes_closure, operands_closure, conditional_closure, postfix_closure}
@@ -231,9 +231,9 @@ conditionals::conditional-loop-branch-preserved g t0 c = record {
       let ys = map view_branch (drop (k + 1) rest) in
       let next : k + 1 ≡ suc k = omega arith in
       let left : drop k rest ≡ b ∷ drop (k + 1) rest = left_here rest k (k + 1) b c.loop-branch-test.true c.branch-item.is next in
-      let m : vb.mark ≡ b.mark = search (rules, branch_lemmas) in
-      let whole : conditional (framed vb.place b.mark i.0 i.1) vb.expr ys ≡ conditional [] e (map view_branch rest) = ap (λ (mk : BranchOperator). conditional (framed vb.place mk i.0 i.1) vb.expr ys) (sym m) ∙ sym (ap (λ (l : List Branch). conditional i.0 i.1 (map view_branch l)) left) ∙ i.3 in
-      (framed vb.place b.mark i.0 i.1, vb.expr, c.in_ok-turn.ensures.steps i.0 i.1 i.2, whole);
+      let m : vb.operator ≡ b.operator = search (rules, branch_lemmas) in
+      let whole : conditional (framed vb.place b.operator i.0 i.1) vb.expr ys ≡ conditional [] e (map view_branch rest) = ap (λ (mk : BranchOperator). conditional (framed vb.place mk i.0 i.1) vb.expr ys) (sym m) ∙ sym (ap (λ (l : List Branch). conditional i.0 i.1 (map view_branch l)) left) ∙ i.3 in
+      (framed vb.place b.operator i.0 i.1, vb.expr, c.in_ok-turn.ensures.steps i.0 i.1 i.2, whole);
 }
 
 pub conditionals::conditional-returns-in_err-turn : goal.conditionals::conditional-returns-in_err-turn
@@ -247,10 +247,10 @@ conditionals::conditional-returns-in_err-turn g t0 c e h =
     let ys = map view_branch (drop (k + 1) rest) in
     let next : k + 1 ≡ suc k = omega arith in
     let left : drop k rest ≡ b ∷ drop (k + 1) rest = left_here rest k (k + 1) b c.loop-branch-test.true c.branch-item.is next in
-    let m : vb.mark ≡ b.mark = search (rules, branch_lemmas) in
-    let whole : conditional (framed vb.place b.mark i.0 i.1) vb.expr ys ≡ conditional [] e (map view_branch rest) = ap (λ (mk : BranchOperator). conditional (framed vb.place mk i.0 i.1) vb.expr ys) (sym m) ∙ sym (ap (λ (l : List Branch). conditional i.0 i.1 (map view_branch l)) left) ∙ i.3 in
+    let m : vb.operator ≡ b.operator = search (rules, branch_lemmas) in
+    let whole : conditional (framed vb.place b.operator i.0 i.1) vb.expr ys ≡ conditional [] e (map view_branch rest) = ap (λ (mk : BranchOperator). conditional (framed vb.place mk i.0 i.1) vb.expr ys) (sym m) ∙ sym (ap (λ (l : List Branch). conditional i.0 i.1 (map view_branch l)) left) ∙ i.3 in
     let err : c.from_residual.result ≡ Err c.in_err-turn.field-0.0 = search rules in
-    steps_fault env (framed vb.place b.mark i.0 i.1) vb.expr ys (conditional [] e (map view_branch rest)) c.in_err-turn.field-0.0 c.from_residual.result err (sym whole) (c.in_err-turn.ensures.steps i.0 i.1 i.2)
+    steps_fault env (framed vb.place b.operator i.0 i.1) vb.expr ys (conditional [] e (map view_branch rest)) c.in_err-turn.field-0.0 c.from_residual.result err (sym whole) (c.in_err-turn.ensures.steps i.0 i.1 i.2)
 
 pub conditionals::conditional-returns : goal.conditionals::conditional-returns
 conditionals::conditional-returns g t0 c e h =
@@ -274,7 +274,7 @@ conditionals::step-returns-in_err-value-in-Due-clause-steps g t0 c fs e h =
     let b = view_branch c.args.branch.now in
     let is : b.expr ≡ view c.args.branch.now.expr = search (rules, branch_lemmas) in
     let err : c.from_residual.result ≡ Err c.in_err-value-in-Due.field-0.0 = search rules in
-    steps_refused env c.in-Due.outer (framed b.place c.args.branch.now.mark fs e) b.expr c.in_err-value-in-Due.field-0.0 c.from_residual.result err (c.in-Due.ensures.reads env b.place fs e h) (refused_at ((meaning_of b.expr).value env) (eval_of (view c.args.branch.now.expr) env) c.in_err-value-in-Due.field-0.0 (ap (λ (t : Tree). (meaning_of t).value env) is) (refused (eval_of (view c.args.branch.now.expr) env) c.in_err-value-in-Due.field-0.0 c.in_err-value-in-Due.ensures))
+    steps_refused env c.in-Due.outer (framed b.place c.args.branch.now.operator fs e) b.expr c.in_err-value-in-Due.field-0.0 c.from_residual.result err (c.in-Due.ensures.reads env b.place fs e h) (refused_at ((meaning_of b.expr).value env) (eval_of (view c.args.branch.now.expr) env) c.in_err-value-in-Due.field-0.0 (ap (λ (t : Tree). (meaning_of t).value env) is) (refused (eval_of (view c.args.branch.now.expr) env) c.in_err-value-in-Due.field-0.0 c.in_err-value-in-Due.ensures))
 
 pub chains::subject-returns-in_ok-copy-in-Name : goal.chains::subject-returns-in_ok-copy-in-Name
 chains::subject-returns-in_ok-copy-in-Name g t0 c =

@@ -1,7 +1,7 @@
 use Rattle.std.proofs.Common.{◌+◌, sym, subst, arith}
 use Rattle.std.specs.Prelude.{Some, None}
 use Rattle.nf_value.specs.View.{plain_of}
-use Rattle.nf_ast.specs.declared.marks.BranchOperator.{BranchOperator}
+use Rattle.nf_ast.specs.declared.operators.BranchOperator.{BranchOperator}
 use Rattle.nf_ast.specs.View.{framed}
 use Rattle.nf_eval.specs.declared.turns.Turn.{Turn}
 use Rattle.nf_eval.specs.Turns.{IsAt, IsNext, Shut, more_preferred}

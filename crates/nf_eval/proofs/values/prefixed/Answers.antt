@@ -2,7 +2,7 @@ use Rattle.std.proofs.Common.{◌≡◌, ◌∙◌, ◌-◌, ◌+◌, ◌<◌, t
 use Rattle.nf_value.specs.Plain.{Plain}
 use Rattle.nf_value.specs.View.{plain_of}
 use Rattle.nf_ast.specs.declared.expr.Prefix.{Prefix}
-use Rattle.nf_ast.specs.declared.marks.PrefixOperator.TheVariants as before
+use Rattle.nf_ast.specs.declared.operators.PrefixOperator.TheVariants as before
 use Rattle.nf_placed.specs.Placed.{Placed, ◌>>=◌, made}
 use Rattle.nf_placed.specs.Operators.{prefix_of}
 use Rattle.nf_eval.specs.Chains.{prefixed}
@@ -11,7 +11,7 @@ use Rattle.nf_eval.proofs.Innermost.{from_innermost}
 use Rattle.nf_eval.proofs.values.prefixed.Goals as goal
 
 abbrev no_prefix : Prefix
-no_prefix = record { place = record { line = 0; col = 0 }; mark = before.Not }
+no_prefix = record { place = record { line = 0; col = 0 }; operator = before.Not }
 
 pub returns-in_err-value : goal.returns-in_err-value
 returns-in_err-value c =
@@ -21,7 +21,7 @@ returns-in_err-value c =
     let next : c.loop-end.end ≡ i + 1 = omega arith in
     let inside : i < length operators = omega (arith, c.loop-end.invariant.0) in
     let err : c.from_residual.result ≡ Err c.in_err-value.field-0.0 = search rules in
-    fault_first (prefixed operators (plain_of c.args.of)) (made x.place (prefix_of x.mark (plain_of c.loop-end.value))) (prefixed (take i operators)) c.in_err-value.field-0.0 c.from_residual.result (sym c.loop-end.invariant.1 ∙ from_innermost operators c.loop-end.end i no_prefix (plain_of c.loop-end.value) next inside) err c.in_err-value.ensures
+    fault_first (prefixed operators (plain_of c.args.of)) (made x.place (prefix_of x.operator (plain_of c.loop-end.value))) (prefixed (take i operators)) c.in_err-value.field-0.0 c.from_residual.result (sym c.loop-end.invariant.1 ∙ from_innermost operators c.loop-end.end i no_prefix (plain_of c.loop-end.value) next inside) err c.in_err-value.ensures
 
 pub loop-end-preserved : goal.loop-end-preserved
 loop-end-preserved c =
