@@ -49,17 +49,45 @@ fn outcome(
     let outs = opts.outs.max(1);
     let mut operator = Operator::begin(alloc, name, opts)?;
     let mut emits = Vec::new(alloc);
-    for push in first.iter().chain(later.iter()) {
-        match pushed(&mut operator, push) {
-            Ok(more) => add(&mut emits, more, outs)?,
-            Err(fault) => return shown_fault(alloc, &fault, ""),
+    for pushes in [first, later] {
+        if let Some(fault) = fed(alloc, &mut operator, pushes, &mut emits, outs)? {
+            return Ok(fault);
         }
     }
-    match operator.close() {
-        Ok(more) => add(&mut emits, more, outs)?,
-        Err(fault) => return shown_fault(alloc, &fault, " at the close"),
+    closed(alloc, &mut operator, emits, outs)
+}
+
+/// Pushes each item. Gives the text of the fault that ends the run, if there is one.
+fn fed(
+    alloc: Global,
+    operator: &mut Operator,
+    pushes: &[Push],
+    emits: &mut Vec<(u32, Value)>,
+    outs: u32,
+) -> Result<Option<String>> {
+    for push in pushes {
+        match pushed(operator, push) {
+            Ok(more) => add(emits, more, outs)?,
+            Err(fault) => return Ok(Some(shown_fault(alloc, &fault, "")?)),
+        }
     }
-    shown(alloc, emits.as_slice(), outs)
+    Ok(None)
+}
+
+/// What the close adds to these emits, or its fault.
+fn closed(
+    alloc: Global,
+    operator: &mut Operator,
+    mut emits: Vec<(u32, Value)>,
+    outs: u32,
+) -> Result<String> {
+    match operator.close() {
+        Ok(more) => {
+            add(&mut emits, more, outs)?;
+            shown(alloc, emits.as_slice(), outs)
+        }
+        Err(fault) => shown_fault(alloc, &fault, " at the close"),
+    }
 }
 
 /// What a push gives.
