@@ -3,6 +3,7 @@ pub mod Members
 pub mod Pushes
 pub mod Each
 pub mod Promised
+pub mod Outputs
 pub mod Deep
 pub mod Inner
 pub mod Places

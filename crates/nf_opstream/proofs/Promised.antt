@@ -1,6 +1,6 @@
 -- What an operator gives meets the promises of a push and a close.
 use Rattle.std.proofs.Common.{◌≡◌, ℕ, List, [], ◌∷◌, ap, sym, ◌∙◌, ◌++◌, subst}
-use Rattle.std.specs.Prelude.{Option, Some, None, Result, Ok, Err, is_ok, MatchResult, IfSome}
+use Rattle.std.specs.Prelude.{Option, Some, None, Result, Ok, Err, is_ok, IfOk, MatchResult, IfSome}
 use Rattle.nf_value.specs.Plain.{Plain}
 use Rattle.nf_value.specs.declared.value.Value.{Value}
 use Rattle.nf_bag.specs.Bag.{IsSubBag}
@@ -72,3 +72,8 @@ judged_alike items e r h = subst (λ es. MatchResult r (λ t. judged es ≡ Ok (
 pub due_alike : {T : Type 0} (items : T → List (ℕ × Value)) {given due : Result (List (ℕ × Plain)) Fault} → given ≡ due → (r : Result T OpFault)
     → MatchResult r (λ t. given ≡ Ok (emits_of (items t))) (IsFault given) → MatchResult r (λ t. due ≡ Ok (emits_of (items t))) (IsFault due)
 due_alike items e r h = subst (λ d. MatchResult r (λ t. d ≡ Ok (emits_of (items t))) (IsFault d)) e h
+
+-- after a push that had no fault all pushes are fine
+pub fine_after : {T : Type 0} (items : T → List (ℕ × Value)) (op : Operator) (p : List Push) (x : Push) (r : Result T OpFault) → MatchResult r (λ t. HasEmitted op p x (emits_of (items t))) (PushRefused op p x) → IfOk r (λ t. AreFine op (x ∷ p))
+fine_after items op p x (Ok t) h = h.fine
+fine_after items op p x (Err f) h = tt

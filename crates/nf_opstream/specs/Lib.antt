@@ -7,3 +7,4 @@ pub mod Nested
 pub mod Columns
 pub mod Rows
 pub mod Seen
+pub mod Kept

@@ -1,10 +1,9 @@
 //! `branch`: sends each item to the output of its first true label.
 
-ghost use Rattle.std.specs.Prelude.{◌≡◌, ◌∷◌, [], List, IfOk, IsOk, MatchResult, MatchOption};
+ghost use Rattle.std.specs.Prelude.{◌≡◌, ◌∷◌, [], ℕ, List, IfOk, IsOk, MatchResult, MatchOption};
 ghost use Rattle.nf_value.specs.Plain.{Plain};
 ghost use Rattle.nf_value.specs.View.{plain_of};
 ghost use Rattle.nf_opstream.specs.Push.{Push, push_of};
-ghost use Rattle.nf_opstream.specs.Operator.{AreFine};
 ghost use Rattle.nf_opstream.specs.Promise.{emits_of, HasEmitted, HasEnded, PushRefused, CloseRefused};
 ghost use Rattle.nf_opstream.specs.Rows.{branch_row, branched};
 
@@ -22,13 +21,15 @@ pub struct BranchState {
 }
 
 impl BranchState {
+    ghost use Rattle.nf_opstream.specs.Kept.{IsBranchAfter};
+
     /// The state before the first item. `outs` of the options is the count of outputs.
     ///
     /// # Errors
     ///
     /// None. It takes no memory.
     pub fn begin(alloc: Global, opts: &OpOpts) -> Result<BranchState, Mem>
-        ensures outs { IfOk result (λ s. s.outs ≡ opts.now.outs) }
+        ensures after { IfOk result (λ s. IsBranchAfter opts.now.outs [] s) }
         ensures begun { IsOk result }
     {
         Ok(BranchState {
@@ -41,15 +42,16 @@ impl BranchState {
     ///
     /// # Errors
     ///
-    /// `TooDeep` if a value to be emitted is deeper than 64, `Mem` if there is no memory. Push nothing after an error.
+    /// `TooDeep` if a value to be emitted is deeper than 64, `Mem` if there is no memory. After an error the state takes no further
+    /// call.
     pub fn push(
         &mut self,
         port: u32,
         item: Value,
         answer: Value,
     ) -> Result<Vec<(u32, Value)>, OpFault>
-        ensures emits { let x = push_of port (plain_of item) (plain_of answer) in (p : List Push) → AreFine (branch_row self.old.outs) p → MatchResult result (λ es. HasEmitted (branch_row self.old.outs) p x (emits_of es.items)) (PushRefused (branch_row self.old.outs) p x) }
-        ensures outs { self.new.outs ≡ self.old.outs }
+        ensures emits { let x = push_of port (plain_of item) (plain_of answer) in (outs : ℕ) → (p : List Push) → IsBranchAfter outs p self.old → MatchResult result (λ es. HasEmitted (branch_row outs) p x (emits_of es.items)) (PushRefused (branch_row outs) p x) }
+        ensures after { let x = push_of port (plain_of item) (plain_of answer) in (outs : ℕ) → (p : List Push) → IsBranchAfter outs p self.old → IfOk result (λ _. IsBranchAfter outs (x ∷ p) self.new) }
     {
         match output_of(&answer, self.outs) {
             Some(out) => one(self.alloc, out, item),
@@ -57,15 +59,14 @@ impl BranchState {
         }
     }
 
-    /// Ends the input. Emits nothing. The options stay.
+    /// Ends the input. Emits nothing. The state takes no further call.
     ///
     /// # Errors
     ///
     /// None. It takes no memory.
     pub fn close(&mut self) -> Result<Vec<(u32, Value)>, OpFault>
-        ensures ends { (p : List Push) → AreFine (branch_row self.old.outs) p → MatchResult result (λ es. HasEnded (branch_row self.old.outs) p (emits_of es.items)) (CloseRefused (branch_row self.old.outs) p) }
+        ensures ends { (outs : ℕ) → (p : List Push) → IsBranchAfter outs p self.old → MatchResult result (λ es. HasEnded (branch_row outs) p (emits_of es.items)) (CloseRefused (branch_row outs) p) }
         ensures ended { IsOk result }
-        ensures outs { self.new.outs ≡ self.old.outs }
     {
         Ok(Vec::new(self.alloc))
     }

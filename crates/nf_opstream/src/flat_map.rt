@@ -36,7 +36,8 @@ impl FlatMapState {
     ///
     /// # Errors
     ///
-    /// `TooDeep` if a value to be emitted is deeper than 64, `Mem` if there is no memory. Push nothing after an error.
+    /// `TooDeep` if a value to be emitted is deeper than 64, `Mem` if there is no memory. After an error the state takes no further
+    /// call.
     pub fn push(
         &mut self,
         port: u32,
@@ -49,7 +50,7 @@ impl FlatMapState {
         judge(emits)
     }
 
-    /// Ends the input. Emits nothing.
+    /// Ends the input. Emits nothing. The state takes no further call.
     ///
     /// # Errors
     ///

@@ -34,7 +34,8 @@ impl PassState {
     ///
     /// # Errors
     ///
-    /// `TooDeep` if a value to be emitted is deeper than 64, `Mem` if there is no memory. Push nothing after an error.
+    /// `TooDeep` if a value to be emitted is deeper than 64, `Mem` if there is no memory. After an error the state takes no further
+    /// call.
     pub fn push(
         &mut self,
         port: u32,
@@ -46,7 +47,7 @@ impl PassState {
         one(self.alloc, 0, item)
     }
 
-    /// Ends the input. Emits nothing.
+    /// Ends the input. Emits nothing. The state takes no further call.
     ///
     /// # Errors
     ///

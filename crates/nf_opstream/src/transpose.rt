@@ -36,8 +36,8 @@ impl TransposeState {
     ///
     /// # Errors
     ///
-    /// `NotATuple` if the item is no list, `TooDeep` if a value to be emitted is deeper than 64, `Mem` if there is no memory. Push
-    /// nothing after an error.
+    /// `NotATuple` if the item is no list, `TooDeep` if a value to be emitted is deeper than 64, `Mem` if there is no memory. After
+    /// an error the state takes no further call.
     pub fn push(
         &mut self,
         port: u32,
@@ -52,7 +52,7 @@ impl TransposeState {
         }
     }
 
-    /// Ends the input. Emits nothing.
+    /// Ends the input. Emits nothing. The state takes no further call.
     ///
     /// # Errors
     ///

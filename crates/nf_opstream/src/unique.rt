@@ -43,7 +43,7 @@ impl UniqueState {
     ///
     /// # Errors
     ///
-    /// `TooDeep` if the item is deeper than 64, `Mem` if there is no memory. Push nothing after an error.
+    /// `TooDeep` if the item is deeper than 64, `Mem` if there is no memory. After an error the state takes no further call.
     pub fn push(
         &mut self,
         port: u32,
@@ -66,7 +66,7 @@ impl UniqueState {
         Ok(emits)
     }
 
-    /// Ends the input. Emits nothing.
+    /// Ends the input. Emits nothing. The state takes no further call.
     ///
     /// # Errors
     ///

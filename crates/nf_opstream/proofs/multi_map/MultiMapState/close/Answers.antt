@@ -5,4 +5,4 @@ use Rattle.nf_opstream.proofs.Promised.{ends_silent}
 use Rattle.nf_opstream.proofs.multi_map.MultiMapState.close.Goals as goal
 
 pub returns-clause-ends : goal.returns-clause-ends
-returns-clause-ends c = λ p fine. ends_silent (multi_map_row c.args.self.now.outs) (multi_map_law c.args.self.now.outs) p fine c.new.result.items c.new.ensures.items refl
+returns-clause-ends c = λ outs p after. ends_silent (multi_map_row outs) (multi_map_law outs) p after.fine c.new.result.items c.new.ensures.items refl
