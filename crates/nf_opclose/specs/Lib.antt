@@ -5,3 +5,4 @@ pub mod Reduce
 pub mod Rows
 pub mod Running
 pub mod Kept
+pub mod Room

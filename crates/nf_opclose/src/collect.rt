@@ -54,7 +54,7 @@ impl CollectState {
     ///
     /// # Errors
     ///
-    /// `Mem` if there is no memory. Push nothing after an error.
+    /// `Mem` if there is no memory. After an error the state takes no further call.
     pub fn push(
         &mut self,
         port: u32,
@@ -72,7 +72,7 @@ impl CollectState {
     }
 
     /// Ends the input, and emits the list. Time: some n log n comparisons of values for n items. The option stays, and whether
-    /// there was an item.
+    /// there was an item. The state takes no further call.
     ///
     /// # Errors
     ///

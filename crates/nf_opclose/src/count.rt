@@ -1,6 +1,6 @@
 //! `count`: emits how many items there were.
 
-ghost use Rattle.std.specs.Prelude.{◌≡◌, List, [], ◌∷◌, ◌<◌, ◌≤◌, ◌^◌, IfOk, IsOk, MatchResult, IsTrue, ◌↔◌};
+ghost use Rattle.std.specs.Prelude.{◌≡◌, List, [], ◌∷◌, ◌≤◌, ◌^◌, IfOk, IsOk, MatchResult, IsTrue, ◌↔◌};
 ghost use Rattle.nf_value.specs.View.{plain_of};
 ghost use Rattle.nf_opstream.specs.Push.{Push, push_of};
 ghost use Rattle.nf_opstream.specs.Promise.{emits_of, HasEmitted, HasEnded, PushRefused, CloseRefused};
@@ -26,6 +26,7 @@ pub struct CountState {
 
 impl CountState {
     ghost use Rattle.nf_opclose.specs.Kept.{IsCountAfter};
+    ghost use Rattle.nf_opclose.specs.Room.{HasCountRoom};
 
     /// The state before the first item. It reads no option.
     ///
@@ -46,7 +47,7 @@ impl CountState {
 
     /// Whether one more item may be pushed: fewer than 2^32 were.
     pub fn has_room(&self) -> bool
-        ensures { IsTrue result ↔ (self.now.count < 2 ^ 32) }
+        ensures { IsTrue result ↔ HasCountRoom self.now }
     {
         self.count < MOST_ITEMS
     }
@@ -62,9 +63,10 @@ impl CountState {
         item: Value,
         answer: Value,
     ) -> Result<Vec<(u32, Value)>, OpFault>
-        requires { self.old.count < 2 ^ 32 }
+        requires { HasCountRoom self.old }
         ensures emits { let x = push_of port (plain_of item) (plain_of answer) in (p : List Push) → IsCountAfter p self.old → MatchResult result (λ es. HasEmitted count_row p x (emits_of es.items)) (PushRefused count_row p x) }
         ensures after { let x = push_of port (plain_of item) (plain_of answer) in (p : List Push) → IsCountAfter p self.old → IfOk result (λ _. IsCountAfter (x ∷ p) self.new) }
+        ensures taken { IsOk result }
     {
         laws::count();
         promises();
@@ -72,7 +74,7 @@ impl CountState {
         Ok(Vec::new(self.alloc))
     }
 
-    /// Ends the input, and emits the number of items. The number stays.
+    /// Ends the input, and emits the number of items. The number stays. The state takes no further call.
     ///
     /// # Errors
     ///

@@ -58,7 +58,7 @@ impl IfEmptyState {
     ///
     /// # Errors
     ///
-    /// `TooDeep` if the item is deeper than 64, `Mem` if there is no memory. Push nothing after an error.
+    /// `TooDeep` if the item is deeper than 64, `Mem` if there is no memory. After an error the state takes no further call.
     pub fn push(
         &mut self,
         port: u32,
@@ -74,7 +74,7 @@ impl IfEmptyState {
         emit(&mut self.items, item)
     }
 
-    /// Ends the input, and emits the value if there was no item. Whether there was one stays.
+    /// Ends the input, and emits the value if there was no item. Whether there was one stays. The state takes no further call.
     ///
     /// # Errors
     ///

@@ -8,9 +8,11 @@ ghost use Rattle.nf_opstream.specs.Fault.{Fault};
 ghost use Rattle.nf_opstream.specs.Operator.{IsOperator};
 ghost use Rattle.nf_opclose.specs.Closing.{closing};
 ghost use Rattle.nf_opclose.specs.Rows.{count_row, if_empty_row, to_list_row, collect_row, min_row, max_row, sum_row, reduce_row};
-ghost use Rattle.nf_opclose.specs.Kept.{IsReduceAfter};
-ghost use Rattle.nf_opclose.specs.Running.{HasRoom};
+ghost use Rattle.nf_opclose.specs.Kept.{IsCountAfter, IsReduceAfter, IsSumAfter};
+ghost use Rattle.nf_opclose.specs.Room.{HasCountRoom, HasReduceRoom, HasSumRoom};
+ghost use Rattle.nf_opclose.specs.declared.count.CountState.{CountState};
 ghost use Rattle.nf_opclose.specs.declared.reduce.ReduceState.{ReduceState};
+ghost use Rattle.nf_opclose.specs.declared.sum.SumState.{SumState};
 
 use nf_bag::laws::{sorting, sums};
 use nf_opstream::laws::{inputs, item_by_item};
@@ -94,7 +96,9 @@ pub fn reduce()
     sums();
 }
 
-/// After fewer than 2^32 pushes, `reduce` has room for one more item.
+/// After fewer than 2^32 pushes, `count`, `sum` and `reduce` have room for one more item.
 pub fn room()
-    ensures { (kind : Total) → (start : Option Plain) → (p : List Push) → (s : ReduceState) → IsReduceAfter kind start p s → length p < 2 ^ 32 → HasRoom s.running }
+    ensures count { (p : List Push) → (s : CountState) → IsCountAfter p s → length p < 2 ^ 32 → HasCountRoom s }
+    ensures sum { (p : List Push) → (s : SumState) → IsSumAfter p s → length p < 2 ^ 32 → HasSumRoom s }
+    ensures reduce { (kind : Total) → (start : Option Plain) → (p : List Push) → (s : ReduceState) → IsReduceAfter kind start p s → length p < 2 ^ 32 → HasReduceRoom s }
 {}

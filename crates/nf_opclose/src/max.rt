@@ -69,7 +69,7 @@ impl MaxState {
         Ok(Vec::new(self.alloc))
     }
 
-    /// Ends the input, and emits the greatest item.
+    /// Ends the input, and emits the greatest item. The state takes no further call.
     ///
     /// # Errors
     ///

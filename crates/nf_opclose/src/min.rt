@@ -67,7 +67,7 @@ impl MinState {
         Ok(Vec::new(self.alloc))
     }
 
-    /// Ends the input, and emits the least item.
+    /// Ends the input, and emits the least item. The state takes no further call.
     ///
     /// # Errors
     ///

@@ -1,10 +1,11 @@
 //! `reduce`: emits what its closure makes of all items.
 
-ghost use Rattle.std.specs.Prelude.{◌≡◌, List, [], ◌∷◌, Option, IfOk, MatchResult, IsTrue, ◌↔◌};
+ghost use Rattle.std.specs.Prelude.{◌≡◌, List, [], ◌∷◌, Option, IfOk, IfErr, MatchResult, IsTrue, ◌↔◌};
 ghost use Rattle.std.specs.Option.{option_map};
 ghost use Rattle.nf_value.specs.Plain.{Plain};
 ghost use Rattle.nf_value.specs.View.{plain_of};
 ghost use Rattle.nf_bag.specs.declared.options.Total.{Total};
+ghost use Rattle.nf_bag.specs.declared.fault.OpFault.TheVariants as fault;
 ghost use Rattle.nf_opstream.specs.Push.{Push, push_of};
 ghost use Rattle.nf_opstream.specs.Promise.{emits_of, HasEmitted, HasEnded, PushRefused, CloseRefused};
 ghost use Rattle.nf_opclose.specs.Reduce.{stray_of, with_start};
@@ -33,6 +34,7 @@ pub struct ReduceState {
 
 impl ReduceState {
     ghost use Rattle.nf_opclose.specs.Kept.{IsReduceAfter};
+    ghost use Rattle.nf_opclose.specs.Room.{HasReduceRoom};
 
     /// The state before the first item. It reads `total` and `start` of the options.
     ///
@@ -56,7 +58,7 @@ impl ReduceState {
 
     /// Whether one more item may be pushed. It may after fewer than 2^32.
     pub fn has_room(&self) -> bool
-        ensures { IsTrue result ↔ HasRoom self.now.running }
+        ensures { IsTrue result ↔ HasReduceRoom self.now }
     {
         self.running.has_room()
     }
@@ -65,16 +67,17 @@ impl ReduceState {
     ///
     /// # Errors
     ///
-    /// `NotANumber` if the closure adds or compares numbers and the item is none. Push nothing after an error.
+    /// `NotANumber` if the closure adds or compares numbers and the item is none. After an error the state takes no further call.
     pub fn push(
         &mut self,
         port: u32,
         item: Value,
         answer: Value,
     ) -> Result<Vec<(u32, Value)>, OpFault>
-        requires { HasRoom self.old.running }
+        requires { HasReduceRoom self.old }
         ensures emits { let x = push_of port (plain_of item) (plain_of answer) in (kind : Total) → (start : Option Plain) → (p : List Push) → IsReduceAfter kind start p self.old → MatchResult result (λ es. HasEmitted (reduce_row kind start) p x (emits_of es.items)) (PushRefused (reduce_row kind start) p x) }
         ensures after { let x = push_of port (plain_of item) (plain_of answer) in (kind : Total) → (start : Option Plain) → (p : List Push) → IsReduceAfter kind start p self.old → IfOk result (λ _. IsReduceAfter kind start (x ∷ p) self.new) }
+        ensures refused { IfErr result (λ f. f ≡ fault.NotANumber item) }
     {
         laws::reduce();
         promises();
@@ -86,7 +89,7 @@ impl ReduceState {
         Ok(Vec::new(self.alloc))
     }
 
-    /// Ends the input, and emits what the closure makes of all values.
+    /// Ends the input, and emits what the closure makes of all values. The state takes no further call.
     ///
     /// # Errors
     ///

@@ -1,7 +1,8 @@
 //! `sum`: emits the total of its items.
 
-ghost use Rattle.std.specs.Prelude.{◌≡◌, List, [], ◌∷◌, ◌<◌, ◌^◌, IfOk, IsOk, MatchResult, IsTrue, ◌↔◌};
+ghost use Rattle.std.specs.Prelude.{◌≡◌, List, [], ◌∷◌, IfOk, IfErr, IsOk, MatchResult, IsTrue, ◌↔◌};
 ghost use Rattle.nf_value.specs.View.{plain_of};
+ghost use Rattle.nf_bag.specs.declared.fault.OpFault.TheVariants as fault;
 ghost use Rattle.nf_opstream.specs.Push.{Push, push_of};
 ghost use Rattle.nf_opstream.specs.Promise.{emits_of, HasEmitted, HasEnded, PushRefused, CloseRefused};
 ghost use Rattle.nf_opclose.specs.Rows.{sum_row};
@@ -25,6 +26,7 @@ pub struct SumState {
 
 impl SumState {
     ghost use Rattle.nf_opclose.specs.Kept.{IsSumAfter};
+    ghost use Rattle.nf_opclose.specs.Room.{HasSumRoom};
 
     /// The state before the first item. It reads no option.
     ///
@@ -45,7 +47,7 @@ impl SumState {
 
     /// Whether one more item may be pushed: fewer than 2^32 were.
     pub fn has_room(&self) -> bool
-        ensures { IsTrue result ↔ (self.now.numbers.count < 2 ^ 32) }
+        ensures { IsTrue result ↔ HasSumRoom self.now }
     {
         self.numbers.count < MOST_ITEMS
     }
@@ -54,16 +56,17 @@ impl SumState {
     ///
     /// # Errors
     ///
-    /// `NotANumber` if the item is no number. Push nothing after an error.
+    /// `NotANumber` if the item is no number. After an error the state takes no further call.
     pub fn push(
         &mut self,
         port: u32,
         item: Value,
         answer: Value,
     ) -> Result<Vec<(u32, Value)>, OpFault>
-        requires { self.old.numbers.count < 2 ^ 32 }
+        requires { HasSumRoom self.old }
         ensures emits { let x = push_of port (plain_of item) (plain_of answer) in (p : List Push) → IsSumAfter p self.old → MatchResult result (λ es. HasEmitted sum_row p x (emits_of es.items)) (PushRefused sum_row p x) }
         ensures after { let x = push_of port (plain_of item) (plain_of answer) in (p : List Push) → IsSumAfter p self.old → IfOk result (λ _. IsSumAfter (x ∷ p) self.new) }
+        ensures refused { IfErr result (λ f. f ≡ fault.NotANumber item) }
     {
         laws::sum();
         promises();
@@ -76,7 +79,7 @@ impl SumState {
         }
     }
 
-    /// Ends the input, and emits the total. The total stays.
+    /// Ends the input, and emits the total. The total stays. The state takes no further call.
     ///
     /// # Errors
     ///

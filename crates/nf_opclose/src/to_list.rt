@@ -49,7 +49,7 @@ impl ToListState {
     ///
     /// # Errors
     ///
-    /// `Mem` if there is no memory. Push nothing after an error.
+    /// `Mem` if there is no memory. After an error the state takes no further call.
     pub fn push(
         &mut self,
         port: u32,
@@ -65,7 +65,7 @@ impl ToListState {
         Ok(Vec::new(self.alloc))
     }
 
-    /// Ends the input, and emits the list. Time: some n log n comparisons of values for n items.
+    /// Ends the input, and emits the list. Time: some n log n comparisons of values for n items. The state takes no further call.
     ///
     /// # Errors
     ///

@@ -36,7 +36,7 @@ impl ValueState {
     ///
     /// # Errors
     ///
-    /// `TooDeep` if the item is deeper than 64, `Mem` if there is no memory. Push nothing after an error.
+    /// `TooDeep` if the item is deeper than 64, `Mem` if there is no memory. After an error the state takes no further call.
     pub fn push(
         &mut self,
         port: u32,
@@ -48,7 +48,7 @@ impl ValueState {
         self.items.push(port, item, answer)
     }
 
-    /// Ends the input. Emits nothing.
+    /// Ends the input. Emits nothing. The state takes no further call.
     ///
     /// # Errors
     ///

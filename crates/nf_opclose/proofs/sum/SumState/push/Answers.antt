@@ -16,4 +16,5 @@ returns c = record {
   emits = λ p after. (let x = push_of c.args.port (plain_of c.args.item) (plain_of c.args.answer) in
       c.promises.ensures.faulted sum_row c.sum.ensures p after.fine x (not_a_number (plain_of c.args.item)) (stray_given x (no_number c.args.item c.in_default.not-Int)));
   after = λ p after. tt;
+  refused = refl;
 }
