@@ -57,8 +57,8 @@ impl CombineState {
     ///
     /// # Errors
     ///
-    /// `NotATuple` if `by: 0` is set and the item is no list with a first item, `TooDeep` if a pair is deeper than 64, `Mem` if there is
-    /// no memory. Push nothing after an error.
+    /// `NotATuple` if `by: 0` is set and the item is no list with a first item, `TooDeep` if a pair is deeper than 64, `Mem` if
+    /// there is no memory. After an error the state takes no further call.
     pub fn push(
         &mut self,
         port: u32,
@@ -98,7 +98,7 @@ impl CombineState {
         }
     }
 
-    /// Ends the input. Emits nothing. The options stay.
+    /// Ends the input. Emits nothing. The options stay. The state takes no further call.
     ///
     /// # Errors
     ///

@@ -58,7 +58,8 @@ impl GroupState {
     ///
     /// # Errors
     ///
-    /// `NotATuple` if the item is no list with an item at the key's place, `Mem` if there is no memory. Push nothing after an error.
+    /// `NotATuple` if the item is no list with an item at the key's place, `Mem` if there is no memory. After an error the state
+    /// takes no further call.
     pub fn push(
         &mut self,
         port: u32,
@@ -80,7 +81,7 @@ impl GroupState {
     }
 
     /// Ends the input, and emits the groups in the order of their keys. Time: some n log n comparisons of values for n items. The
-    /// options stay.
+    /// options stay. The state takes no further call.
     ///
     /// # Errors
     ///

@@ -61,8 +61,8 @@ impl JoinState {
     ///
     /// # Errors
     ///
-    /// `NotATuple` if the item is no list with an item at the key's place, `DuplicateKey` if its input had that key before, `TooDeep` if
-    /// the pair is deeper than 64, `Mem` if there is no memory. Push nothing after an error.
+    /// `NotATuple` if the item is no list with an item at the key's place, `DuplicateKey` if its input had that key before,
+    /// `TooDeep` if the pair is deeper than 64, `Mem` if there is no memory. After an error the state takes no further call.
     pub fn push(
         &mut self,
         port: u32,
@@ -102,7 +102,8 @@ impl JoinState {
         }
     }
 
-    /// Ends the input, and emits the items without a partner if `remainder` is set. The options stay.
+    /// Ends the input, and emits the items without a partner if `remainder` is set. The options stay. The state takes no further
+    /// call.
     ///
     /// # Errors
     ///
