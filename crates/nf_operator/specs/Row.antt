@@ -1,5 +1,5 @@
 -- What each operator of the table is: its meaning, its inputs and its outputs.
-use Rattle.std.specs.Prelude.{ℕ, ◌==◌, nat_le, Bool, false, true, cond, Option, is_some, unwrap_or}
+use Rattle.std.specs.Prelude.{ℕ, ◌==◌, nat_le, Bool, false, true, cond, is_some, unwrap_or}
 use Rattle.std.specs.Option.{option_map}
 use Rattle.nf_value.specs.Plain.{null}
 use Rattle.nf_value.specs.View.{plain_of}

@@ -1,0 +1,10 @@
+pub mod Singles
+pub mod Below
+pub mod Emptiness
+pub mod Few
+pub mod Fine
+pub mod Going
+pub mod Table
+pub mod Beginning
+pub mod Pushing
+pub mod Rooms
