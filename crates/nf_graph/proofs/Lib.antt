@@ -1,0 +1,5 @@
+pub mod Bags
+pub mod Lists
+pub mod Fix
+pub mod Singles
+pub mod Refused

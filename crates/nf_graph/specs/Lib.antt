@@ -1,0 +1,5 @@
+pub mod Rules
+pub mod Node
+pub mod Meaning
+pub mod Faults
+pub mod Singles
