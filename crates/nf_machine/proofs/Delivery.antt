@@ -1,0 +1,176 @@
+-- What an operator or a process took, beside what the meaning delivers.
+use Rattle.std.proofs.Common.{◌≡◌, ℕ, zero, suc, ◌+◌, ◌*◌, ◌-◌, ◌<◌, ◌≤◌, List, [], ◌∷◌, ◌++◌, map, length, take, drop, get_or, Bool, true, false, cond, ◌&&◌, ◌||◌, not, refl, ap, sym, ◌∙◌, subst, arith, ◌⊎◌, inl, inr, length-append, append_assoc, append-nil, add-one, length-take, length-drop}
+use Rattle.std.specs.Prelude.{◌==◌, nat_lt, nat_le, Option, Some, None, is_none, is_some, is_ok, Result, Ok, Err, MatchOption, remove, if◌then◌else◌, count_by, sum_by}
+use Rattle.std.specs.List.{AllByRecursion, Contains, flat_map}
+use Rattle.std.proofs.lemmas.Bool.{cases_eq, cases_Bool, true≢false, or_cases}
+use Rattle.std.proofs.lemmas.Bool.Decides.{nat_tests}
+use Rattle.std.proofs.lemmas.List.{take_more, take-append-drop, drop_more, take_all, take-append-le, get_or_append_left, get_or_past}
+use Rattle.nf_value.specs.Plain.{Plain, null}
+use Rattle.nf_value.specs.declared.fault.EvalFault.{EvalFault}
+use Rattle.nf_job.specs.declared.parts.JobParts.{JobParts}
+use Rattle.nf_job.specs.declared.report.Report.{Report}
+use Rattle.nf_job.specs.declared.fault.TaskFault.{TaskFault}
+use Rattle.nf_job.specs.declared.emitted.Outputs.TheVariants.{Emits, Ignored, Failed, Again}
+use Rattle.nf_bag.specs.Bag.{IsSubBag, IsSameBag}
+use Rattle.nf_bag.specs.Tests.{IsSubByTests, IsSameByTests}
+use Rattle.nf_opstream.specs.Push.{Push, IsWithin, IsSameInput}
+use Rattle.nf_opstream.specs.Fault.{Fault}
+use Rattle.nf_opstream.specs.Operator.{Operator, IsOperator, AreFine, emitted as given_by, to_out, oks}
+use Rattle.nf_opstream.proofs.Tally.{tally, one_if, passes, Sub, Same, tally-append, tally-map, tally-flat_map, tally_same, tally_more, tally_sub, sub_of_same, sub_trans, sub_map, same_map, sub_flat_map, same_flat_map, same_refl, same_sym, same_trans, same_of_eq, count_is_passes, sum_is_tally}
+use Rattle.nf_opstream.proofs.Members.{In, IsEq, contains, in_larger}
+use Rattle.nf_graph.specs.declared.port.Port.{Port}
+use Rattle.nf_graph.specs.Rules.{Rules, IsRules, Outs, last_attempt, decided, decided_by, refused_by, emit_at, fault_of, emitted_by, fault_by}
+use Rattle.nf_graph.specs.Node.{Kind, source, operator, process, PlainNode, no_port, port_in, port_at, no_node, node_at, AllValues, IsQueue, IsGraph}
+use Rattle.nf_graph.specs.Meaning.{Outcomes, Bags, bag_of, put, delivered, deliveries, answered, pushes, same_inputs, bag_heads, filled, input_of, is_lacking, input_lists, numbered, Instance, instances, decided_under, emits, node_bag, bags, cost, charge_to, charge_of}
+use Rattle.nf_graph.specs.Faults.{GraphFault, item_fails, op_fails, task_fails, item_faults, task_faults, node_faults, faults_to, faults}
+use Rattle.nf_graph.specs.Singles.{HasSingles, IsMadeByNodes}
+use Rattle.nf_graph.proofs.Bags.{sub_refl, append_same, sub_cons, sub_append, append_sub, count_all, length_of_sub, cons_same, cons_sub, cons_cancel, numbered_same, numbered_sub, numbered_once}
+use Rattle.nf_graph.proofs.Lists.{put_same, put_other, put_all, filled_same, inputs_law}
+use Rattle.nf_machine.specs.Event.{PlainStop, fault_stop, charge_stop, outside_stop, memory_stop, PlainEvent, pass, taking, give, start, finish, reuse, close, abort, halt}
+use Rattle.nf_machine.specs.State.{Take, Ended, Ticket, Spot, State, attempt_of, instance, port_of, pair_of, feed, opened, opening}
+use Rattle.nf_machine.specs.Step.{limit, ticket_at, without, with_ticket, or_stop, with_stop, with_spot, passed_on, do_pass, next_item, slot_of, heads, item_of, inputs_of, n_of, takes, left_at, do_take, Given, pushed_on, op_gives, op_ends, push_with, give_push, do_give, ended_on, end_of, ends_at, do_finish, do_close, at_ticket, step, replay}
+use Rattle.nf_machine.specs.Legal.{IsOperatorKind, IsProcessKind, Holds, MayTake, Lacks, MayClose, PassIsLegal, TakeIsLegal, CloseIsLegal, GiveIsLegal, HasJob, StartIsLegal, ReportIsLegal, FinishIsLegal, ReuseIsLegal, IsOwnFault, MayCause, AbortIsLegal, InFlight, IsLegal}
+use Rattle.nf_machine.specs.History.{IsLawful, after, IsHistory, closed_to, all_closed, is_quiet, is_over, ended_well, ClosedWell, IsPrefix, Agrees}
+use Rattle.std.specs.Ordering.{eq_by_cmp}
+use Rattle.nf_value.specs.Order.{value_cmp}
+use Rattle.nf_opstream.proofs.Pushes.{is_same-itself, same_from}
+use Rattle.nf_machine.proofs.Good.{take_of, from_port, flying, seen, PortsOk, FlightOk, feed_head, OpTake, ProcessTake, Formed, Once, TakesOk, outs_of, OpMade, ProcessMade, SourceMade, MadeOk, Done, Whole, SpotOk, AllAgain, TicketOk, Told, TaskStop, ItemStop, PushStop, CloseStop, OpStop, FaultOk, StopOk, Good}
+
+pub sub_take : (n : ℕ) (xs : List Plain) → Sub (take n xs) xs
+sub_take n xs = record { at = λ p. (let e : passes p xs ≡ passes p (take n xs) + passes p (drop n xs) = ap (passes p) (sym (take-append-drop n xs)) ∙ tally-append (λ x. one_if (p x)) (take n xs) (drop n xs) in omega (arith, e)) }
+
+pub tally_each : {A : Type 0} (f h : A → ℕ) (xs : List A) → AllByRecursion (λ x. f x ≡ h x) xs → tally f xs ≡ tally h xs
+tally_each f h [] e = refl
+tally_each f h (x ∷ xs) e = omega (arith, e.0, tally_each f h xs e.1)
+
+-- of the ports from k on
+abbrev from_on : ℕ → (ℕ × Plain → Bool) → Take → ℕ
+from_on k p t = one_if (nat_le k (port_of t.slot) && p (port_of t.slot, t.item))
+
+-- the slot is a port's
+pub record Slotted (n : ℕ) (t : Take) : Type 0 where
+  pub is : t.slot ≡ suc (port_of t.slot)
+  pub within : port_of t.slot < n
+
+one_port : (k a : ℕ) (b c : Bool) → (a ≡ k → b ≡ c) → one_if (nat_le k a && b) ≡ one_if ((suc a == suc k) && c) + one_if (nat_le (suc k) a && b)
+one_port k a b c h = elim (cases_eq a k) [
+  | inl e ↦ (let t : nat_le k a ≡ true = grind (arith, nat_tests) in let u : (suc a == suc k) ≡ true = grind (arith, nat_tests) in let v : nat_le (suc k) a ≡ false = grind (arith, nat_tests) in rw (t, u, v, h e) (omega arith))
+  | inr n ↦ (let u : (suc a == suc k) ≡ false = grind (arith, nat_tests) in let w : nat_le k a ≡ nat_le (suc k) a = grind (arith, nat_tests) in rw (u, w) (omega arith))
+]
+
+split_port : (k : ℕ) (p : ℕ × Plain → Bool) (n : ℕ) (taken : List Take) → AllByRecursion (Slotted n) taken
+    → tally (from_on k p) taken ≡ passes (from_port k (λ x. p (k, x))) taken + tally (from_on (suc k) p) taken
+split_port k p n [] h = refl
+split_port k p n (t ∷ ts) h =
+    let a : from_on k p t ≡ one_if ((suc (port_of t.slot) == suc k) && p (k, t.item)) + from_on (suc k) p t =
+    one_port k (port_of t.slot) (p (port_of t.slot, t.item)) (p (k, t.item)) (λ e. ap (λ (z : ℕ). p (z, t.item)) e) in
+    let b : one_if (from_port k (λ x. p (k, x)) t) ≡ one_if ((suc (port_of t.slot) == suc k) && p (k, t.item)) = ap (λ (z : ℕ). one_if ((z == suc k) && p (k, t.item))) (h.0).is in
+    omega (arith, a, b, split_port k p n ts h.1)
+
+past_ports : (k : ℕ) (p : ℕ × Plain → Bool) (taken : List Take) → AllByRecursion (Slotted k) taken → tally (from_on k p) taken ≡ 0
+past_ports k p [] h = refl
+past_ports k p (t ∷ ts) h =
+    let e : nat_le k (port_of t.slot) ≡ false = (let l = (h.0).within in grind (arith, nat_tests)) in
+    rw e (omega (arith, past_ports k p ts h.1))
+
+all_ports : (n : ℕ) (p : ℕ × Plain → Bool) (taken : List Take) → passes (λ t. p (pair_of t)) taken ≡ tally (from_on 0 p) taken
+all_ports n p taken = tally_same (λ t. one_if (p (pair_of t))) (from_on 0 p) (λ t. (let e : nat_le 0 (port_of t.slot) ≡ true = grind (arith, nat_tests) in rw e refl)) taken
+
+deliver_sub : (B : Bags) (k : ℕ) (ps : List Port) (p : ℕ × Plain → Bool) (n : ℕ) (taken : List Take) → k + length ps ≡ n → AllByRecursion (Slotted n) taken
+    → ((j : ℕ) → j < length ps → (q : Plain → Bool) → passes (from_port (k + j) q) taken ≤ passes q (B (port_in ps j).from (port_in ps j).out))
+    → tally (from_on k p) taken ≤ passes p (delivered B k ps)
+deliver_sub B k [] p n taken e s h = let z : n ≡ k = (let y : k + 0 ≡ n = e in omega arith) in omega (arith, past_ports k p taken (subst (λ m. AllByRecursion (Slotted m) taken) z s))
+deliver_sub B k (port ∷ ps) p n taken e s h =
+    let e0 : k + 0 ≡ k = omega arith in
+    let here : passes (from_port k (λ x. p (k, x))) taken ≤ passes (λ x. p (k, x)) (B port.from port.out) = subst (λ m. passes (from_port m (λ x. p (k, x))) taken ≤ passes (λ x. p (k, x)) (B port.from port.out)) e0 (h 0 (omega arith) (λ x. p (k, x))) in
+    let rest = deliver_sub B (suc k) ps p n taken (let y : k + suc (length ps) ≡ n = e in omega arith) s (λ j l q. let i : suc k + j ≡ k + suc j = omega arith in rw i (h (suc j) (omega arith) q)) in
+    omega (arith, here, rest, split_port k p n taken s, tally-append (λ x. one_if (p x)) (map (λ x. (k, x)) (B port.from port.out)) (delivered B (suc k) ps), tally-map (λ x. one_if (p x)) (λ x. (k, x)) (B port.from port.out))
+
+deliver_same : (B : Bags) (k : ℕ) (ps : List Port) (p : ℕ × Plain → Bool) (n : ℕ) (taken : List Take) → k + length ps ≡ n → AllByRecursion (Slotted n) taken
+    → ((j : ℕ) → j < length ps → (q : Plain → Bool) → passes (from_port (k + j) q) taken ≡ passes q (B (port_in ps j).from (port_in ps j).out))
+    → tally (from_on k p) taken ≡ passes p (delivered B k ps)
+deliver_same B k [] p n taken e s h = let z : n ≡ k = (let y : k + 0 ≡ n = e in omega arith) in past_ports k p taken (subst (λ m. AllByRecursion (Slotted m) taken) z s)
+deliver_same B k (port ∷ ps) p n taken e s h =
+    let e0 : k + 0 ≡ k = omega arith in
+    let here : passes (from_port k (λ x. p (k, x))) taken ≡ passes (λ x. p (k, x)) (B port.from port.out) = subst (λ m. passes (from_port m (λ x. p (k, x))) taken ≡ passes (λ x. p (k, x)) (B port.from port.out)) e0 (h 0 (omega arith) (λ x. p (k, x))) in
+    let rest = deliver_same B (suc k) ps p n taken (let y : k + suc (length ps) ≡ n = e in omega arith) s (λ j l q. let i : suc k + j ≡ k + suc j = omega arith in rw i (h (suc j) (omega arith) q)) in
+    omega (arith, here, rest, split_port k p n taken s, tally-append (λ x. one_if (p x)) (map (λ x. (k, x)) (B port.from port.out)) (delivered B (suc k) ps), tally-map (λ x. one_if (p x)) (λ x. (k, x)) (B port.from port.out))
+
+pub pairs_sub : (B : Bags) (nd : PlainNode) (taken : List Take) → AllByRecursion (Slotted (length nd.ports)) taken
+    → ((j : ℕ) → j < length nd.ports → (q : Plain → Bool) → passes (from_port j q) taken ≤ passes q (B (port_at nd j).from (port_at nd j).out))
+    → Sub (map pair_of taken) (delivered B 0 nd.ports)
+pairs_sub B nd taken s h = record { at = λ p. omega (arith, tally-map (λ x. one_if (p x)) pair_of taken, all_ports 0 p taken, deliver_sub B 0 nd.ports p (length nd.ports) taken (omega arith) s (λ j l q. let i : 0 + j ≡ j = omega arith in rw i (h j l q))) }
+
+pub pairs_same : (B : Bags) (nd : PlainNode) (taken : List Take) → AllByRecursion (Slotted (length nd.ports)) taken
+    → ((j : ℕ) → j < length nd.ports → (q : Plain → Bool) → passes (from_port j q) taken ≡ passes q (B (port_at nd j).from (port_at nd j).out))
+    → Same (map pair_of taken) (delivered B 0 nd.ports)
+pairs_same B nd taken s h = record { at = λ p. omega (arith, tally-map (λ x. one_if (p x)) pair_of taken, all_ports 0 p taken, deliver_same B 0 nd.ports p (length nd.ports) taken (omega arith) s (λ j l q. let i : 0 + j ≡ j = omega arith in rw i (h j l q))) }
+
+-- pushes with the rules' answers come back from their items
+pub answered_back : (R : Rules) (i : ℕ) (xs : List Push) → AllByRecursion (λ x. R.answer i x.item ≡ Ok x.answer) xs → pushes R i (map (λ x. (x.port, x.item)) xs) ≡ xs
+answered_back R i [] h = refl
+answered_back R i (x ∷ xs) h = rw h.0 (ap (λ r. x ∷ r) (answered_back R i xs h.1))
+
+-- no ticket of a node, so none with a take
+pub none_flies : (i : ℕ) (ts : List Ticket) (p : Take → Bool) → passes (λ t. t.node == i) ts ≡ 0 → flying i p ts ≡ 0
+none_flies i [] p h = refl
+none_flies i (t ∷ ts) p h = elim (cases_Bool (t.node == i)) [
+  | inl e ↦ absurd (let z : one_if (t.node == i) ≡ 1 = rw e refl in omega arith)
+  | inr e ↦ (let z : one_if (t.node == i) ≡ 0 = rw e refl in rw e (omega (arith, none_flies i ts p (omega arith))))
+]
+
+-- ### Value ports
+
+abbrev same_value : Plain → Plain → Bool
+same_value = eq_by_cmp value_cmp
+
+value_law : IsEq same_value
+value_law = record { same = same_from; self = is_same-itself }
+
+pub nil_of : {A : Type 0} (xs : List A) → length xs ≡ 0 → xs ≡ []
+nil_of [] h = refl
+nil_of (x ∷ xs) h = absurd (omega arith)
+
+one_of : (xs : List Plain) → 0 < length xs → length xs ≤ 1 → xs ≡ get_or xs 0 null ∷ []
+one_of [] h l = absurd (not_less h)
+  where
+    not_less : 0 < 0 → ⊥
+    not_less h = omega arith
+one_of (x ∷ []) h l = refl
+one_of (x ∷ y ∷ xs) h l = absurd (omega arith)
+
+-- a part of a bag of at most one item has its head
+pub single_head : (xs ys : List Plain) → Sub xs ys → 0 < length xs → length ys ≤ 1 → (get_or xs 0 null ≡ get_or ys 0 null) × (0 < length ys)
+single_head xs ys s h l =
+    let n = length_of_sub s in
+    let a = one_of xs h (omega arith) in
+    let b = one_of ys (omega arith) l in
+    (head_in (get_or xs 0 null) (get_or ys 0 null) (subst (λ z. Sub z (get_or ys 0 null ∷ [])) a (subst (λ z. Sub xs z) b s)), omega arith)
+  where
+    head_in : (x y : Plain) → Sub (x ∷ []) (y ∷ []) → x ≡ y
+    head_in x y s = elim (in_larger same_value value_law x [] (y ∷ []) s) [ inl e ↦ e | inr n ↦ absurd n ]
+
+abbrev pub bag_at : Bags → List Port → ℕ → List Plain
+bag_at B ps k = B (port_in ps k).from (port_in ps k).out
+
+abbrev pub is_single : List Port → ℕ → Bool
+is_single ps k = (port_in ps k).value
+
+pub lacks : (B : Bags) (ps : List Port) (k : ℕ) → k < length ps → is_single ps k ≡ true → bag_at B ps k ≡ [] → is_lacking B ps ≡ true
+lacks B [] k l s e = absurd (omega arith)
+lacks B (p ∷ ps) zero l s e = rw (s, e) refl
+lacks B (p ∷ ps) (suc k) l s e = let t = lacks B ps k (omega arith) s e in rw t (by p.value (length (B p.from p.out) == 0))
+  where
+    by : (a b : Bool) → cond a (cond b true true) true ≡ true
+    by true true = refl
+    by true false = refl
+    by false b = refl
+
+pub lacks_none : (B : Bags) (ps : List Port) → ((k : ℕ) → k < length ps → is_single ps k ≡ true → 0 < length (bag_at B ps k)) → is_lacking B ps ≡ false
+lacks_none B [] h = refl
+lacks_none B (p ∷ ps) h =
+    let t = lacks_none B ps (λ k l s. h (suc k) (omega arith) s) in
+    elim (cases_Bool p.value) [
+      | inl s ↦ (let n = h 0 (omega arith) s in let z : (length (B p.from p.out) == 0) ≡ false = grind (arith, nat_tests) in rw (s, z, t) refl)
+      | inr s ↦ rw (s, t) refl
+    ]
