@@ -1,13 +1,10 @@
 -- Laws of bags compared by tests, and of lists whose equal members are numbered.
-use Rattle.std.proofs.Common.{◌≡◌, ℕ, zero, suc, ◌+◌, ◌<◌, ◌≤◌, List, [], ◌∷◌, ◌++◌, map, length, Bool, true, false, cond, ◌&&◌, refl, ap, sym, ◌∙◌, subst, arith, inl, inr}
-use Rattle.std.specs.Prelude.{nat_lt, ◌==◌, count_by}
-use Rattle.std.specs.List.{Contains}
+use Rattle.std.proofs.Common.{◌≡◌, ℕ, ◌+◌, ◌≤◌, List, [], ◌∷◌, ◌++◌, length, Bool, true, false, ◌&&◌, refl, ap, sym, ◌∙◌, subst, arith, inl, inr}
+use Rattle.std.specs.Prelude.{nat_lt, ◌==◌}
 use Rattle.std.proofs.lemmas.Bool.{cases_Bool, true≢false}
 use Rattle.std.proofs.lemmas.Bool.Decides.{nat_tests}
-use Rattle.nf_bag.specs.Bag.{IsSubBag, IsSameBag}
-use Rattle.nf_bag.specs.Tests.{IsSubByTests, IsSameByTests}
 use Rattle.nf_opstream.proofs.Members.{IsEq}
-use Rattle.nf_opstream.proofs.Tally.{tally, one_if, passes, Sub, Same, tally-append, sub_of_same, sub_trans, same_refl, same_sym, same_trans, count_is_passes}
+use Rattle.nf_opstream.proofs.Tally.{one_if, passes, Sub, Same, tally-append, sub_of_same, sub_trans, same_refl, same_sym, same_trans, count_is_passes}
 use Rattle.nf_graph.specs.Meaning.{numbered}
 
 pub sub_refl : {A : Type 0} (a : List A) → Sub a a

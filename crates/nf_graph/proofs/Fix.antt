@@ -5,11 +5,10 @@ use Rattle.std.proofs.lemmas.Bool.{cases_Bool}
 use Rattle.std.proofs.lemmas.Bool.Decides.{nat_tests}
 use Rattle.std.proofs.lemmas.List.{get_or_past}
 use Rattle.nf_value.specs.Plain.{Plain, null}
-use Rattle.nf_opstream.specs.Operator.{Operator}
 use Rattle.nf_graph.specs.declared.port.Port.{Port}
 use Rattle.nf_graph.specs.Rules.{Rules}
 use Rattle.nf_graph.specs.Node.{Kind, source, operator, process, PlainNode, no_node, port_in, port_at, node_at, IsGraph}
-use Rattle.nf_graph.specs.Meaning.{Outcomes, Bags, bag_of, put, delivered, filled, bag_heads, input_of, is_lacking, input_lists, node_bag, bags_from, bags}
+use Rattle.nf_graph.specs.Meaning.{Outcomes, Bags, bag_of, put, delivered, bag_heads, input_of, is_lacking, input_lists, node_bag, bags_from, bags}
 use Rattle.nf_graph.specs.Singles.{IsMadeByNodes}
 use Rattle.nf_graph.proofs.Lists.{put_same, put_other, filled_same}
 

@@ -1,6 +1,6 @@
 -- Functions and lists of inputs.
-use Rattle.std.proofs.Common.{◌≡◌, ℕ, zero, suc, ◌+◌, ◌<◌, ◌≤◌, ◌≢◌, List, [], ◌∷◌, ◌++◌, map, length, get_or, Bool, true, false, cond, refl, ap, sym, ◌∙◌, subst, arith, inl, inr}
-use Rattle.std.specs.Prelude.{◌==◌, if◌then◌else◌}
+use Rattle.std.proofs.Common.{◌≡◌, ℕ, suc, ◌+◌, ◌<◌, List, [], ◌∷◌, length, true, false, refl, sym, subst, arith, inl, inr}
+use Rattle.std.specs.Prelude.{◌==◌}
 use Rattle.std.specs.Ordering.{eq_by_cmp}
 use Rattle.std.specs.Cmp.Lexicographic.{pointwise_decides}
 use Rattle.std.proofs.lemmas.Bool.{cases_eq, cases_Bool}
@@ -10,7 +10,7 @@ use Rattle.nf_value.specs.Order.{value_cmp}
 use Rattle.nf_opstream.proofs.Members.{IsEq}
 use Rattle.nf_opstream.proofs.Pushes.{is_same-itself, same_from}
 use Rattle.nf_graph.specs.declared.port.Port.{Port}
-use Rattle.nf_graph.specs.Node.{port_in, no_port}
+use Rattle.nf_graph.specs.Node.{port_in}
 use Rattle.nf_graph.specs.Meaning.{put, filled, same_inputs}
 
 pub put_same : {A : Type 0} (f : ℕ → A) (i : ℕ) (x : A) → put f i x i ≡ x

@@ -1,6 +1,6 @@
 -- An instance without a job.
 use Rattle.std.proofs.Common.{◌≡◌, ℕ, List, [], ◌∷◌, refl, ap}
-use Rattle.std.specs.Prelude.{map, Option, Some, Result, Ok, Err}
+use Rattle.std.specs.Prelude.{map, Some, Result, Err}
 use Rattle.nf_job.specs.declared.parts.JobParts.{JobParts}
 use Rattle.nf_job.specs.declared.report.Report.{Report}
 use Rattle.nf_job.specs.declared.fault.TaskFault.{TaskFault}

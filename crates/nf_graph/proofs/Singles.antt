@@ -1,15 +1,13 @@
 -- At most one item comes to a value port.
-use Rattle.std.proofs.Common.{◌≡◌, ℕ, zero, suc, ◌+◌, ◌<◌, ◌≤◌, List, [], ◌∷◌, ◌++◌, map, length, get_or, Bool, true, false, cond, refl, ap, sym, ◌∙◌, subst, arith, ◌⊎◌, inl, inr, length-append}
+use Rattle.std.proofs.Common.{◌≡◌, ℕ, zero, suc, ◌+◌, ◌<◌, ◌≤◌, List, [], ◌∷◌, ◌++◌, map, length, get_or, Bool, true, false, cond, refl, ap, arith, inl, inr, length-append}
 use Rattle.std.specs.Prelude.{◌==◌, Option, Some, None, Result, Ok, Err, count_by}
 use Rattle.std.specs.List.{AllByRecursion, flat_map}
 use Rattle.std.proofs.lemmas.Bool.{cases_Bool}
 use Rattle.std.proofs.lemmas.Bool.Decides.{nat_tests}
 use Rattle.nf_value.specs.Plain.{Plain, null}
 use Rattle.nf_value.specs.declared.fault.EvalFault.{EvalFault}
-use Rattle.nf_job.specs.declared.fault.TaskFault.{TaskFault}
 use Rattle.nf_job.specs.declared.emitted.Outputs.TheVariants.{Emits, Ignored, Failed, Again}
 use Rattle.nf_opstream.specs.Push.{Push}
-use Rattle.nf_opstream.specs.Operator.{Operator}
 use Rattle.nf_opstream.proofs.Tally.{tally, one_if, passes, tally-append, tally-map, count_is_passes}
 use Rattle.nf_graph.specs.declared.port.Port.{Port}
 use Rattle.nf_graph.specs.Rules.{Rules, Outs, list_of, emit_at, emitted_by}

@@ -10,7 +10,6 @@ use Rattle.nf_value.specs.Order.{value_cmp}
 use Rattle.nf_value.specs.Code.{code}
 use Rattle.nf_value.specs.declared.fault.EvalFault.{EvalFault}
 use Rattle.nf_opstream.specs.Push.{Push, push_of}
-use Rattle.nf_opstream.specs.Operator.{Operator}
 use Rattle.nf_job.specs.declared.report.Report.{Report}
 use Rattle.nf_graph.specs.declared.port.Port.{Port}
 use Rattle.nf_graph.specs.Rules.{Rules, Outs, decided, emitted_by}

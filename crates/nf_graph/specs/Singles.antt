@@ -1,7 +1,7 @@
 -- What the meaning of a graph keeps.
-use Rattle.std.specs.Prelude.{◌≡◌, ◌≤◌, ◌<◌, ◌++◌, ◌∷◌, [], ℕ, List, true, length, Err}
+use Rattle.std.specs.Prelude.{◌≡◌, ◌≤◌, ◌<◌, ◌∷◌, [], ℕ, List, true, length}
 use Rattle.nf_job.specs.declared.fault.TaskFault.{TaskFault}
-use Rattle.nf_graph.specs.Rules.{Rules, decided}
+use Rattle.nf_graph.specs.Rules.{Rules}
 use Rattle.nf_graph.specs.Node.{PlainNode, port_at, node_at}
 use Rattle.nf_graph.specs.Faults.{task_fails, task_faults}
 use Rattle.nf_graph.specs.Meaning.{Outcomes, Bags, Instance, bags, bag_of, node_bag, emits}
