@@ -1,12 +1,11 @@
 -- Bags by tests and bags by counts.
-use Rattle.std.proofs.Common.{List, ◌≡◌, ℕ, Bool, sym, ◌∙◌, arith}
-use Rattle.std.specs.Prelude.{count_by}
+use Rattle.std.proofs.Common.{List, sym, ◌∙◌, arith}
 use Rattle.nf_value.specs.Plain.{Plain}
 use Rattle.nf_bag.specs.Bag.{IsSubBag, IsSameBag}
 use Rattle.nf_bag.specs.Tests.{IsSubByTests, IsSameByTests}
 use Rattle.nf_bag.proofs.ByTests.{sub_by_tests, same_by_tests}
 use Rattle.nf_opstream.specs.Push.{Push, is_same_push, IsWithin, IsSameInput}
-use Rattle.nf_opstream.proofs.Tally.{passes, Sub, Same, count_is_passes}
+use Rattle.nf_opstream.proofs.Tally.{Sub, Same, count_is_passes}
 
 pub sub_of_tests : {A : Type 0} {a b : List A} → IsSubByTests a b → Sub a b
 sub_of_tests {A} {a} {b} h = record { at = λ p. omega (arith, h.at p, count_is_passes p a, count_is_passes p b) }

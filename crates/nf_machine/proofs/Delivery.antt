@@ -1,40 +1,24 @@
 -- What an operator or a process took, beside what the meaning delivers.
-use Rattle.std.proofs.Common.{◌≡◌, ℕ, zero, suc, ◌+◌, ◌*◌, ◌-◌, ◌<◌, ◌≤◌, List, [], ◌∷◌, ◌++◌, map, length, take, drop, get_or, Bool, true, false, cond, ◌&&◌, ◌||◌, not, refl, ap, sym, ◌∙◌, subst, arith, ◌⊎◌, inl, inr, length-append, append_assoc, append-nil, add-one, length-take, length-drop}
-use Rattle.std.specs.Prelude.{◌==◌, nat_lt, nat_le, Option, Some, None, is_none, is_some, is_ok, Result, Ok, Err, MatchOption, remove, if◌then◌else◌, count_by, sum_by}
-use Rattle.std.specs.List.{AllByRecursion, Contains, flat_map}
-use Rattle.std.proofs.lemmas.Bool.{cases_eq, cases_Bool, true≢false, or_cases}
+use Rattle.std.proofs.Common.{◌≡◌, ℕ, zero, suc, ◌+◌, ◌<◌, ◌≤◌, List, [], ◌∷◌, map, length, take, drop, get_or, Bool, true, false, cond, ◌&&◌, refl, ap, sym, ◌∙◌, subst, arith, inl, inr}
+use Rattle.std.specs.Prelude.{◌==◌, nat_le, Ok}
+use Rattle.std.specs.List.{AllByRecursion}
+use Rattle.std.proofs.lemmas.Bool.{cases_eq, cases_Bool}
 use Rattle.std.proofs.lemmas.Bool.Decides.{nat_tests}
-use Rattle.std.proofs.lemmas.List.{take_more, take-append-drop, drop_more, take_all, take-append-le, get_or_append_left, get_or_past}
+use Rattle.std.proofs.lemmas.List.{take-append-drop}
 use Rattle.nf_value.specs.Plain.{Plain, null}
-use Rattle.nf_value.specs.declared.fault.EvalFault.{EvalFault}
-use Rattle.nf_job.specs.declared.parts.JobParts.{JobParts}
-use Rattle.nf_job.specs.declared.report.Report.{Report}
-use Rattle.nf_job.specs.declared.fault.TaskFault.{TaskFault}
-use Rattle.nf_job.specs.declared.emitted.Outputs.TheVariants.{Emits, Ignored, Failed, Again}
-use Rattle.nf_bag.specs.Bag.{IsSubBag, IsSameBag}
-use Rattle.nf_bag.specs.Tests.{IsSubByTests, IsSameByTests}
-use Rattle.nf_opstream.specs.Push.{Push, IsWithin, IsSameInput}
-use Rattle.nf_opstream.specs.Fault.{Fault}
-use Rattle.nf_opstream.specs.Operator.{Operator, IsOperator, AreFine, emitted as given_by, to_out, oks}
-use Rattle.nf_opstream.proofs.Tally.{tally, one_if, passes, Sub, Same, tally-append, tally-map, tally-flat_map, tally_same, tally_more, tally_sub, sub_of_same, sub_trans, sub_map, same_map, sub_flat_map, same_flat_map, same_refl, same_sym, same_trans, same_of_eq, count_is_passes, sum_is_tally}
-use Rattle.nf_opstream.proofs.Members.{In, IsEq, contains, in_larger}
+use Rattle.nf_opstream.specs.Push.{Push}
+use Rattle.nf_opstream.proofs.Tally.{tally, one_if, passes, Sub, Same, tally-append, tally-map, tally_same}
+use Rattle.nf_opstream.proofs.Members.{IsEq, in_larger}
 use Rattle.nf_graph.specs.declared.port.Port.{Port}
-use Rattle.nf_graph.specs.Rules.{Rules, IsRules, Outs, last_attempt, decided, decided_by, refused_by, emit_at, fault_of, emitted_by, fault_by}
-use Rattle.nf_graph.specs.Node.{Kind, source, operator, process, PlainNode, no_port, port_in, port_at, no_node, node_at, AllValues, IsQueue, IsGraph}
-use Rattle.nf_graph.specs.Meaning.{Outcomes, Bags, bag_of, put, delivered, deliveries, answered, pushes, same_inputs, bag_heads, filled, input_of, is_lacking, input_lists, numbered, Instance, instances, decided_under, emits, node_bag, bags, cost, charge_to, charge_of}
-use Rattle.nf_graph.specs.Faults.{GraphFault, item_fails, op_fails, task_fails, item_faults, task_faults, node_faults, faults_to, faults}
-use Rattle.nf_graph.specs.Singles.{HasSingles, IsMadeByNodes}
-use Rattle.nf_graph.proofs.Bags.{sub_refl, append_same, sub_cons, sub_append, append_sub, count_all, length_of_sub, cons_same, cons_sub, cons_cancel, numbered_same, numbered_sub, numbered_once}
-use Rattle.nf_graph.proofs.Lists.{put_same, put_other, put_all, filled_same, inputs_law}
-use Rattle.nf_machine.specs.Event.{PlainStop, fault_stop, charge_stop, outside_stop, memory_stop, PlainEvent, pass, taking, give, start, finish, reuse, close, abort, halt}
-use Rattle.nf_machine.specs.State.{Take, Ended, Ticket, Spot, State, attempt_of, instance, port_of, pair_of, feed, opened, opening}
-use Rattle.nf_machine.specs.Step.{limit, ticket_at, without, with_ticket, or_stop, with_stop, with_spot, passed_on, do_pass, next_item, slot_of, heads, item_of, inputs_of, n_of, takes, left_at, do_take, Given, pushed_on, op_gives, op_ends, push_with, give_push, do_give, ended_on, end_of, ends_at, do_finish, do_close, at_ticket, step, replay}
-use Rattle.nf_machine.specs.Legal.{IsOperatorKind, IsProcessKind, Holds, MayTake, Lacks, MayClose, PassIsLegal, TakeIsLegal, CloseIsLegal, GiveIsLegal, HasJob, StartIsLegal, ReportIsLegal, FinishIsLegal, ReuseIsLegal, IsOwnFault, MayCause, AbortIsLegal, InFlight, IsLegal}
-use Rattle.nf_machine.specs.History.{IsLawful, after, IsHistory, closed_to, all_closed, is_quiet, is_over, ended_well, ClosedWell, IsPrefix, Agrees}
+use Rattle.nf_graph.specs.Rules.{Rules}
+use Rattle.nf_graph.specs.Node.{PlainNode, port_in, port_at}
+use Rattle.nf_graph.specs.Meaning.{Bags, delivered, pushes, is_lacking}
+use Rattle.nf_graph.proofs.Bags.{length_of_sub}
+use Rattle.nf_machine.specs.State.{Take, Ticket, port_of, pair_of}
 use Rattle.std.specs.Ordering.{eq_by_cmp}
 use Rattle.nf_value.specs.Order.{value_cmp}
 use Rattle.nf_opstream.proofs.Pushes.{is_same-itself, same_from}
-use Rattle.nf_machine.proofs.Good.{take_of, from_port, flying, seen, PortsOk, FlightOk, feed_head, OpTake, ProcessTake, Formed, Once, TakesOk, outs_of, OpMade, ProcessMade, SourceMade, MadeOk, Done, Whole, SpotOk, AllAgain, TicketOk, Told, TaskStop, ItemStop, PushStop, CloseStop, OpStop, FaultOk, StopOk, Good}
+use Rattle.nf_machine.proofs.Good.{from_port, flying}
 
 pub sub_take : (n : ℕ) (xs : List Plain) → Sub (take n xs) xs
 sub_take n xs = record { at = λ p. (let e : passes p xs ≡ passes p (take n xs) + passes p (drop n xs) = ap (passes p) (sym (take-append-drop n xs)) ∙ tally-append (λ x. one_if (p x)) (take n xs) (drop n xs) in omega (arith, e)) }

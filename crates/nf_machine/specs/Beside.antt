@@ -1,5 +1,5 @@
 -- A state beside the meaning of its graph.
-use Rattle.std.specs.Prelude.{ℕ, ◌≡◌, ◌≤◌, ◌<◌, List, [], Bool, true, map, length, count_by, Ok}
+use Rattle.std.specs.Prelude.{ℕ, ◌≡◌, ◌≤◌, ◌<◌, List, [], true, map, count_by, Ok}
 use Rattle.std.specs.declared.option.Option.{Option}
 use Rattle.std.specs.declared.option.Option.TheVariants.{None, Some}
 use Rattle.std.specs.List.{Contains, AllByRecursion}
@@ -10,7 +10,7 @@ use Rattle.nf_opstream.specs.Push.{Push}
 use Rattle.nf_opstream.specs.Operator.{Operator}
 use Rattle.nf_graph.specs.Rules.{Rules}
 use Rattle.nf_graph.specs.Node.{operator, process, PlainNode, node_at}
-use Rattle.nf_graph.specs.Meaning.{Outcomes, Bags, Instance, deliveries, instances, bags, charge_of}
+use Rattle.nf_graph.specs.Meaning.{Outcomes, Bags, deliveries, instances, bags, charge_of}
 use Rattle.nf_graph.specs.Faults.{GraphFault, faults}
 use Rattle.nf_machine.specs.Event.{fault_stop, charge_stop}
 use Rattle.nf_machine.specs.State.{Spot, State, instance, pair_of}

@@ -1,5 +1,5 @@
 -- Events and stops as the machine sees them: by plain values, and a port by its node and its place there.
-use Rattle.std.specs.Prelude.{ℕ, zero, suc, ◌-◌, nat_lt, List, [], ◌∷◌, length, if◌then◌else◌, Result, Ok, Err, option_map}
+use Rattle.std.specs.Prelude.{ℕ, suc, ◌-◌, nat_lt, List, [], ◌∷◌, length, if◌then◌else◌, Result, Ok, Err, option_map}
 use Rattle.std.specs.declared.option.Option.{Option}
 use Rattle.std.specs.declared.option.Option.TheVariants.{None, Some}
 use Rattle.nf_value.specs.Plain.{Plain}

@@ -1,6 +1,5 @@
 -- That a run goes on, and how much is left to do.
-use Rattle.std.specs.Prelude.{ℕ, zero, suc, ◌+◌, ◌*◌, ◌-◌, List, [], ◌∷◌, Bool, true, false, cond, if◌then◌else◌, length, is_none, sum_by}
-use Rattle.std.specs.declared.option.Option.{Option}
+use Rattle.std.specs.Prelude.{ℕ, zero, suc, ◌+◌, ◌*◌, ◌-◌, List, [], ◌∷◌, Bool, true, false, cond, length, is_none, sum_by}
 use Rattle.std.specs.declared.option.Option.TheVariants.{None, Some}
 use Rattle.nf_value.specs.Plain.{Plain}
 use Rattle.nf_graph.specs.Rules.{Rules, last_attempt}

@@ -1,5 +1,5 @@
 -- When an event is legal, and says what the rules say.
-use Rattle.std.specs.Prelude.{ℕ, suc, ◌<◌, ◌≡◌, ◌==◌, ◌⊎◌, List, [], true, false, length, count_by, Result, Ok, Err, is_ok, is_some, MatchOption}
+use Rattle.std.specs.Prelude.{ℕ, ◌<◌, ◌≡◌, ◌==◌, ◌⊎◌, List, [], true, false, length, count_by, Result, Err, is_ok, is_some, MatchOption}
 use Rattle.std.specs.declared.option.Option.{Option}
 use Rattle.std.specs.declared.option.Option.TheVariants.{None, Some}
 use Rattle.nf_value.specs.Plain.{Plain}

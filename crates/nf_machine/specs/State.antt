@@ -1,7 +1,7 @@
 -- The state of a run between two events.
-use Rattle.std.specs.Prelude.{ℕ, zero, suc, ◌==◌, List, [], ◌∷◌, Bool, true, false, if◌then◌else◌, get_or, length}
+use Rattle.std.specs.Prelude.{ℕ, zero, suc, ◌==◌, List, [], Bool, true, false, if◌then◌else◌, length}
 use Rattle.std.specs.declared.option.Option.{Option}
-use Rattle.std.specs.declared.option.Option.TheVariants.{None, Some}
+use Rattle.std.specs.declared.option.Option.TheVariants.{None}
 use Rattle.nf_value.specs.Plain.{Plain}
 use Rattle.nf_opstream.specs.Push.{Push}
 use Rattle.nf_job.specs.declared.report.Report.{Report}

@@ -1,12 +1,12 @@
 -- What each event does.
-use Rattle.std.specs.Prelude.{ℕ, zero, suc, ◌+◌, ◌==◌, nat_lt, List, [], ◌∷◌, ◌++◌, Bool, true, false, cond, if◌then◌else◌, get_or, length, remove, count_by, Result, Ok, Err}
+use Rattle.std.specs.Prelude.{ℕ, zero, suc, ◌+◌, ◌==◌, nat_lt, List, [], ◌∷◌, ◌++◌, true, false, cond, if◌then◌else◌, get_or, remove, count_by, Result, Ok, Err}
 use Rattle.std.specs.declared.option.Option.{Option}
 use Rattle.std.specs.declared.option.Option.TheVariants.{None, Some}
 use Rattle.nf_value.specs.Plain.{Plain, null}
 use Rattle.nf_value.specs.declared.fault.EvalFault.{EvalFault}
 use Rattle.nf_opstream.specs.Push.{Push}
 use Rattle.nf_opstream.specs.Fault.{Fault}
-use Rattle.nf_opstream.specs.Operator.{Operator, to_out}
+use Rattle.nf_opstream.specs.Operator.{to_out}
 use Rattle.nf_job.specs.declared.report.Report.{Report}
 use Rattle.nf_job.specs.declared.emitted.Outputs.TheVariants.{Emits, Ignored, Failed, Again}
 use Rattle.nf_graph.specs.Rules.{Outs, emit_at}
