@@ -3,3 +3,4 @@ pub mod Lists
 pub mod Fix
 pub mod Singles
 pub mod Refused
+pub mod WellMade

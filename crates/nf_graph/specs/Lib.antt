@@ -3,3 +3,4 @@ pub mod Node
 pub mod Meaning
 pub mod Faults
 pub mod Singles
+pub mod WellMade

@@ -6,6 +6,10 @@ ghost use Rattle.nf_graph.specs.Rules.{Rules};
 ghost use Rattle.nf_graph.specs.Node.{PlainNode, IsGraph};
 ghost use Rattle.nf_graph.specs.Meaning.{Outcomes, Instance, bags};
 ghost use Rattle.nf_graph.specs.Singles.{HasSingles, IsMadeByNodes, FailsAlone};
+ghost use Rattle.nf_graph.specs.WellMade.{plain_graph, IsWellMade};
+ghost use Rattle.nf_graph.specs.declared.node.Node.{Node};
+
+use nf_operator::laws::{kinds, operators};
 
 /// Each output's bag is what its node makes of the bags of the graph.
 #[tactic(auto, using(crate::proofs::Fix::made_by_nodes))]
@@ -29,3 +33,11 @@ pub fn value_ports()
 pub fn without_a_job()
     ensures { (R : Rules) → (o : Outcomes) → (i : ℕ) → (z : Instance) → (f : TaskFault) → R.job i z.0 z.1 1 ≡ Err f → FailsAlone R o i z f }
 {}
+
+/// A graph in memory is a graph: its rows are operators, and its value ports read value channels.
+pub fn well_made()
+    ensures { (nodes : List Node) → IsWellMade nodes → IsGraph (plain_graph nodes) }
+{
+    operators();
+    kinds();
+}
