@@ -1,5 +1,5 @@
 -- The nodes of a graph in memory make a graph.
-use Rattle.std.proofs.Common.{◌≡◌, ℕ, zero, suc, ◌<◌, List, [], ◌∷◌, length, Bool, true, false, refl, ap, sym, ◌∙◌, subst, arith, ◌⊎◌, inl, inr}
+use Rattle.std.proofs.Common.{◌≡◌, ℕ, zero, suc, ◌<◌, List, [], ◌∷◌, length, Bool, true, false, refl, sym, ◌∙◌, subst, arith, ◌⊎◌, inl, inr}
 use Rattle.std.specs.Prelude.{◌==◌, nat_le, cond}
 use Rattle.std.specs.declared.option.Option.TheVariants.{None, Some}
 use Rattle.std.proofs.lemmas.Bool.Decides.{nat_tests}
@@ -16,7 +16,7 @@ use Rattle.nf_operator.specs.Outputs.{KeepsOne, IsOfKind}
 use Rattle.nf_graph.specs.declared.node.Node.{Node}
 use Rattle.nf_graph.specs.declared.node.NodeKind.{NodeKind}
 use Rattle.nf_graph.specs.declared.node.NodeKind.TheVariants as k
-use Rattle.nf_graph.specs.Node.{Kind, source, operator, process, PlainNode, port_in, port_at, node_at, AllValues, GivesValues, IsQueue, IsGraph}
+use Rattle.nf_graph.specs.Node.{source, operator, process, PlainNode, port_in, port_at, node_at, AllValues, GivesValues, IsQueue, IsGraph}
 use Rattle.nf_graph.specs.WellMade.{plain_kind, plain_node, plain_graph, node_in, FitsRow, FitsKind, OpGivesValues, IsValueSource, IsWellMade}
 
 plain_at : (nodes : List Node) (i : ℕ) → node_at (plain_graph nodes) i ≡ plain_node (node_in nodes i)

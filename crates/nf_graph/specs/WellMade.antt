@@ -1,8 +1,6 @@
 -- The condition of a graph, and its nodes as the meaning sees them.
-use Rattle.std.specs.Prelude.{◌≡◌, ◌≤◌, ◌<◌, ◌⊎◌, ℕ, List, [], true, false, map, get_or, length, sum_by}
-use Rattle.std.specs.declared.option.Option.{Option}
+use Rattle.std.specs.Prelude.{◌≡◌, ◌≤◌, ◌<◌, ℕ, List, [], true, map, get_or, length, sum_by}
 use Rattle.std.specs.declared.option.Option.TheVariants.{None, Some}
-use Rattle.nf_value.specs.Plain.{Plain}
 use Rattle.nf_bag.specs.Options.{Allows}
 use Rattle.nf_bag.specs.declared.rows.Row.{Row}
 use Rattle.nf_bag.specs.declared.options.OpOpts.{OpOpts}
@@ -13,7 +11,7 @@ use Rattle.nf_graph.specs.declared.port.Port.{Port}
 use Rattle.nf_graph.specs.declared.node.Node.{Node}
 use Rattle.nf_graph.specs.declared.node.NodeKind.{NodeKind}
 use Rattle.nf_graph.specs.declared.node.NodeKind.TheVariants as k
-use Rattle.nf_graph.specs.Node.{Kind, source, operator, process, PlainNode, port_in, port_at, AllValues, IsQueue}
+use Rattle.nf_graph.specs.Node.{Kind, source, operator, process, PlainNode, port_in, AllValues, IsQueue}
 
 -- ---- the nodes as the meaning sees them
 
