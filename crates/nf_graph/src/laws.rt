@@ -20,7 +20,8 @@ pub fn node_by_node()
 /// Nodes that are added behind change no bag of the nodes before them.
 #[tactic(auto, using(crate::proofs::Fix::earlier_stays))]
 pub fn added_later()
-    ensures { (g : List PlainNode) → (h : List PlainNode) → (R : Rules) → (o : Outcomes) → (i : ℕ) → i < length g → bags R o (g ++ h) i ≡ bags R o g i }
+    ensures { (g : List PlainNode) → (h : List PlainNode) → (R : Rules) → (o : Outcomes) → (i : ℕ) → i < length g
+        → bags R o (g ++ h) i ≡ bags R o g i }
 {}
 
 /// At most one item comes to a value port.
@@ -31,7 +32,8 @@ pub fn value_ports()
 
 /// An instance whose first attempt has no job emits nothing and has the fault of that attempt alone, whatever its reports.
 pub fn without_a_job()
-    ensures { (R : Rules) → (o : Outcomes) → (i : ℕ) → (z : Instance) → (f : TaskFault) → R.job i z.0 z.1 1 ≡ Err f → FailsAlone R o i z f }
+    ensures { (R : Rules) → (o : Outcomes) → (i : ℕ) → (z : Instance) → (f : TaskFault) → R.job i z.0 z.1 1 ≡ Err f
+        → FailsAlone R o i z f }
 {}
 
 /// A graph in memory is a graph: its rows are operators, and its value ports read value channels.

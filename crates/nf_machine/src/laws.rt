@@ -14,28 +14,34 @@ ghost use Rattle.nf_machine.specs.Going.{HasMove, work};
 
 /// Whatever the order of its events, a lawful history is beside the meaning of its graph, under all outcomes that agree with it.
 pub fn every_order()
-    ensures { (g : List PlainNode) → (R : Rules) → (o : Outcomes) → (h : List PlainEvent) → IsGraph g → IsHistory g R h → Agrees o (after g h) → IsBeside g R o (after g h) }
+    ensures { (g : List PlainNode) → (R : Rules) → (o : Outcomes) → (h : List PlainEvent) → IsGraph g → IsHistory g R h
+        → Agrees o (after g h) → IsBeside g R o (after g h) }
 {}
 
 /// The outcomes that a history tells agree with it: the reports of each task that came back, is in flight or was given up.
 pub fn own_outcomes()
-    ensures { (g : List PlainNode) → (R : Rules) → (h : List PlainEvent) → IsGraph g → IsHistory g R h → Agrees (outcomes_of (after g h)) (after g h) }
+    ensures { (g : List PlainNode) → (R : Rules) → (h : List PlainEvent) → IsGraph g → IsHistory g R h
+        → Agrees (outcomes_of (after g h)) (after g h) }
 {}
 
 /// A run that isn't over and has nothing in flight has a legal Pass, Take or Close.
 pub fn goes_on()
-    ensures { (g : List PlainNode) → (R : Rules) → (h : List PlainEvent) → IsGraph g → IsHistory g R h → is_over g (after g h) ≡ false → (after g h).tickets ≡ [] → HasMove g R (after g h) }
+    ensures { (g : List PlainNode) → (R : Rules) → (h : List PlainEvent) → IsGraph g → IsHistory g R h
+        → is_over g (after g h) ≡ false → (after g h).tickets ≡ [] → HasMove g R (after g h) }
 {}
 
 /// Each event of a run leaves less to do, so that no run goes on for ever.
 pub fn comes_to_an_end()
-    ensures { (g : List PlainNode) → (R : Rules) → (h : List PlainEvent) → (e : PlainEvent) → IsGraph g → IsRules R → IsHistory g R h → IsLegal g R (after g h) e → work g (step g (after g h) e) < work g (after g h) }
+    ensures { (g : List PlainNode) → (R : Rules) → (h : List PlainEvent) → (e : PlainEvent) → IsGraph g → IsRules R
+        → IsHistory g R h → IsLegal g R (after g h) e → work g (step g (after g h) e) < work g (after g h) }
 {}
 
 /// A history grows at its end: its last event is a step from the state after the others, and the whole is lawful exactly if they are
 /// and that step is legal.
 #[tactic(auto, using(crate::proofs::Growing::replay_grows, crate::proofs::Growing::lawful_grows))]
 pub fn one_event_more()
-    ensures state { (g : List PlainNode) → (s : State) → (h : List PlainEvent) → (e : PlainEvent) → replay g s (h ++ e ∷ []) ≡ step g (replay g s h) e }
-    ensures lawful { (g : List PlainNode) → (R : Rules) → (s : State) → (h : List PlainEvent) → (e : PlainEvent) → IsLawful g R s (h ++ e ∷ []) ↔ (IsLawful g R s h × IsLegal g R (replay g s h) e) }
+    ensures state { (g : List PlainNode) → (s : State) → (h : List PlainEvent) → (e : PlainEvent)
+        → replay g s (h ++ e ∷ []) ≡ step g (replay g s h) e }
+    ensures lawful { (g : List PlainNode) → (R : Rules) → (s : State) → (h : List PlainEvent) → (e : PlainEvent)
+        → IsLawful g R s (h ++ e ∷ []) ↔ (IsLawful g R s h × IsLegal g R (replay g s h) e) }
 {}
