@@ -39,7 +39,7 @@ pub data PlainEvent : Type 0 where
 
 -- ---- the events of the code
 
-abbrev op_stop : ℕ → Option operators.Fault → PlainStop
+abbrev pub op_stop : ℕ → Option operators.Fault → PlainStop
 op_stop node None = memory_stop
 op_stop node (Some f) = fault_stop (op_fails node f)
 
