@@ -1,0 +1,6 @@
+pub mod Blanks
+pub mod Splits
+pub mod Numbers
+pub mod Last
+pub mod Lines
+pub mod Tasks

@@ -1,0 +1,5 @@
+pub mod Last
+pub mod Line
+pub mod Status
+pub mod Task
+pub mod Reading
