@@ -1,0 +1,5 @@
+pub mod Usage
+pub mod Numbers
+pub mod Words
+pub mod Run
+pub mod Commands
