@@ -1,0 +1,4 @@
+pub mod Faults
+pub mod FuseKeeper
+pub mod Held
+pub mod MemKeeper
