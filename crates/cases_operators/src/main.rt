@@ -7,15 +7,10 @@
 //! whether it came at the close. Empty lines and lines that begin with `#` are printed as they are.
 #![tactic(auto)]
 
-mod by_answer;
-mod by_item;
-mod gathers;
-mod joins;
-mod operator;
 mod options;
 mod outcomes;
 mod pushes;
-mod totals;
+mod rows;
 mod values;
 
 use anyhow::{Result, bail};

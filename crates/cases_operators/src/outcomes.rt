@@ -1,9 +1,12 @@
 //! What comes of a row.
 
-use crate::operator::Operator;
+ghost use Rattle.nf_bag.specs.Options.{Allows};
+
 use crate::pushes::Push;
+use crate::rows::row_of;
 use anyhow::{Result, bail};
-use nf_bag::{OpFault, OpOpts, sorted};
+use nf_bag::{OpFault, OpOpts, Row, sorted};
+use nf_operator::OpState;
 use nf_value::{Mem, Txt, Vals, Value, text_of};
 use std::alloc::Global;
 
@@ -14,13 +17,14 @@ pub(crate) fn outcomes(
     opts: &OpOpts,
     mut pushes: Vec<Push>,
 ) -> Result<String> {
+    let row = row_of(name, opts)?;
     let mut outcomes = Vec::new(alloc);
     for first in 0..pushes.len() {
-        let found = outcome(alloc, name, opts, &pushes[first..], &pushes[..first])?;
+        let found = outcome(alloc, row, opts, &pushes[first..], &pushes[..first])?;
         outcomes.push(found)?;
     }
     pushes.reverse();
-    let found = outcome(alloc, name, opts, pushes.as_slice(), &[])?;
+    let found = outcome(alloc, row, opts, pushes.as_slice(), &[])?;
     outcomes.push(found)?;
     outcomes.sort()?;
     outcomes.dedup();
@@ -39,34 +43,30 @@ fn joined(alloc: Global, texts: &[String]) -> Result<String> {
 }
 
 /// What comes of these pushes.
-fn outcome(
-    alloc: Global,
-    name: &str,
-    opts: &OpOpts,
-    first: &[Push],
-    later: &[Push],
-) -> Result<String> {
+fn outcome(alloc: Global, row: Row, opts: &OpOpts, first: &[Push], later: &[Push]) -> Result<String>
+    requires { Allows row opts.now }
+{
     let outs = opts.outs.max(1);
-    let mut operator = Operator::begin(alloc, name, opts)?;
+    let mut state = OpState::begin(alloc, row, opts)?;
     let mut emits = Vec::new(alloc);
     for pushes in [first, later] {
-        if let Some(fault) = fed(alloc, &mut operator, pushes, &mut emits, outs)? {
+        if let Some(fault) = fed(alloc, &mut state, pushes, &mut emits, outs)? {
             return Ok(fault);
         }
     }
-    closed(alloc, &mut operator, emits, outs)
+    closed(alloc, &mut state, emits, outs)
 }
 
 /// Pushes each item. Gives the text of the fault that ends the run, if there is one.
 fn fed(
     alloc: Global,
-    operator: &mut Operator,
+    state: &mut OpState,
     pushes: &[Push],
     emits: &mut Vec<(u32, Value)>,
     outs: u32,
 ) -> Result<Option<String>> {
     for push in pushes {
-        match pushed(operator, push) {
+        match pushed(state, push) {
             Ok(more) => add(emits, more, outs)?,
             Err(fault) => return Ok(Some(shown_fault(alloc, &fault, "")?)),
         }
@@ -77,11 +77,11 @@ fn fed(
 /// What the close adds to these emits, or its fault.
 fn closed(
     alloc: Global,
-    operator: &mut Operator,
+    state: &mut OpState,
     mut emits: Vec<(u32, Value)>,
     outs: u32,
 ) -> Result<String> {
-    match operator.close() {
+    match state.close() {
         Ok(more) => {
             add(&mut emits, more, outs)?;
             shown(alloc, emits.as_slice(), outs)
@@ -90,11 +90,14 @@ fn closed(
     }
 }
 
-/// What a push gives.
-fn pushed(operator: &mut Operator, push: &Push) -> Result<Vec<(u32, Value)>, OpFault> {
+/// What a push gives. Where there is no room for it, `Mem`.
+fn pushed(state: &mut OpState, push: &Push) -> Result<Vec<(u32, Value)>, OpFault> {
+    if !state.has_room() {
+        return Err(OpFault::Mem);
+    }
     let item = push.item.copy()?;
     let answer = push.answer.copy()?;
-    operator.push(push.port, item, answer)
+    state.push(push.port, item, answer)
 }
 
 /// Adds emits to so many outputs.
