@@ -1,0 +1,5 @@
+pub mod Laws
+pub mod Lookup
+pub mod Parts
+pub mod Reading
+pub mod Record
