@@ -1,0 +1,12 @@
+//! `RuleBook`: what closures are to answer.
+
+/// What a value says of the answers of rules (own). It has no method: only contracts speak of it.
+pub trait RuleBook {
+    ghost use Rattle.nf_graph.specs.Rules as graph;
+
+    /// The answers as functions.
+    ghost told: { Self → graph.Rules };
+
+    /// A report is refused exactly where its attempt has no job, and the last attempt isn't tried again.
+    ghost proper: { (book : Self) → graph.IsRules (told book) };
+}
