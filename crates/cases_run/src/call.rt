@@ -10,7 +10,7 @@ use crate::text::pictured;
 use anyhow::Result;
 use nf_builtins::{CallFault, ProgramBook, StoredNatives, program_names, program_native};
 use nf_cli::{NfEnd, nf_main};
-use nf_core::Event;
+use nf_chain::Event;
 use nf_host::{Host, Sink};
 use nf_lane::Lane;
 use nf_value::{Mem, Vals, Value};

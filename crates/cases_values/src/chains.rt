@@ -6,7 +6,7 @@ ghost use Rattle.nf_value.specs.Truth.{truth_of};
 
 use crate::values::{list, list_text, two};
 use anyhow::{Result, bail};
-use nf_core::{ChainFault, ItemRules};
+use nf_chain::{ChainFault, ItemRules};
 use nf_value::{EvalFault, EvalKind, EvalRefusal, Place, Vals, Value, text_of, truth};
 use std::alloc::Global;
 
@@ -47,7 +47,7 @@ fn images(alloc: Global, items: &Vals, place: Place) -> Result<String> {
     let listed = Listed {
         fault: EvalFault { kind, place },
     };
-    match nf_core::chain(alloc, items, &listed) {
+    match nf_chain::chain(alloc, items, &listed) {
         Ok(images) => list_text(alloc, images),
         Err(ChainFault::Item { item, fault }) => faulty(alloc, &item, fault),
         Err(ChainFault::Mem) => bail!("no memory"),

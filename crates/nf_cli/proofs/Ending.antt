@@ -6,7 +6,7 @@ use Rattle.nf_words.specs.Words.{command_of}
 use Rattle.nf_host.specs.Files.{Files}
 use Rattle.nf_job.specs.declared.report.Report.{Report}
 use Rattle.nf_lane.specs.World.{World}
-use Rattle.nf_core.specs.declared.event.Event.{Event}
+use Rattle.nf_chain.specs.declared.event.Event.{Event}
 use Rattle.nf_value.specs.Plain.{Plain}
 use Rattle.nf_placed.specs.Scope.{Env}
 use Rattle.nf_forms.specs.Values.{OverBuilt, bare}

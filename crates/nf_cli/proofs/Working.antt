@@ -7,8 +7,8 @@ use Rattle.nf_words.specs.declared.command.Command.{Command}
 use Rattle.nf_words.specs.Words.{fmt}
 use Rattle.nf_host.specs.Files.{Files}
 use Rattle.nf_lane.specs.World.{World}
-use Rattle.nf_core.specs.declared.event.Event.{Event}
-use Rattle.nf_core.specs.Machine.{starts}
+use Rattle.nf_chain.specs.declared.event.Event.{Event}
+use Rattle.nf_chain.specs.Machine.{starts}
 use Rattle.nf_run.specs.declared.runs.RunFault.{RunFault}
 use Rattle.nf_run.specs.declared.runs.RunFault.TheVariants as fault
 use Rattle.nf_placed.specs.Scope.{Env}

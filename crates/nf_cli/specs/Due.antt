@@ -12,10 +12,10 @@ use Rattle.nf_host.specs.Files.{Files}
 use Rattle.nf_host.specs.Sink.{GrowsByFront}
 use Rattle.nf_job.specs.declared.report.Report.{Report}
 use Rattle.nf_lane.specs.World.{World}
-use Rattle.nf_core.specs.declared.event.Event.{Event}
-use Rattle.nf_core.specs.declared.event.Stop.{Stop}
-use Rattle.nf_core.specs.declared.event.Stop.TheVariants as stop
-use Rattle.nf_core.specs.Machine.{starts}
+use Rattle.nf_chain.specs.declared.event.Event.{Event}
+use Rattle.nf_chain.specs.declared.event.Stop.{Stop}
+use Rattle.nf_chain.specs.declared.event.Stop.TheVariants as stop
+use Rattle.nf_chain.specs.Machine.{starts}
 use Rattle.nf_placed.specs.Scope.{Env}
 use Rattle.nf_forms.specs.Form.{Form}
 use Rattle.nf_run.specs.Run.{IsHistoryOf, AreBooked, WentWell, HasItemFault, HasTaskFault, LostLane, meant, state_after}

@@ -9,8 +9,8 @@ use Rattle.nf_printer.specs.Tops.{canonical}
 use Rattle.nf_placed.specs.Scope.{Env}
 use Rattle.nf_forms.specs.Form.{Form}
 use Rattle.nf_lane.specs.World.{World}
-use Rattle.nf_core.specs.declared.event.Event.{Event}
-use Rattle.nf_core.specs.Machine.{starts}
+use Rattle.nf_chain.specs.declared.event.Event.{Event}
+use Rattle.nf_chain.specs.Machine.{starts}
 use Rattle.nf_run.specs.declared.runs.RunFault.{RunFault}
 use Rattle.nf_run.specs.declared.runs.RunFault.TheVariants as fault
 use Rattle.nf_run.specs.Run.{WentWell, meant}

@@ -3,7 +3,7 @@
 ghost use Rattle.std.specs.Prelude.{◌≡◌};
 ghost use Rattle.nf_cli.specs.Ends.{status_of};
 
-use nf_core::Event;
+use nf_chain::Event;
 use nf_job::TaskFault;
 use nf_lane::{Kept, Lane};
 use nf_lexer::LexFault;

@@ -3,7 +3,7 @@
 ghost use Rattle.std.specs.Prelude.{◌≡◌, ℕ, ◌+◌, ◌<◌, ◌≤◌, ◌^◌, ◌↔◌, All, IsSome, IfSome, length, map, sum_by, string_bytes};
 ghost use Rattle.nf_host.specs.Faults.{Rose};
 ghost use Rattle.nf_host.specs.Files.{Files};
-ghost use Rattle.nf_core.specs.Machine.{starts};
+ghost use Rattle.nf_chain.specs.Machine.{starts};
 ghost use Rattle.nf_run.specs.Run.{NoneFell, OneRose};
 ghost use Rattle.nf_forms.specs.Values.{OverBuilt};
 ghost use Rattle.nf_cli.specs.Ends.{status_of};

@@ -6,7 +6,7 @@ ghost use Rattle.nf_host.specs.Files.{Files};
 ghost use Rattle.nf_ast.specs.Tops.{view_script};
 ghost use Rattle.nf_forms.specs.Values.{OverBuilt};
 ghost use Rattle.nf_forms.specs.View.{view_plan};
-ghost use Rattle.nf_core.specs.Machine.{starts as starts_of};
+ghost use Rattle.nf_chain.specs.Machine.{starts as starts_of};
 ghost use Rattle.nf_run.specs.Run.{NoneFell, OneRose};
 ghost use Rattle.nf_cli.specs.Report.{report_of, summary as summary_of};
 ghost use Rattle.nf_cli.specs.Due.{FmtRunsNothing, OnHostFault, OnLaneFault, Tells};
@@ -20,7 +20,7 @@ use crate::scripts::request_of_words;
 use crate::texts::Request;
 use nf_ast::Script;
 use nf_builtins::Natives;
-use nf_core::Event;
+use nf_chain::Event;
 use nf_forms::Plan;
 use nf_host::Host;
 use nf_lane::{Kept, Lane};
@@ -88,6 +88,7 @@ fn nothing_ran<L: Lane>(alloc: Global, outcome: Result<Output, End>) -> Work<L>
         history: Vec::new(alloc),
         kept: Kept {
             dones: Vec::new(alloc),
+            seens: Vec::new(alloc),
         },
         outcome,
     }

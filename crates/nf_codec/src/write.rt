@@ -43,7 +43,8 @@ pub fn encode(alloc: Global, value: &Value) -> Result<Vec<u8>, Mem>
 ///
 /// `Mem` if there is no memory for it.
 pub fn encode_text(alloc: Global, value: &Value) -> Result<Txt, Mem>
-    ensures { IfOk result (λ t. t ≡ code (plain_of value.now)) }
+    ensures code { IfOk result (λ t. t ≡ code (plain_of value.now)) }
+    ensures whole { OnOk result (IsWhole (plain_of value.now)) }
 {
     let mut out = String::new(alloc);
     put(&mut out, value)?;

@@ -1,8 +1,15 @@
+pub mod Children
+pub mod Copies
 pub mod Faults
 pub mod Files
+pub mod Folders
 pub mod FsHost
+pub mod MemFiles
 pub mod MemHost
 pub mod MemSink
+pub mod SharedHost
 pub mod Sink
+pub mod Starts
 pub mod StdSink
+pub mod Told
 pub mod Whole

@@ -1,29 +1,36 @@
-//! `FsHost`: the system's files.
+//! `FsHost`: the system's files and processes.
 
-ghost use Rattle.std.specs.Prelude.{◌≡◌, ◌⊎◌, ◌↔◌, ◌≤◌, None, IfSome, IfOk, IsTrue, length, take};
+ghost use Rattle.std.specs.Prelude.{◌≡◌, ◌⊎◌, ◌↔◌, ◌≤◌, None, Ok, IfSome, IfOk, OnErr, IsErr, IsTrue, length, take};
 ghost use Rattle.std.specs.IoError.{error_kind};
-ghost use Rattle.nf_host.specs.Faults.{Rose};
+ghost use Rattle.nf_host.specs.Faults.{Rose, OnFailed};
 
 use crate::host::{Host, HostRefusal, PIECE_LEN, Piece};
-use nf_value::Bytes;
-use std::alloc::{AllocError, Global};
-use std::fs::File;
-use std::io;
-use std::io::{ErrorKind, Read, Seek, SeekFrom};
+use crate::status::status_of;
+use nf_value::{Bytes, Mem, Txt};
+use std::alloc::{AllocError, AllocFailed, Global};
+use std::collections::BTreeSet;
+use std::fs::{File, OpenOptions};
+use std::io::{ErrorKind, Read, Seek, SeekFrom, Write};
+use std::process::{Command, ExitStatus, Processes, Stdio};
 use std::rt::Files;
+use std::{fs, io};
 
-/// The files of the system that the program runs on. It doesn't reveal them. A path that is missing, empty or leads through
-/// a plain file is absent; a folder in a file's place is a failure (own).
+// What a shell is given to run a folder's script: the folder is its `$0`.
+const CHILD_COMMAND: &str =
+    "cd \"$0\" && sh -ue .command.sh < .command.in > .command.out 2> .command.err";
+
+/// The files and processes of the system that the program runs on. It doesn't reveal them. A path that is missing, empty or
+/// leads through a plain file is absent; a folder in a file's place is a failure (own).
 #[derive(Drop)]
 pub struct FsHost<R> {
     rt: R,
     faults: u64,
 }
 
-impl<R: Files> FsHost<R> {
+impl<R: Files + Processes + Copy + Drop> FsHost<R> {
     ghost use Rattle.nf_host.specs.FsHost.{faults_of};
 
-    /// A host over the runtime's files. Takes no memory.
+    /// A host over the runtime's files and processes. Takes no memory.
     pub fn new(rt: R) -> FsHost<R>
         ensures { faults_of result ≡ 0 }
     {
@@ -38,12 +45,28 @@ impl<R: Files> FsHost<R> {
         self.faults = self.faults.saturating_add(1);
         HostRefusal::Failed
     }
+
+    // Hands on an answer of the system. An error is counted, unless it is want of memory.
+    fn count<T>(&mut self, answer: io::Result<T>) -> Result<T, HostRefusal>
+        ensures same { IfOk answer (λ x. result ≡ Ok x) }
+        ensures error { OnErr answer (IsErr result) }
+        ensures later { faults_of self.old ≤ faults_of self.new }
+        ensures cause { OnFailed result (Rose (faults_of self.old) (faults_of self.new)) }
+    {
+        match answer {
+            Ok(value) => Ok(value),
+            Err(error) if error.kind() == ErrorKind::OutOfMemory => Err(HostRefusal::Mem),
+            Err(_) => Err(self.fail()),
+        }
+    }
 }
 
-impl<R: Files> Host for FsHost<R> {
+impl<R: Files + Processes + Copy + Drop> Host for FsHost<R> {
     ghost use Rattle.nf_host.specs.FsHost.{faults_of};
 
     ghost files = { λ _. None };
+
+    ghost started = { λ _. None };
 
     ghost faults = { faults_of };
 
@@ -63,9 +86,94 @@ impl<R: Files> Host for FsHost<R> {
         }
     }
 
+    fn list(&mut self, alloc: Global, dir: &str) -> Result<Option<Vec<Txt>>, HostRefusal> {
+        let names = own_names(self.rt, alloc, dir);
+        match self.count(names)? {
+            Some(names) => Ok(Some(texts_of(alloc, names)?)),
+            None => Ok(None),
+        }
+    }
+
+    fn make_dir(&mut self, dir: &str) -> Result<(), HostRefusal> {
+        let made = fs::create_dir_all(&self.rt, dir);
+        self.count(made)
+    }
+
+    fn clear_dir(&mut self, alloc: Global, dir: &str) -> Result<(), HostRefusal> {
+        match self.rt.remove_dir_all(alloc, dir) {
+            Err(error) if is_absence(&error) => Ok(()),
+            cleared => self.count(cleared),
+        }
+    }
+
+    fn create(&mut self, _alloc: Global, path: &str) -> Result<(), HostRefusal> {
+        let created = File::create(&self.rt, path);
+        let _ = self.count(created)?;
+        Ok(())
+    }
+
+    fn append(&mut self, _alloc: Global, path: &str, piece: &[u8]) -> Result<(), HostRefusal> {
+        let appended = append_all(&self.rt, path, piece);
+        self.count(appended)
+    }
+
+    fn rename(&mut self, _alloc: Global, from: &str, to: &str) -> Result<(), HostRefusal> {
+        let renamed = fs::rename(&self.rt, from, to);
+        self.count(renamed)
+    }
+
+    fn child(&mut self, alloc: Global, dir: &str) -> Result<i32, HostRefusal> {
+        let status = run_child(&self.rt, alloc, dir);
+        Ok(status_of(self.count(status)?))
+    }
+
     fn faults(&self) -> u64 {
         self.faults
     }
+}
+
+// The names of a folder's own plain files, or nothing if the folder isn't there. A symbolic link is no plain file.
+fn own_names<R: Files + Copy + Drop>(
+    rt: R,
+    alloc: Global,
+    dir: &str,
+) -> io::Result<Option<BTreeSet<String>>> {
+    let entries = match fs::read_dir(&(rt, alloc), if dir.is_empty() { "." } else { dir }) {
+        Ok(entries) => entries,
+        Err(error) if is_absence(&error) => return Ok(None),
+        Err(error) => return Err(error),
+    };
+    let mut names = BTreeSet::new(alloc);
+    for entry in entries {
+        let entry = entry?;
+        if entry.file_type()?.is_file() {
+            names.insert(String::from_str(alloc, entry.file_name())?)?;
+        }
+    }
+    Ok(Some(names))
+}
+
+fn texts_of(alloc: Global, names: BTreeSet<String>) -> Result<Vec<Txt>, Mem> {
+    let mut texts = Vec::new(alloc);
+    for name in names {
+        texts.push(Txt::of(name))?;
+    }
+    Ok(texts)
+}
+
+fn append_all<R: Files>(rt: &R, path: &str, piece: &[u8]) -> io::Result<()> {
+    let mut file = OpenOptions::new().append(true).create(true).open(rt, path)?;
+    file.write_all(piece)
+}
+
+// The child has no input and no output but the files in its folder; its own errors go to the program's.
+fn run_child<R: Processes>(rt: &R, alloc: Global, dir: &str) -> io::Result<ExitStatus> {
+    let mut command = Command::new(alloc, "sh")?;
+    command.arg("-c")?.arg(CHILD_COMMAND)?.arg(dir)?;
+    command.stdin(Stdio::null());
+    command.stdout(Stdio::null());
+    command.stderr(Stdio::inherit());
+    command.status(rt)
 }
 
 fn is_absence(error: &io::Error) -> bool

@@ -1,3 +1,4 @@
 pub mod Entries
+pub mod Lacking
 pub mod Reading
-pub mod Status
+pub mod Steps

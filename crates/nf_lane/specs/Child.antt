@@ -1,21 +1,12 @@
 -- The report of a child process that ended.
-use Rattle.std.specs.Prelude.{◌≡◌, ℕ, ◌≤◌, ◌++◌, ℤ, pos, List, [], Bool, true, false, length, nat_le, unwrap_or, None, Some, if◌then◌else◌}
+use Rattle.std.specs.Prelude.{◌≡◌, ℕ, ◌≤◌, ◌++◌, List, [], Bool, true, false, length, nat_le, None, Some, if◌then◌else◌}
 use Rattle.std.specs.declared.option.Option.{Option}
 use Rattle.std.specs.Str.{IsUtf8}
-use Rattle.std.specs.Process.{exit_code}
-use Rattle.std.specs.declared.process.ExitStatus.{ExitStatus}
+use Rattle.nf_host.specs.Starts.{IsStatus}
 use Rattle.nf_job.specs.declared.report.Captured.{Captured}
 use Rattle.nf_job.specs.declared.report.Captured.TheVariants as captured
 use Rattle.nf_job.specs.declared.report.Report.{Report}
-use Rattle.nf_lane.specs.declared.child.TheConstants.{OUTPUT_LIMIT, NO_CODE_STATUS}
-
--- its exit code, or 255 if it has none
-abbrev pub exit_number : ExitStatus → ℤ
-exit_number s = unwrap_or (exit_code s) NO_CODE_STATUS
-
--- a number from 0 to 255
-abbrev pub IsStatus : ℤ → Type 0
-IsStatus z = (n : ℕ) × (n ≤ 255) × (z ≡ pos n)
+use Rattle.nf_lane.specs.declared.child.TheConstants.{OUTPUT_LIMIT}
 
 -- what is kept of the bytes that it wrote: all, or nothing if they pass the limit
 abbrev pub kept_of : List ℕ → Option (List ℕ)

@@ -1,8 +1,10 @@
 //! Runs a job's script as one child process: starts it, reads its output, waits for its end.
 
 ghost use Rattle.std.specs.Prelude.{◌≡◌, ◌≤◌, IfOk, IfSome, option_map};
-ghost use Rattle.nf_lane.specs.Child.{IsChildReport, IsOutput, IsCaptured, IsStatus, exit_number, kept_of, kept_with};
+ghost use Rattle.nf_host.specs.Starts.{exit_number};
+ghost use Rattle.nf_lane.specs.Child.{IsChildReport, IsOutput, IsCaptured, kept_of, kept_with};
 
+use nf_host::status_of;
 use nf_job::{Captured, Found, Report};
 use nf_value::Txt;
 use std::alloc::{AllocError, Global};
@@ -12,9 +14,6 @@ use std::process::{Child, Command, ExitStatus, OpenProcess, Processes, Stdio};
 
 /// The most bytes of a child's standard output that are kept (own).
 pub const OUTPUT_LIMIT: usize = 1_048_576;
-
-/// The status of a child without an exit code: a signal ended it (own).
-pub const NO_CODE_STATUS: i32 = 255;
 
 // Runs a script in a shell of its own. Gives its exit status, and its standard output if that is wanted.
 pub(crate) fn run_script<R: Processes>(
@@ -69,13 +68,6 @@ fn report_of(alloc: Global, status: ExitStatus, captured: Captured, wants_stdout
         captured,
         found: Found::of(Vec::new(alloc)),
     }
-}
-
-fn status_of(status: ExitStatus) -> i32
-    ensures code { result ≡ exit_number status }
-    ensures range { IsStatus result }
-{
-    status.code().unwrap_or(NO_CODE_STATUS)
 }
 
 // The child's standard output up to its end, if it is wanted.

@@ -8,19 +8,22 @@ ghost use Rattle.nf_lane.specs.Child.{IsChildReport};
 
 use crate::child::run_script;
 use crate::done::Done;
-use crate::lane::Lane;
+use crate::lane::{Lane, Look};
 use crate::refusal::LaneRefusal;
-use nf_job::Job;
+use crate::seen::Seen;
+use crate::store::look_in;
+use nf_job::{Job, Report};
 use std::alloc::Global;
 use std::io::ErrorKind;
 use std::process::Processes;
 
 /// Runs each job's script by `sh -ue -c SCRIPT` in the program's working folder. The child has no input, and its standard
-/// error is the program's. The lane doesn't reveal its world (own).
+/// error is the program's. The lane doesn't reveal its world, and keeps no files, so it finds none (own).
 #[derive(Drop)]
 pub struct ChildLane<R> {
     rt: R,
     runs: u64,
+    looks: u64,
     faults: u64,
 }
 
@@ -35,6 +38,7 @@ impl<R: Processes> ChildLane<R> {
         ChildLane {
             rt,
             runs: 0,
+            looks: 0,
             faults: 0,
         }
     }
@@ -56,11 +60,15 @@ impl<R: Processes> Lane for ChildLane<R> {
 
     type Done = Done;
 
+    type Seen = Seen;
+
     ghost runs = { runs_of };
 
     ghost faults = { faults_of };
 
     ghost world = { λ _. None };
+
+    ghost store = { λ _. None };
 
     fn run(&mut self, alloc: Global, job: &Job) -> Result<Done, LaneRefusal>
         requires { runs_of self.old < 2 ^ 63 }
@@ -82,6 +90,11 @@ impl<R: Processes> Lane for ChildLane<R> {
             Err(error) if error.kind() == ErrorKind::OutOfMemory => Err(LaneRefusal::Mem),
             Err(_) => Err(self.fail()),
         }
+    }
+
+    fn look(&mut self, _alloc: Global, report: &Report) -> Result<Look<Seen>, LaneRefusal> {
+        self.looks = self.looks.saturating_add(1);
+        Ok(look_in(&[], report, self.looks)?)
     }
 
     fn runs(&self) -> u64 {

@@ -1,6 +1,6 @@
 //! `TableLane`: answers from a table, for tests.
 
-ghost use Rattle.std.specs.Prelude.{◌≡◌, ◌+◌, ◌-◌, ◌<◌, ◌≤◌, ◌^◌, min, if◌then◌else◌, Some, Err, IfOk, IsTrue, ⊤};
+ghost use Rattle.std.specs.Prelude.{◌≡◌, ◌+◌, ◌-◌, ◌<◌, ◌≤◌, ◌^◌, ◌++◌, [], ◌∷◌, min, if◌then◌else◌, Some, Err, IfOk, IfErr, OnOk, OnErr, IsTrue};
 ghost use Rattle.std.specs.Bool.{OnTrue};
 ghost use Rattle.nf_job.specs.JobText.{job_text};
 ghost use Rattle.nf_host.specs.Faults.{Rose};
@@ -8,45 +8,77 @@ ghost use Rattle.nf_lane.specs.Faults.{OnFailed};
 ghost use Rattle.nf_lane.specs.World.{report_of};
 
 use crate::done::Done;
-use crate::lane::Lane;
+use crate::lane::{Lane, Look};
 use crate::refusal::LaneRefusal;
+use crate::seen::Seen;
+use crate::store::look_in;
 use crate::table::Table;
-use nf_job::Job;
+use nf_job::{Job, Report};
+use nf_value::{Digest, Mem};
 use std::alloc::Global;
 
-/// Answers from a table. It reveals the table as its world, and fails exactly at the runs that it was made to fail at (own).
+/// Answers from a table. It reveals the table as its world, and fails exactly at the runs that it was made to fail at. It
+/// reveals its store, which has the digests that it was told (own).
 #[derive(Drop)]
 pub struct TableLane {
     table: Table,
     failing: Vec<u64>,
+    stored: Vec<Digest>,
     runs: u64,
+    looks: u64,
     faults: u64,
 }
 
 impl TableLane {
-    ghost use Rattle.nf_lane.specs.TableLane.{world_of, failing_of, runs_of, faults_of};
+    ghost use Rattle.nf_lane.specs.TableLane.{world_of, failing_of, stored_of, runs_of, faults_of};
 
-    /// A lane over this table. It fails at the runs whose numbers, from 0, are in `failing`. Takes no memory.
+    /// A lane over this table, with an empty store. It fails at the runs whose numbers, from 0, are in `failing`. Takes no
+    /// memory.
     pub fn new(table: Table, failing: Vec<u64>) -> TableLane
         ensures world { world_of result ≡ table }
         ensures failing { failing_of result ≡ failing.items }
+        ensures stored { stored_of result ≡ [] }
         ensures runs { runs_of result ≡ 0 }
         ensures faults { faults_of result ≡ 0 }
     {
+        let stored = Vec::new(*failing.allocator());
         TableLane {
             table,
             failing,
+            stored,
             runs: 0,
+            looks: 0,
             faults: 0,
         }
+    }
+
+    /// Adds a digest to the store.
+    ///
+    /// # Errors
+    ///
+    /// `Mem` if there is no memory for it. The lane is unchanged.
+    pub fn store(&mut self, digest: Digest) -> Result<(), Mem>
+        ensures ok { OnOk result (stored_of self.new ≡ stored_of self.old ++ digest ∷ []) }
+        ensures err { OnErr result (stored_of self.new ≡ stored_of self.old) }
+        ensures world { world_of self.new ≡ world_of self.old }
+        ensures failing { failing_of self.new ≡ failing_of self.old }
+        ensures runs { runs_of self.new ≡ runs_of self.old }
+        ensures faults { faults_of self.new ≡ faults_of self.old }
+    {
+        self.stored.push(digest)?;
+        Ok(())
     }
 }
 
 impl Lane for TableLane {
-    ghost use Rattle.nf_lane.specs.TableLane.{world_of, failing_of, runs_of, faults_of, is_next_failing};
+    ghost use Rattle.nf_lane.specs.TableLane.{world_of, failing_of, stored_of, runs_of, faults_of, is_next_failing};
     ghost use Rattle.nf_lane.specs.Done.{IsGenuine, text_of, report_of_done, number_of};
+    ghost use Rattle.nf_lane.specs.Seen.{IsSeen, report_of_seen};
+    ghost use Rattle.nf_lane.specs.Store.{IsLook, OnThere, OnGone, has_name, holds};
 
     type Done = Done;
+
+    type Seen = Seen;
 
     ghost runs = { runs_of };
 
@@ -54,12 +86,15 @@ impl Lane for TableLane {
 
     ghost world = { λ l. Some (world_of l) };
 
+    ghost store = { λ l. Some (holds (stored_of l)) };
+
     fn run(&mut self, alloc: Global, job: &Job) -> Result<Done, LaneRefusal>
         requires { runs_of self.old < 2 ^ 63 }
         ensures rises { runs_of self.new ≡ runs_of self.old + 1 }
         ensures later { faults_of self.old ≤ faults_of self.new }
         ensures cause { OnFailed result (Rose (faults_of self.old) (faults_of self.new)) }
         ensures same { world_of self.new ≡ world_of self.old }
+        ensures same_store { stored_of self.new ≡ stored_of self.old }
         ensures genuine { IfOk result IsGenuine }
         ensures numbered { IfOk result (λ d. number_of d ≡ runs_of self.new) }
         ensures of_the_job { IfOk result (λ d. text_of d ≡ job_text job.now) }
@@ -80,6 +115,25 @@ impl Lane for TableLane {
         let report = self.table.report(alloc, job.text())?;
         let done = Done::of(job, report, self.runs)?;
         Ok(done)
+    }
+
+    fn look(&mut self, _alloc: Global, report: &Report) -> Result<Look<Seen>, LaneRefusal>
+        ensures later { faults_of self.old ≤ faults_of self.new }
+        ensures no_run { runs_of self.new ≡ runs_of self.old }
+        ensures same { world_of self.new ≡ world_of self.old }
+        ensures same_store { stored_of self.new ≡ stored_of self.old }
+        ensures genuine { IfOk result (OnThere IsSeen) }
+        ensures of_the_report { IfOk result (OnThere (λ s. report_of_seen s ≡ report.now)) }
+        ensures named { IfOk result (OnGone (λ name. IsTrue (has_name report.now.found name))) }
+        ensures looked { IfOk result (IsLook (holds (stored_of self.old)) report.now.found) }
+
+        // It never fails.
+        ensures mem { IfErr result (λ e. e ≡ LaneRefusal.Mem) }
+        ensures counted { faults_of self.new ≡ faults_of self.old }
+        ensures failing { failing_of self.new ≡ failing_of self.old }
+    {
+        self.looks = self.looks.saturating_add(1);
+        Ok(look_in(&self.stored, report, self.looks)?)
     }
 
     fn runs(&self) -> u64 {

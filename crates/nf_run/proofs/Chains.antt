@@ -4,9 +4,9 @@ use Rattle.std.specs.List.{Contains}
 use Rattle.nf_value.specs.Plain.{Plain}
 use Rattle.nf_value.specs.View.{plain_of}
 use Rattle.nf_eval.specs.Evaluation.{Closing}
-use Rattle.nf_core.specs.Outcome.{Chained}
-use Rattle.nf_core.specs.declared.chains.ChainFault.{ChainFault}
-use Rattle.nf_core.specs.declared.chains.ChainFault.TheVariants as chain_fault
+use Rattle.nf_chain.specs.Outcome.{Chained}
+use Rattle.nf_chain.specs.declared.chains.ChainFault.{ChainFault}
+use Rattle.nf_chain.specs.declared.chains.ChainFault.TheVariants as chain_fault
 use Rattle.nf_run.specs.declared.runs.RunFault.{RunFault}
 use Rattle.nf_forms.specs.Form.{chain}
 use Rattle.nf_run.specs.Meaning.{chain_images, images_meaning}

@@ -2,11 +2,11 @@
 use Rattle.std.proofs.Common.{◌≡◌, ◌≤◌, ℕ, List, [], ◌∷◌, length, Result, Ok, Err, slice_index_or, slice_set, refl, sym, subst, arith}
 use Rattle.nf_value.specs.Plain.{Plain}
 use Rattle.nf_process.specs.declared.process.ProcessSpec.{ProcessSpec}
-use Rattle.nf_core.specs.declared.event.Event.{Event}
-use Rattle.nf_core.specs.declared.event.Stop.{Stop}
-use Rattle.nf_core.specs.declared.event.Stop.TheVariants as stop
-use Rattle.nf_core.specs.declared.event.Outside.TheVariants.{Lane}
-use Rattle.nf_core.specs.Serial as serial
+use Rattle.nf_chain.specs.declared.event.Event.{Event}
+use Rattle.nf_chain.specs.declared.event.Stop.{Stop}
+use Rattle.nf_chain.specs.declared.event.Stop.TheVariants as stop
+use Rattle.nf_chain.specs.declared.event.Outside.TheVariants.{Lane}
+use Rattle.nf_chain.specs.Serial as serial
 use Rattle.nf_run.specs.declared.runs.RunFault.{RunFault}
 use Rattle.nf_run.specs.declared.runs.RunFault.TheVariants as fault
 use Rattle.nf_forms.specs.Form.{tasks}

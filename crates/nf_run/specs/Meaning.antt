@@ -7,9 +7,9 @@ use Rattle.nf_eval.specs.Evaluation.{Closing, apply_of}
 use Rattle.nf_process.specs.declared.process.ProcessSpec.{ProcessSpec}
 use Rattle.nf_process.specs.Parts.{parts_of}
 use Rattle.nf_process.specs.Outcome.{outputs_of}
-use Rattle.nf_core.specs.Chain.{Answered, Imaged, images}
-use Rattle.nf_core.specs.Rules.{ProcessRules, rules_by}
-use Rattle.nf_core.specs.Tasks.{Instance, Outcomes, Meaning, meaning}
+use Rattle.nf_chain.specs.Chain.{Answered, Imaged, images}
+use Rattle.nf_chain.specs.Rules.{ProcessRules, rules_by}
+use Rattle.nf_chain.specs.Tasks.{Instance, Outcomes, Meaning, meaning}
 use Rattle.nf_forms.specs.Form.{Form, chain, tasks}
 
 -- ---- a chain

@@ -8,16 +8,16 @@ use Rattle.nf_host.specs.Faults.{Rose}
 use Rattle.nf_job.specs.declared.fault.TaskFault.{TaskFault}
 use Rattle.nf_job.specs.declared.fault.TaskFault.TheVariants.{BadStdout}
 use Rattle.nf_job.specs.declared.report.Report.{Report}
-use Rattle.nf_core.specs.declared.event.Event.{Event}
-use Rattle.nf_core.specs.declared.event.Stop.{Stop}
-use Rattle.nf_core.specs.declared.event.Stop.TheVariants as stop
-use Rattle.nf_core.specs.declared.event.Outside.TheVariants.{Lane}
-use Rattle.nf_core.specs.declared.chains.ChainFault.{ChainFault}
-use Rattle.nf_core.specs.declared.chains.ChainFault.TheVariants as chain_fault
-use Rattle.nf_core.specs.Rules.{ProcessRules, rules_by}
-use Rattle.nf_core.specs.Machine.{State, opening, replay, IsLawful, EndsWell}
-use Rattle.nf_core.specs.Tasks.{Outcomes, outcomes}
-use Rattle.nf_core.specs.Going.{IsBooked}
+use Rattle.nf_chain.specs.declared.event.Event.{Event}
+use Rattle.nf_chain.specs.declared.event.Stop.{Stop}
+use Rattle.nf_chain.specs.declared.event.Stop.TheVariants as stop
+use Rattle.nf_chain.specs.declared.event.Outside.TheVariants.{Lane}
+use Rattle.nf_chain.specs.declared.chains.ChainFault.{ChainFault}
+use Rattle.nf_chain.specs.declared.chains.ChainFault.TheVariants as chain_fault
+use Rattle.nf_chain.specs.Rules.{ProcessRules, rules_by}
+use Rattle.nf_chain.specs.Machine.{State, opening, replay, IsLawful, EndsWell}
+use Rattle.nf_chain.specs.Tasks.{Outcomes, outcomes}
+use Rattle.nf_chain.specs.Going.{IsBooked}
 use Rattle.nf_lane.specs.World.{World}
 use Rattle.nf_run.specs.declared.runs.RunFault.{RunFault}
 use Rattle.nf_run.specs.declared.runs.RunFault.TheVariants as fault

@@ -6,7 +6,7 @@ ghost use Rattle.nf_eval.specs.Closing.{closing_of};
 ghost use Rattle.nf_run.specs.Meaning.{answer, process_rules};
 
 use nf_builtins::Natives;
-use nf_core::{ItemRules, TaskRules};
+use nf_chain::{ItemRules, TaskRules};
 use nf_eval::{Closure, apply};
 use nf_job::{Job, Outputs, Report, TaskRefusal};
 use nf_process::{ProcessSpec, emit_of, laws};

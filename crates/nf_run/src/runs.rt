@@ -5,12 +5,12 @@ ghost use Rattle.nf_eval.specs.Closing.{closing_of};
 ghost use Rattle.nf_forms.specs.Built.{most_items};
 ghost use Rattle.nf_forms.specs.Form.{chain, tasks};
 ghost use Rattle.nf_forms.specs.View.{view_plan};
-ghost use Rattle.nf_core.specs.Machine.{starts as starts_of};
+ghost use Rattle.nf_chain.specs.Machine.{starts as starts_of};
 ghost use Rattle.nf_run.specs.Run.{AreBooked, fault_of_chain, IsFaultBy, IsHistoryOf, NoneFell, OneRose, OnLane, RunGives};
 
 use crate::rules::{ClosureRules, SpecRules};
 use nf_builtins::Natives;
-use nf_core::{ChainFault, Event, Stop, TasksEnd, serial};
+use nf_chain::{ChainFault, Event, Stop, TasksEnd, serial};
 use nf_eval::Closure;
 use nf_forms::Plan;
 use nf_job::TaskFault;
@@ -98,6 +98,7 @@ fn run_chain<N: Natives, L: Lane>(
         history: Vec::new(alloc),
         kept: Kept {
             dones: Vec::new(alloc),
+            seens: Vec::new(alloc),
         },
         outcome: chain_outcome(alloc, items, closure, natives),
     }
@@ -114,7 +115,7 @@ fn chain_outcome<N: Natives>(
     ensures gives { RunGives (chain items.now (closing_of closure.now (N.titles natives.now) (N.answer natives.now))) [] result }
     ensures no_lane { IfErr result (λ e. OnLane e ⊥) }
 {
-    match nf_core::chain(alloc, items, &ClosureRules { closure, natives }) {
+    match nf_chain::chain(alloc, items, &ClosureRules { closure, natives }) {
         Ok(images) => Ok(images),
         Err(fault) => Err(item_fault(fault)),
     }

@@ -3,10 +3,10 @@
 ghost use Rattle.std.specs.Prelude.{◌≤◌, [], ◌∷◌, Ok, Some};
 ghost use Rattle.nf_value.specs.Plain.{null};
 ghost use Rattle.nf_job.specs.declared.emitted.Outputs.TheVariants.{Emits};
-ghost use Rattle.nf_core.specs.Rules.{rules_by};
+ghost use Rattle.nf_chain.specs.Rules.{rules_by};
 
 use crate::makers::job_parts;
-use nf_core::{Stop, TaskRules, TasksEnd, serial};
+use nf_chain::{Stop, TaskRules, TasksEnd, serial};
 use nf_job::{Emitted, Job, JobParts, Outputs, Report, TaskRefusal, make_job};
 use nf_lane::{Lane, Table, TableLane};
 use nf_value::{Mem, Vals, Value};

@@ -1,5 +1,5 @@
 use Rattle.std.proofs.Common.{◌≡◌, ◌+◌, ◌≤◌, drop}
-use Rattle.nf_core.specs.Machine.{starts}
+use Rattle.nf_chain.specs.Machine.{starts}
 use Rattle.nf_run.proofs.runs.starts.Given as goal
 
 abbrev pub invariant-loop-event : goal.invariant-loop-event

@@ -1,0 +1,8 @@
+use Rattle.std.proofs.Common.{◌≡◌, ◌++◌}
+use Rattle.std.specs.List.{filter_map}
+use Rattle.nf_host.specs.MemFiles.{item_in}
+use Rattle.nf_host.proofs.mem_files.items_in.Given as goal
+
+abbrev pub invariant-loop-path : goal.invariant-loop-path
+invariant-loop-path l =
+    l.items.items ++ filter_map (item_in l.dir) l.path-iterator ≡ filter_map (item_in l.dir) l.files.entries

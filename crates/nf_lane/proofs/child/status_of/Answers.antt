@@ -1,9 +1,0 @@
-use Rattle.std.proofs.Common.{◌≡◌, sym, subst, rules, w32, to_z, of_z}
-use Rattle.nf_lane.specs.Child.{IsStatus, exit_number}
-use Rattle.nf_lane.proofs.Status.{exit_number_is_status}
-use Rattle.nf_lane.proofs.child.status_of.Goals as goal
-
-pub returns-clause-range : goal.returns-clause-range
-returns-clause-range c =
-    let is : to_z w32 (of_z w32 c.unwrap_or.result) ≡ exit_number c.args.status = search rules in
-    subst IsStatus (sym is) (exit_number_is_status c.args.status)
