@@ -1,9 +1,9 @@
 -- The text of a job determines its task and attempt.
-use Rattle.std.proofs.Common.{◌≡◌, ℕ, ◌<◌, ◌^◌, pos, List, [], ◌∷◌, ◌++◌, length, refl, ap, sym, subst, ◌∙◌, arith, append_assoc, append-nil, codes}
+use Rattle.std.proofs.Common.{◌≡◌, ℕ, ◌<◌, ◌^◌, List, [], ◌∷◌, ◌++◌, refl, ap, sym, subst, ◌∙◌, arith, append_assoc, append-nil, codes}
 use Rattle.std.specs.Fmt.{decimal}
 use Rattle.std.proofs.lemmas.Fmt.{decimal_injective}
 use Rattle.std.proofs.lemmas.List.{append_cancel_left, append_cancel_right}
-use Rattle.nf_value.specs.Plain.{Plain, text, int, truth, list, plains_of}
+use Rattle.nf_value.specs.Plain.{Plain, truth, list, plains_of}
 use Rattle.nf_value.specs.Code.{code, text_code, int_code, head_code}
 use Rattle.nf_job.specs.declared.parts.JobParts.{JobParts}
 use Rattle.nf_job.specs.JobText.{job_text, nine_items, five_items, stdin_plain, files_plain, texts_plain, inputs_text}

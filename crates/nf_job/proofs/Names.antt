@@ -1,5 +1,5 @@
 -- The pieces of a folder's name.
-use Rattle.std.proofs.Common.{◌≡◌, ℕ, List, [], ◌∷◌, ◌++◌, length, take, drop, Result, Ok, Err, ◌≤◌, ◌==◌, true, Some, eq-eqb, ap, sym, append_assoc, arith, length-take, length-drop}
+use Rattle.std.proofs.Common.{◌≡◌, ℕ, List, [], ◌∷◌, ◌++◌, length, take, drop, Result, Ok, Err, ◌==◌, true, Some, eq-eqb, ap, sym, append_assoc}
 use Rattle.std.specs.Result.{OnOk, IsOk}
 use Rattle.std.proofs.lemmas.List.{take_rest}
 use Rattle.hex.specs.Hex.{encode_lower}

@@ -114,7 +114,7 @@ impl Job {
     }
 }
 
-/// The job of these parts. The attempt is from 1 to 101.
+/// The job of these parts. The attempt is from 1 to 101. The sizes of the parts fit 64 bits, as the laws on jobs require.
 ///
 /// # Errors
 ///
@@ -122,7 +122,8 @@ impl Job {
 pub fn make_job(alloc: Global, parts: JobParts) -> Result<Job, Mem>
     requires first { 1 ≤ parts.attempt }
     requires last { parts.attempt ≤ 101 }
-    ensures { IfOk result (λ j. j ≡ parts) }
+    ensures parts { IfOk result (λ j. j ≡ parts) }
+    ensures sized { OnOk result (IsSized parts) }
 {
     let old = old_job(alloc, &parts)?;
     let text = new_text(alloc, &parts)?;

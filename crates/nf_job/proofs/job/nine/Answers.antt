@@ -1,6 +1,5 @@
 use Rattle.std.proofs.Common.{ap, map}
 use Rattle.nf_value.specs.View.{plain_of}
-use Rattle.nf_value.specs.Plain.{text}
 use Rattle.nf_job.specs.JobText.{nine_items, five_items}
 use Rattle.nf_job.proofs.Pushes.{four_pushed}
 use Rattle.nf_job.proofs.job.nine.Goals as goal

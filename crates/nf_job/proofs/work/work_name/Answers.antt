@@ -1,6 +1,5 @@
-use Rattle.std.proofs.Common.{rules, arith, ◌≡◌, length, take, drop, length-take, length-drop}
+use Rattle.std.proofs.Common.{rules, arith, ◌≡◌, length}
 use Rattle.std.proofs.lemmas.Grind.{common_steps}
-use Rattle.hex.specs.Hex.{encode_lower}
 use Rattle.nf_job.proofs.Names.{when_ok, named}
 use Rattle.nf_job.proofs.work.work_name.Goals as goal
 
