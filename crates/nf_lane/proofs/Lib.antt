@@ -1,4 +1,5 @@
 pub mod Entries
+pub mod Growing
 pub mod Lacking
 pub mod Reading
 pub mod Steps

@@ -1,7 +1,7 @@
 -- File stores, by their digests, and what a look for the files of a report says of one.
-use Rattle.std.specs.Prelude.{ℕ, List, [], ◌∷◌, Bool, not, ◌&&◌, IsTrue, bytes_eq, None, Some}
+use Rattle.std.specs.Prelude.{ℕ, List, [], ◌∷◌, map, Bool, not, ◌&&◌, IsTrue, bytes_eq, None, Some}
 use Rattle.std.specs.declared.option.Option.{Option}
-use Rattle.std.specs.List.{list_any, list_all, find}
+use Rattle.std.specs.List.{list_any, list_all, find, flat_map}
 use Rattle.nf_value.specs.declared.file.Digest.{Digest}
 use Rattle.nf_value.specs.declared.file.FileRef.{FileRef}
 use Rattle.nf_lane.specs.declared.lane.Look.{Look}
@@ -45,6 +45,14 @@ OnGone P (Gone name) = P name
 -- the store of these digests
 abbrev pub holds : List Digest → Store
 holds digests d = list_any (λ s. bytes_eq s.0 d) digests
+
+-- whether the second digest isn't the first
+abbrev pub is_other : Digest → Digest → Bool
+is_other d s = not (bytes_eq s.0 d.0)
+
+-- the digests of the files of a report
+abbrev pub digests_in : List (List FileRef) → List Digest
+digests_in found = flat_map (map (λ f. f.digest)) found
 
 -- the first of two, if there is one
 abbrev pub first_of : Option FileRef → Option FileRef → Option FileRef

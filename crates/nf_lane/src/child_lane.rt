@@ -56,7 +56,7 @@ impl<R: Processes> ChildLane<R> {
 
 impl<R: Processes> Lane for ChildLane<R> {
     ghost use Rattle.nf_lane.specs.ChildLane.{runs_of, faults_of};
-    ghost use Rattle.nf_lane.specs.Done.{IsGenuine, text_of, report_of_done, number_of};
+    ghost use Rattle.nf_lane.specs.Done.{IsGenuine, text_of, report_of_done};
 
     type Done = Done;
 
@@ -76,7 +76,6 @@ impl<R: Processes> Lane for ChildLane<R> {
         ensures later { faults_of self.old ≤ faults_of self.new }
         ensures cause { OnFailed result (Rose (faults_of self.old) (faults_of self.new)) }
         ensures genuine { IfOk result IsGenuine }
-        ensures numbered { IfOk result (λ d. number_of d ≡ runs_of self.new) }
         ensures of_the_job { IfOk result (λ d. text_of d ≡ job_text job.now) }
 
         // A run that gives a report counts no fault, and the report is one that a child can have.
@@ -86,7 +85,7 @@ impl<R: Processes> Lane for ChildLane<R> {
         self.runs += 1;
         let parts = job.parts();
         match run_script(&self.rt, alloc, parts.script.as_str(), parts.wants_stdout) {
-            Ok(report) => Ok(Done::of(job, report, self.runs)?),
+            Ok(report) => Ok(Done::of(job, report)?),
             Err(error) if error.kind() == ErrorKind::OutOfMemory => Err(LaneRefusal::Mem),
             Err(_) => Err(self.fail()),
         }

@@ -13,33 +13,30 @@ pub struct Done {
     text: Txt,
     key: Digest,
     report: Report,
-    number: u64,
     ghost keyed: { key.0 ≡ sha256 text },
 }
 
 impl Done {
     ghost use Rattle.std.specs.Prelude.{◌≡◌, IfOk};
     ghost use Rattle.nf_job.specs.JobText.{job_text};
-    ghost use Rattle.nf_lane.specs.Done.{text_of, report_of_done, number_of};
+    ghost use Rattle.nf_lane.specs.Done.{text_of, report_of_done};
 
-    // A job whose run with this number gave this report.
-    pub(crate) fn of(job: &Job, report: Report, number: u64) -> Result<Done, Mem>
+    // A job whose run gave this report.
+    pub(crate) fn of(job: &Job, report: Report) -> Result<Done, Mem>
         ensures text { IfOk result (λ d. text_of d ≡ job_text job.now) }
         ensures report { IfOk result (λ d. report_of_done d ≡ report) }
-        ensures number { IfOk result (λ d. number_of d ≡ number) }
     {
         let text = job.text().copy()?;
         Ok(Done {
             text,
             key: *job.key(),
             report,
-            number,
         })
     }
 }
 
 impl Finished for Done {
-    ghost use Rattle.nf_lane.specs.Done.{IsGenuine, text_of, report_of_done, number_of};
+    ghost use Rattle.nf_lane.specs.Done.{IsGenuine, text_of, report_of_done};
 
     ghost genuine = { IsGenuine };
 
@@ -47,17 +44,11 @@ impl Finished for Done {
 
     ghost told = { report_of_done };
 
-    ghost number = { number_of };
-
     fn key(&self) -> &Digest {
         &self.key
     }
 
     fn report(&self) -> &Report {
         &self.report
-    }
-
-    fn number(&self) -> u64 {
-        self.number
     }
 }

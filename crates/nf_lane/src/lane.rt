@@ -27,9 +27,6 @@ pub trait Finished {
     /// The job's report.
     ghost told: { Self → Report };
 
-    /// Which run of its lane gave it, counted from 1.
-    ghost number: { Self → ℕ };
-
     /// The key of the job. Takes no memory.
     fn key(&self) -> &Digest
         ensures { result.now.0 ≡ sha256 (job self.now) };
@@ -37,10 +34,6 @@ pub trait Finished {
     /// The job's report: how it ended. Takes no memory.
     fn report(&self) -> &Report
         ensures { result.now ≡ told self.now };
-
-    /// Which run of its lane gave it, counted from 1.
-    fn number(&self) -> u64
-        ensures { result ≡ number self.now };
 }
 
 /// A report whose files a lane found (own). It can't be cloned, so each value stands for one look.
@@ -104,9 +97,8 @@ pub trait Lane {
         ensures same { world self.new ≡ world self.old }
         ensures grows { Both (store self.old) (store self.new) Grows }
 
-        // The answer is of this run and of this job, and its report is the world's.
+        // The answer is of this job, and its report is the world's.
         ensures genuine { IfOk result Self.Done.genuine }
-        ensures numbered { IfOk result (λ d. Self.Done.number d ≡ runs self.new) }
         ensures of_the_job { IfOk result (λ d. Self.Done.job d ≡ job_text job.now) }
         ensures told { IfSome (world self.old) (λ w. IfOk result (λ d. Self.Done.told d ≡ report_of w (job_text job.now))) };
 

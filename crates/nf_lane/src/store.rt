@@ -1,14 +1,15 @@
-//! The files of a report that a store of digests lacks.
+//! The digests of the files of a report, and the files that a store of digests lacks.
 
-ghost use Rattle.std.specs.Prelude.{◌≡◌, ◌≤◌, IfOk, IsTrue, not, option_copied};
+ghost use Rattle.std.specs.Prelude.{◌≡◌, ◌≤◌, ◌++◌, IfOk, IsTrue, OnOk, map, not, option_copied};
 ghost use Rattle.std.specs.List.{find};
 ghost use Rattle.nf_lane.specs.Seen.{IsSeen, report_of_seen};
-ghost use Rattle.nf_lane.specs.Store.{IsLook, OnThere, OnGone, first_lacking, has_name, holds};
+ghost use Rattle.nf_lane.specs.Store.{IsLook, OnThere, OnGone, digests_in, first_lacking, has_name, holds};
 
 use crate::lane::Look;
 use crate::seen::Seen;
 use nf_job::{FileRefs, Report};
 use nf_value::{Digest, FileRef, Mem};
+use std::alloc::Global;
 
 /// What a look at a report comes to over a store of these digests. It is the look of this number, from 1.
 pub(crate) fn look_in(stored: &[Digest], report: &Report, number: u64) -> Result<Look<Seen>, Mem>
@@ -24,6 +25,26 @@ pub(crate) fn look_in(stored: &[Digest], report: &Report, number: u64) -> Result
         }),
         None => Ok(Look::There(Seen::of(report, number)?)),
     }
+}
+
+/// The digests of the files of a report.
+pub(crate) fn digests_in(alloc: Global, found: &[FileRefs]) -> Result<Vec<Digest>, Mem>
+    ensures { IfOk result (λ v. v.items ≡ digests_in found.now) }
+{
+    let mut digests = Vec::new(alloc);
+    for files in found {
+        push_digests(&mut digests, files.items())?;
+    }
+    Ok(digests)
+}
+
+fn push_digests(digests: &mut Vec<Digest>, files: &[FileRef]) -> Result<(), Mem>
+    ensures { OnOk result (digests.new.items ≡ digests.old.items ++ map (λ f. f.digest) files.now) }
+{
+    for file in files {
+        digests.push(file.digest)?;
+    }
+    Ok(())
 }
 
 /// The first file of a report whose digest isn't among these.
