@@ -1,20 +1,20 @@
 //! The job of a task's attempt.
 
-ghost use Rattle.std.specs.Prelude.{◌≡◌, ◌≤◌, OnOk};
+ghost use Rattle.std.specs.Prelude.{◌≡◌, ◌≤◌, IfOk, OnOk};
 ghost use Rattle.nf_value.specs.Plain.{list, plains_of};
-ghost use Rattle.nf_job.specs.Sizes.{IsFit};
+ghost use Rattle.nf_job.specs.Sizes.{IsFit, IsSized};
 ghost use Rattle.nf_process.specs.Parts.{parts_of, no_item};
 ghost use Rattle.nf_process.specs.Answers.{Answers};
 
 use crate::process::ProcessSpec;
 use crate::script::script_text;
-use nf_codec::encode;
 use nf_job::{FileRefs, Job, JobParts, TaskFault, TaskRefusal, Txts, inputs_code, make_job};
-use nf_value::{EvalFault, EvalKind, Mem, Vals, Value};
+use nf_value::{EvalFault, EvalKind, Vals};
 use std::alloc::Global;
 
 /// The parts of the job of a task's attempt. `n` is how many tasks with equal inputs come before it, from 0; `attempt` counts
-/// from 1. The process's input is the first item of `inputs`; no input reads the others (own).
+/// from 1. The process's input is the first item of `inputs`; no input reads the others (own). The sizes of the parts and of the
+/// inputs fit 64 bits, as the laws on jobs require.
 ///
 /// # Errors
 ///
@@ -26,7 +26,9 @@ pub fn parts(
     n: u32,
     attempt: u32,
 ) -> Result<JobParts, TaskRefusal>
-    ensures { Answers (parts_of spec.now inputs.now n attempt) result }
+    ensures answer { Answers (parts_of spec.now inputs.now n attempt) result }
+    ensures sized { IfOk result IsSized }
+    ensures fit { OnOk result (IsFit (list (plains_of inputs.now))) }
 {
     let Some(input) = inputs.items().first() else {
         return Err(TaskRefusal::Fault(no_item(spec)));
@@ -57,7 +59,7 @@ pub(crate) fn no_item(spec: &ProcessSpec) -> TaskFault
     })
 }
 
-/// The job of a task's attempt, made of its [`parts`]. The attempt is from 1 to 101.
+/// The job of a task's attempt, made of its [`parts`]. The attempt is from 1 to 101. The sizes fit as for [`parts`].
 ///
 /// # Errors
 ///
@@ -71,21 +73,10 @@ pub fn job(
 ) -> Result<Job, TaskRefusal>
     requires first { 1 ≤ attempt }
     requires last { attempt ≤ 101 }
-    ensures { Answers (parts_of spec.now inputs.now n attempt) result }
+    ensures answer { Answers (parts_of spec.now inputs.now n attempt) result }
+    ensures sized { IfOk result IsSized }
+    ensures fit { OnOk result (IsFit (list (plains_of inputs.now))) }
 {
     let parts = parts(alloc, spec, inputs, n, attempt)?;
     Ok(make_job(alloc, parts)?)
-}
-
-/// All numbers, lengths and counts in these inputs fit 64 bits, as the laws on jobs require. (Called for its contract.)
-///
-/// # Errors
-///
-/// `Mem` if there is no memory for the code of the inputs.
-pub fn tell_fit(alloc: Global, inputs: &Vals) -> Result<(), Mem>
-    ensures { OnOk result (IsFit (list (plains_of inputs.now))) }
-{
-    let list = Value::List(inputs.copy()?);
-    encode(alloc, &list)?;
-    Ok(())
 }

@@ -8,7 +8,7 @@ mod process;
 mod script;
 mod template;
 
-pub use jobs::{job, parts, tell_fit};
+pub use jobs::{job, parts};
 pub use outputs::emit_of;
 pub use process::ProcessSpec;
 pub use script::script_text;
