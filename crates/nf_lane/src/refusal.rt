@@ -1,8 +1,10 @@
 //! Why a run of a job gave no report.
 
 ghost use Rattle.std.specs.Prelude.{◌≡◌};
+ghost use Rattle.nf_lane.specs.Faults.{refusal_of};
 ghost use Rattle.nf_lane.specs.declared.refusal.LaneRefusal.TheVariants as refusal;
 
+use nf_host::HostRefusal;
 use nf_value::Mem;
 use std::alloc::{AllocError, AllocFailed};
 use thiserror::Error;
@@ -23,6 +25,17 @@ impl From<Mem> for LaneRefusal {
 
     fn from(_error: Mem) -> LaneRefusal {
         LaneRefusal::Mem
+    }
+}
+
+impl From<HostRefusal> for LaneRefusal {
+    ghost from_gives = { λ e r. r ≡ refusal_of e };
+
+    fn from(error: HostRefusal) -> LaneRefusal {
+        match error {
+            HostRefusal::Failed => LaneRefusal::Failed,
+            HostRefusal::Mem => LaneRefusal::Mem,
+        }
     }
 }
 
