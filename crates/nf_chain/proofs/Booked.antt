@@ -1,5 +1,5 @@
 -- What the events of one task add to the books of its lane.
-use Rattle.std.proofs.Common.{◌≡◌, ℕ, suc, ◌+◌, ◌≤◌, true, List, [], ◌∷◌, ◌++◌, refl, ap, sym, subst, ◌∙◌, arith}
+use Rattle.std.proofs.Common.{◌≡◌, ℕ, suc, ◌+◌, true, List, [], ◌∷◌, ◌++◌, refl, ap, sym, subst, ◌∙◌, arith}
 use Rattle.std.specs.Prelude.{IfSome}
 use Rattle.std.specs.List.{AllByRecursion}
 use Rattle.std.specs.declared.option.Option.{Option}
@@ -15,7 +15,7 @@ use Rattle.nf_chain.specs.Rules.{Outs, ProcessRules}
 use Rattle.nf_chain.specs.Machine.{Taken, State, opening, replay, step, starts, finishes, finish_at}
 use Rattle.nf_lane.specs.World.{World}
 use Rattle.nf_chain.specs.Serial.{IsFlying}
-use Rattle.nf_chain.specs.Going.{IsDone, Matches, RisesWithin, IsOfWorld, IsBooked}
+use Rattle.nf_chain.specs.Going.{IsDone, Matches, IsOfWorld, IsBooked}
 use Rattle.nf_chain.proofs.Serving.{taking, starting, finishing, aborting, all_push, finish_is_of}
 
 pub finishes_push : (R : ProcessRules) (s : State) (h : List Event) (x : Event) → finishes R s (h ++ x ∷ []) ≡ finishes R s h ++ finish_at R (replay s h) x
@@ -33,14 +33,6 @@ starts_push (e.Abort ticket cause ∷ h) x = starts_push h x
 quiet : (R : ProcessRules) (s : State) (h : List Event) (x : Event) → finish_at R (replay s h) x ≡ [] → finishes R s (h ++ x ∷ []) ≡ finishes R s h
 quiet R s h x q = finishes_push R s h x ∙ ap (λ l. finishes R s h ++ l) q ∙ append-nil (finishes R s h)
 
-rises_further : {D : Type 0} (number : D → ℕ) (low : ℕ) (ds : List D) (a b : ℕ) → a ≤ b → RisesWithin number low ds a → RisesWithin number low ds b
-rises_further number low [] a b l h = omega (arith, l, h)
-rises_further number low (d ∷ ds) a b l h = (h.0, rises_further number (number d) ds a b l h.1)
-
-rises_with : {D : Type 0} (number : D → ℕ) (low : ℕ) (ds : List D) (d : D) (a b : ℕ) → b ≡ a + 1 → number d ≡ b → RisesWithin number low ds a → RisesWithin number low (ds ++ d ∷ []) b
-rises_with number low [] d a b l n h = (omega (arith, l, n, h), omega (arith, n))
-rises_with number low (c ∷ cs) d a b l n h = (h.0, rises_with number (number c) cs d a b l n h.1)
-
 matches_with : {D X : Type 0} (P : D → X → Type 0) (ds : List D) (xs : List X) (d : D) (x : X) → Matches P ds xs → P d x → Matches P (ds ++ d ∷ []) (xs ++ x ∷ [])
 matches_with P [] [] d x m p = (p, tt)
 matches_with P [] (y ∷ ys) d x m p = absurd m
@@ -51,10 +43,10 @@ world_with : {X : Type 0} (P : World → X → Type 0) (w : Option World) (xs : 
 world_with P None xs x h p = h
 world_with P (Some v) xs x h p = all_push (P v) xs x h p
 
-module _ {D : Type 0} (Genuine : D → Type 0) (job_of : D → List ℕ) (report_by : D → Report) (number : D → ℕ) (R : ProcessRules) (items : List Plain) where
+module _ {D : Type 0} (Genuine : D → Type 0) (job_of : D → List ℕ) (report_by : D → Report) (R : ProcessRules) (items : List Plain) where
   -- an event that starts so many tasks and finishes none
   books_on : (h : List Event) (kept : List D) (w : Option World) (first now later : ℕ) (x : Event) → finish_at R (replay (opening items) h) x ≡ [] → later ≡ now + starts (x ∷ [])
-      → IsBooked Genuine job_of report_by number R items h kept w first now → IsBooked Genuine job_of report_by number R items (h ++ x ∷ []) kept w first later
+      → IsBooked Genuine job_of report_by R items h kept w first now → IsBooked Genuine job_of report_by R items (h ++ x ∷ []) kept w first later
   books_on h kept w first now later x q l b =
       let same : finishes R (opening items) h ≡ finishes R (opening items) (h ++ x ∷ []) = sym (quiet R (opening items) h x q) in
       let begun : starts (h ++ x ∷ []) ≡ starts h + starts (x ∷ []) = starts_push h x in
@@ -62,30 +54,29 @@ module _ {D : Type 0} (Genuine : D → Type 0) (job_of : D → List ℕ) (report
       record {
         runs = omega (arith, l, begun, runs);
         dones = subst (Matches (IsDone Genuine job_of report_by) kept) same b.dones;
-        numbers = rises_further number first kept now later (omega (arith, l)) b.numbers;
         of_world = subst (λ xs. IfSome w (λ v. AllByRecursion (IsOfWorld v) xs)) same b.of_world;
       }
 
   pub books_refused : (h : List Event) (kept : List D) (w : Option World) (first now : ℕ) (k n : ℕ) (y : Stop)
-      → IsBooked Genuine job_of report_by number R items h kept w first now → IsBooked Genuine job_of report_by number R items (h ++ taking k n ∷ [] ++ aborting k y ∷ []) kept w first now
+      → IsBooked Genuine job_of report_by R items h kept w first now → IsBooked Genuine job_of report_by R items (h ++ taking k n ∷ [] ++ aborting k y ∷ []) kept w first now
   books_refused h kept w first now k n y b =
       books_on (h ++ taking k n ∷ []) kept w first now now (aborting k y) refl (omega arith) (books_on h kept w first now now (taking k n) refl (omega arith) b)
 
   books_started : (h : List Event) (kept : List D) (w : Option World) (first now : ℕ) (k n : ℕ) (c : Cause)
-      → IsBooked Genuine job_of report_by number R items h kept w first now → IsBooked Genuine job_of report_by number R items (h ++ taking k n ∷ [] ++ starting k c ∷ []) kept w first (now + 1)
+      → IsBooked Genuine job_of report_by R items h kept w first now → IsBooked Genuine job_of report_by R items (h ++ taking k n ∷ [] ++ starting k c ∷ []) kept w first (now + 1)
   books_started h kept w first now k n c b =
       books_on (h ++ taking k n ∷ []) kept w first now (now + 1) (starting k c) refl refl (books_on h kept w first now now (taking k n) refl (omega arith) b)
 
   pub books_lost : (h : List Event) (kept : List D) (w : Option World) (first now later : ℕ) (k n : ℕ) (c : Cause) (y : Stop) → later ≡ now + 1
-      → IsBooked Genuine job_of report_by number R items h kept w first now → IsBooked Genuine job_of report_by number R items (h ++ taking k n ∷ [] ++ starting k c ∷ [] ++ aborting k y ∷ []) kept w first later
+      → IsBooked Genuine job_of report_by R items h kept w first now → IsBooked Genuine job_of report_by R items (h ++ taking k n ∷ [] ++ starting k c ∷ [] ++ aborting k y ∷ []) kept w first later
   books_lost h kept w first now later k n c y l b =
       books_on (h ++ taking k n ∷ [] ++ starting k c ∷ []) kept w first (now + 1) later (aborting k y) refl (omega (arith, l)) (books_started h kept w first now k n c b)
 
   pub books_back : (h : List Event) (kept : List D) (w : Option World) (first now later : ℕ) (k n : ℕ) (c : Cause) (t : Taken) (r : Report) (outs : Outs) (d : D)
       → later ≡ now + 1 → IsFlying R items k t true (replay (opening items) (h ++ taking k n ∷ [] ++ starting k c ∷ []))
-      → IsDone Genuine job_of report_by d (R.job t.inputs t.n 1, r) → number d ≡ later → IfSome w (λ v. IsOfWorld v (R.job t.inputs t.n 1, r))
-      → IsBooked Genuine job_of report_by number R items h kept w first now → IsBooked Genuine job_of report_by number R items (h ++ taking k n ∷ [] ++ starting k c ∷ [] ++ finishing k r outs ∷ []) (kept ++ d ∷ []) w first later
-  books_back h kept w first now later k n c t r outs d l f done numbered of b =
+      → IsDone Genuine job_of report_by d (R.job t.inputs t.n 1, r) → IfSome w (λ v. IsOfWorld v (R.job t.inputs t.n 1, r))
+      → IsBooked Genuine job_of report_by R items h kept w first now → IsBooked Genuine job_of report_by R items (h ++ taking k n ∷ [] ++ starting k c ∷ [] ++ finishing k r outs ∷ []) (kept ++ d ∷ []) w first later
+  books_back h kept w first now later k n c t r outs d l f done of b =
       let g : List Event = h ++ taking k n ∷ [] ++ starting k c ∷ [] in
       let before = books_started h kept w first now k n c b in
       let x : Event = finishing k r outs in
@@ -96,6 +87,13 @@ module _ {D : Type 0} (Genuine : D → Type 0) (job_of : D → List ℕ) (report
       record {
         runs = omega (arith, l, begun, runs);
         dones = subst (Matches (IsDone Genuine job_of report_by) (kept ++ d ∷ [])) (sym more) (matches_with (IsDone Genuine job_of report_by) kept (finishes R (opening items) g) d (R.job t.inputs t.n 1, r) before.dones done);
-        numbers = rises_with number first kept d now later l numbered b.numbers;
         of_world = subst (λ xs. IfSome w (λ v. AllByRecursion (IsOfWorld v) xs)) (sym more) (world_with IsOfWorld w (finishes R (opening items) g) (R.job t.inputs t.n 1, r) before.of_world of);
       }
+
+  -- what a task does to the books, on a lane that keeps its world
+  pub books_after : (h h' : List Event) (kept kept' : List D) (v w w' : Option World) (first now later : ℕ) → v ≡ w → w' ≡ v
+      → ((low : ℕ) → IsBooked Genuine job_of report_by R items h kept v low now → IsBooked Genuine job_of report_by R items h' kept' w' low later)
+      → IsBooked Genuine job_of report_by R items h kept w first now → IsBooked Genuine job_of report_by R items h' kept' w first later
+  books_after h h' kept kept' v w w' first now later same stays step b =
+      subst (λ u. IsBooked Genuine job_of report_by R items h' kept' u first later) (stays ∙ same)
+      (step first (subst (λ u. IsBooked Genuine job_of report_by R items h kept u first now) (sym same) b))

@@ -132,23 +132,23 @@ settled_at outs inputs items k n old old' new o o' i a b h =
 
 -- ---- the books
 
-module _ {D : Type 0} (Genuine : D → Type 0) (job_of : D → List ℕ) (report_by : D → Report) (number : D → ℕ) (R : ProcessRules) (items : List Plain) where
+module _ {D : Type 0} (Genuine : D → Type 0) (job_of : D → List ℕ) (report_by : D → Report) (R : ProcessRules) (items : List Plain) where
   pub refused_books : (k n t : ℕ) (h h1 h2 : List Event) (kept kept' : List D) (w : Option World) (first now : ℕ) (y : Stop)
       → kept' ≡ kept → Took k n h h1 → h2 ≡ h1 ++ e.Abort t (Some y) ∷ [] → t ≡ suc k
-      → IsBooked Genuine job_of report_by number R items h kept w first now → IsBooked Genuine job_of report_by number R items h2 kept' w first now
+      → IsBooked Genuine job_of report_by R items h kept w first now → IsBooked Genuine job_of report_by R items h2 kept' w first now
   refused_books k n t h h1 h2 kept kept' w first now y a took b ticket old =
-      subst (λ d. IsBooked Genuine job_of report_by number R items d kept' w first now) (sym (took_aborted k n t h h1 h2 y took b ticket))
-      (subst (λ ds. IsBooked Genuine job_of report_by number R items (h ++ taking k n ∷ [] ++ aborting k y ∷ []) ds w first now) (sym a)
-      (books_refused Genuine job_of report_by number R items h kept w first now k n y old))
+      subst (λ d. IsBooked Genuine job_of report_by R items d kept' w first now) (sym (took_aborted k n t h h1 h2 y took b ticket))
+      (subst (λ ds. IsBooked Genuine job_of report_by R items (h ++ taking k n ∷ [] ++ aborting k y ∷ []) ds w first now) (sym a)
+      (books_refused Genuine job_of report_by R items h kept w first now k n y old))
 
   pub lost_books : (k n t : ℕ) (h h2 h3 : List Event) (kept kept' : List D) (w w' : Option World) (first now later : ℕ) (y : Stop)
       → kept' ≡ kept → w' ≡ w → later ≡ now + 1 → Began k n h h2 → h3 ≡ h2 ++ e.Abort t (Some y) ∷ [] → t ≡ suc k
-      → IsBooked Genuine job_of report_by number R items h kept w first now → IsBooked Genuine job_of report_by number R items h3 kept' w' first later
+      → IsBooked Genuine job_of report_by R items h kept w first now → IsBooked Genuine job_of report_by R items h3 kept' w' first later
   lost_books k n t h h2 h3 kept kept' w w' first now later y a v l began b ticket old =
-      subst (λ d. IsBooked Genuine job_of report_by number R items d kept' w' first later) (sym (began_aborted k n t h h2 h3 y began b ticket))
-      (subst (λ u. IsBooked Genuine job_of report_by number R items (h ++ taking k n ∷ [] ++ starting k NotAsked ∷ [] ++ aborting k y ∷ []) kept' u first later) (sym v)
-      (subst (λ ds. IsBooked Genuine job_of report_by number R items (h ++ taking k n ∷ [] ++ starting k NotAsked ∷ [] ++ aborting k y ∷ []) ds w first later) (sym a)
-      (books_lost Genuine job_of report_by number R items h kept w first now later k n NotAsked y l old)))
+      subst (λ d. IsBooked Genuine job_of report_by R items d kept' w' first later) (sym (began_aborted k n t h h2 h3 y began b ticket))
+      (subst (λ u. IsBooked Genuine job_of report_by R items (h ++ taking k n ∷ [] ++ starting k NotAsked ∷ [] ++ aborting k y ∷ []) kept' u first later) (sym v)
+      (subst (λ ds. IsBooked Genuine job_of report_by R items (h ++ taking k n ∷ [] ++ starting k NotAsked ∷ [] ++ aborting k y ∷ []) ds w first later) (sym a)
+      (books_lost Genuine job_of report_by R items h kept w first now later k n NotAsked y l old)))
 
   of_world_by : (w : Option World) (t : Taken) (r : Report) (p : JobParts) → R.job t.inputs t.n 1 ≡ Ok p → IfSome w (λ v. r ≡ report_of v (job_text p)) → IfSome w (λ v. IsOfWorld v (R.job t.inputs t.n 1, r))
   of_world_by None t r p j i = i
@@ -156,14 +156,14 @@ module _ {D : Type 0} (Genuine : D → Type 0) (job_of : D → List ℕ) (report
 
   pub back_books : (k n t : ℕ) (h h2 h3 : List Event) (out : List Plain) (kept kept0 kept' : List D) (w w' : Option World) (first now later : ℕ) (r : Report) (outs : Outs) (p : JobParts) (d : D)
       → k < length items → IsGoing R items k h out → n ≡ count_equal (item_in items k) (take k items) → CameBack R (take_in items k n) r outs p
-      → Genuine d → job_of d ≡ job_text p → report_by d ≡ r → number d ≡ later → IfSome w (λ v. r ≡ report_of v (job_text p))
+      → Genuine d → job_of d ≡ job_text p → report_by d ≡ r → IfSome w (λ v. r ≡ report_of v (job_text p))
       → kept0 ≡ kept → kept' ≡ kept0 ++ d ∷ [] → w' ≡ w → later ≡ now + 1 → Began k n h h2 → h3 ≡ h2 ++ e.Finish t r outs ∷ [] → t ≡ suc k
-      → IsBooked Genuine job_of report_by number R items h kept w first now → IsBooked Genuine job_of report_by number R items h3 kept' w' first later
-  back_books k n t h h2 h3 out kept kept0 kept' w w' first now later r outs p d l g c back genuine job told num world a0 a v more began b ticket old =
+      → IsBooked Genuine job_of report_by R items h kept w first now → IsBooked Genuine job_of report_by R items h3 kept' w' first later
+  back_books k n t h h2 h3 out kept kept0 kept' w w' first now later r outs p d l g c back genuine job told world a0 a v more began b ticket old =
       let canon : List Event = h ++ taking k n ∷ [] ++ starting k NotAsked ∷ [] in
       let f : Flies R items k (take_in items k n) true canon = flies_next R items k n h out l g c in
       let done : IsDone Genuine job_of report_by d (R.job (item_in items k ∷ []) n 1, r) = record { genuine = genuine; parts = p; has_job = back.job; job = job; told = told } in
-      subst (λ z. IsBooked Genuine job_of report_by number R items z kept' w' first later) (sym (began_finished k n t h h2 h3 r outs began b ticket))
-      (subst (λ u. IsBooked Genuine job_of report_by number R items (canon ++ finishing k r outs ∷ []) kept' u first later) (sym v)
-      (subst (λ ds. IsBooked Genuine job_of report_by number R items (canon ++ finishing k r outs ∷ []) ds w first later) (sym (a ∙ ap (λ ds. ds ++ d ∷ []) a0))
-      (books_back Genuine job_of report_by number R items h kept w first now later k n NotAsked (take_in items k n) r outs d more f.flying done num (of_world_by w (take_in items k n) r p back.job world) old)))
+      subst (λ z. IsBooked Genuine job_of report_by R items z kept' w' first later) (sym (began_finished k n t h h2 h3 r outs began b ticket))
+      (subst (λ u. IsBooked Genuine job_of report_by R items (canon ++ finishing k r outs ∷ []) kept' u first later) (sym v)
+      (subst (λ ds. IsBooked Genuine job_of report_by R items (canon ++ finishing k r outs ∷ []) ds w first later) (sym (a ∙ ap (λ ds. ds ++ d ∷ []) a0))
+      (books_back Genuine job_of report_by R items h kept w first now later k n NotAsked (take_in items k n) r outs d more f.flying done (of_world_by w (take_in items k n) r p back.job world) old)))

@@ -1,5 +1,5 @@
 -- The invariant of a run of tasks, what it owes to its lane, and how a task stops it.
-use Rattle.std.specs.Prelude.{ℕ, ◌≡◌, ◌⊎◌, ◌+◌, ◌<◌, ◌≤◌, List, [], ◌∷◌, ◌++◌, Result, Ok, Err, IfSome}
+use Rattle.std.specs.Prelude.{ℕ, ◌≡◌, ◌⊎◌, ◌+◌, List, [], ◌∷◌, ◌++◌, Result, Ok, Err, IfSome}
 use Rattle.std.specs.List.{AllByRecursion}
 use Rattle.std.specs.declared.option.Option.{Option}
 use Rattle.std.specs.declared.option.Option.TheVariants.{None, Some}
@@ -36,22 +36,16 @@ Matches P (d ∷ ds) (x ∷ xs) = P d x × Matches P ds xs
 Matches P [] (x ∷ xs) = ⊥
 Matches P (d ∷ ds) [] = ⊥
 
--- the numbers rise strictly, above `low` and up to `high`
-abbrev pub RisesWithin : {D : Type 0} → (D → ℕ) → ℕ → List D → ℕ → Type 0
-RisesWithin number low [] high = low ≤ high
-RisesWithin number low (d ∷ ds) high = (low < number d) × RisesWithin number (number d) ds high
-
 -- the report is the one that the world has for the job
 abbrev pub IsOfWorld : World → Result JobParts TaskFault × Report → Type 0
 IsOfWorld w x = (p : JobParts) × (x.0 ≡ Ok p) × (x.1 ≡ report_of w (job_text p))
 
 -- how a history and its Dones fit a lane that had `first` runs before, and has `now`
-pub record IsBooked {D : Type 0} (Genuine : D → Type 0) (job_of : D → List ℕ) (report_by : D → Report) (number : D → ℕ) (R : ProcessRules) (items : List Plain) (h : List Event) (kept : List D) (world : Option World) (first now : ℕ) : Type 0 where
+pub record IsBooked {D : Type 0} (Genuine : D → Type 0) (job_of : D → List ℕ) (report_by : D → Report) (R : ProcessRules) (items : List Plain) (h : List Event) (kept : List D) (world : Option World) (first now : ℕ) : Type 0 where
   -- one run for each Start
   pub runs : now ≡ first + starts h
   -- a Done of its own for each Finish
   pub dones : Matches (IsDone Genuine job_of report_by) kept (finishes R (opening items) h)
-  pub numbers : RisesWithin number first kept now
   -- if the lane reveals its world, the reports are the world's
   pub of_world : IfSome world (λ w. AllByRecursion (IsOfWorld w) (finishes R (opening items) h))
 

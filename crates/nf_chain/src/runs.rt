@@ -125,7 +125,6 @@ fn run_job<L: Lane, R: TaskRules>(
     ensures genuine { IfOk result (λ b. L.Done.genuine b.done) }
     ensures of_the_job { IfOk result (λ b. L.Done.job b.done ≡ job_text job.now) }
     ensures told { IfOk result (λ b. L.Done.told b.done ≡ b.report) }
-    ensures numbered { IfOk result (λ b. L.Done.number b.done ≡ L.runs lane.new) }
     ensures world { IfOk result (λ b. IfSome (L.world lane.old) (λ w. b.report ≡ report_of w (job_text job.now))) }
 {
     let done = match lane.run(alloc, job) {
@@ -236,8 +235,8 @@ fn task<L: Lane, R: TaskRules>(
     ensures goes { OnOk result (IsGoing (R.rules rules.now) items.now (suc place) run.new.history.items (map plain_of run.new.emitted.items)) }
     ensures halts { IfErr result (λ x. Halts (R.rules rules.now) items.now run.new.history.items x) }
     ensures booked { (first : ℕ)
-        → IsBooked L.Done.genuine L.Done.job L.Done.told L.Done.number (R.rules rules.now) items.now run.old.history.items run.old.dones.items (L.world lane.old) first (L.runs lane.old)
-        → IsBooked L.Done.genuine L.Done.job L.Done.told L.Done.number (R.rules rules.now) items.now run.new.history.items run.new.dones.items (L.world lane.new) first (L.runs lane.new) }
+        → IsBooked L.Done.genuine L.Done.job L.Done.told (R.rules rules.now) items.now run.old.history.items run.old.dones.items (L.world lane.old) first (L.runs lane.old)
+        → IsBooked L.Done.genuine L.Done.job L.Done.told (R.rules rules.now) items.now run.new.history.items run.new.dones.items (L.world lane.new) first (L.runs lane.new) }
     ensures runs { L.runs lane.new ≤ L.runs lane.old + 1 }
     ensures later { L.faults lane.old ≤ L.faults lane.new }
     ensures same { L.world lane.new ≡ L.world lane.old }
@@ -308,7 +307,7 @@ pub fn serial<L: Lane, R: TaskRules>(
     // ran out.
     ensures gives { (call : List ℕ) → RunGives (R.rules rules.now) call items.now result.history.items result.outcome }
     // Each Start is one run of the lane, and each Finish has a job of its own that was run.
-    ensures booked { IsBooked L.Done.genuine L.Done.job L.Done.told L.Done.number (R.rules rules.now) items.now result.history.items result.kept.dones.items (L.world lane.old) (L.runs lane.old) (L.runs lane.new) }
+    ensures booked { IsBooked L.Done.genuine L.Done.job L.Done.told (R.rules rules.now) items.now result.history.items result.kept.dones.items (L.world lane.old) (L.runs lane.old) (L.runs lane.new) }
 
     // If the lane stopped the run, it counted a fault.
     ensures lane_fault { IfErr result.outcome (λ x. OnOutside x (Rose (L.faults lane.old) (L.faults lane.new))) }

@@ -13,7 +13,7 @@ returns-in-Err-clause-halts g c =
 -- src/runs.rt:266:13
 pub returns-in-Err-clause-booked : goal.returns-in-Err-clause-booked
 returns-in-Err-clause-booked g c = λ first old.
-    refused_books g.L.Done.Finished.genuine g.L.Done.Finished.job g.L.Done.Finished.told g.L.Done.Finished.number (g.R.TaskRules.rules c.args.rules.now) c.args.items.now
+    refused_books g.L.Done.Finished.genuine g.L.Done.Finished.job g.L.Done.Finished.told (g.R.TaskRules.rules c.args.rules.now) c.args.items.now
     c.args.place c.number_at-n.result _ c.args.run.now.history.items _ _ c.args.run.now.dones.items _ _ first _ _ c.make_room.ensures.dones
     (took c.args.place c.number_at-n.result _ c.args.run.now.history.items _ _ c.make_room.ensures.history c.push_reserved.ensures.items (omega arith)) c.give_up.ensures.event (omega arith) old
 
@@ -29,7 +29,7 @@ returns-in-Err-run_job-clause-halts g c =
 -- src/runs.rt:273:22
 pub returns-in-Err-run_job-clause-booked : goal.returns-in-Err-run_job-clause-booked
 returns-in-Err-run_job-clause-booked g c = λ first old.
-    lost_books g.L.Done.Finished.genuine g.L.Done.Finished.job g.L.Done.Finished.told g.L.Done.Finished.number (g.R.TaskRules.rules c.args.rules.now) c.args.items.now
+    lost_books g.L.Done.Finished.genuine g.L.Done.Finished.job g.L.Done.Finished.told (g.R.TaskRules.rules c.args.rules.now) c.args.items.now
     c.args.place c.number_at-n.result _ c.args.run.now.history.items _ _ c.args.run.now.dones.items _ _ _ first _ _ _ c.make_room.ensures.dones c.run_job.ensures.same c.run_job.ensures.runs
     (began c.args.place c.number_at-n.result _ c.args.run.now.history.items _ _
     (took c.args.place c.number_at-n.result _ c.args.run.now.history.items _ _ c.make_room.ensures.history c.push_reserved.ensures.items (omega arith)) c.push_reserved-2.ensures.items (omega arith))
@@ -47,7 +47,7 @@ returns-in_default-settle-clause-halts g c =
 -- src/runs.rt:276:9
 pub returns-in_default-settle-clause-booked : goal.returns-in_default-settle-clause-booked
 returns-in_default-settle-clause-booked g c = λ first old.
-    lost_books g.L.Done.Finished.genuine g.L.Done.Finished.job g.L.Done.Finished.told g.L.Done.Finished.number (g.R.TaskRules.rules c.args.rules.now) c.args.items.now
+    lost_books g.L.Done.Finished.genuine g.L.Done.Finished.job g.L.Done.Finished.told (g.R.TaskRules.rules c.args.rules.now) c.args.items.now
     c.args.place c.number_at-n.result _ c.args.run.now.history.items _ _ c.args.run.now.dones.items _ _ _ first _ _ _ c.make_room.ensures.dones c.run_job.ensures.same c.run_job.ensures.runs
     (began c.args.place c.number_at-n.result _ c.args.run.now.history.items _ _
     (took c.args.place c.number_at-n.result _ c.args.run.now.history.items _ _ c.make_room.ensures.history c.push_reserved.ensures.items (omega arith)) c.push_reserved-2.ensures.items (omega arith))
@@ -67,11 +67,11 @@ returns-in-Some-clause-halts g c =
 -- src/runs.rt:246:1
 pub returns-in-Some-clause-booked : goal.returns-in-Some-clause-booked
 returns-in-Some-clause-booked g c = λ first old.
-    back_books g.L.Done.Finished.genuine g.L.Done.Finished.job g.L.Done.Finished.told g.L.Done.Finished.number (g.R.TaskRules.rules c.args.rules.now) c.args.items.now
+    back_books g.L.Done.Finished.genuine g.L.Done.Finished.job g.L.Done.Finished.told (g.R.TaskRules.rules c.args.rules.now) c.args.items.now
     c.args.place c.number_at-n.result _ c.args.run.now.history.items _ _ _ c.args.run.now.dones.items _ _ _ _ first _ _ _ _ _ c.in-Ok-run_job.back.done
     c.requires.inside c.requires.going c.number_at-n.ensures
     (came_back_by (g.R.TaskRules.rules c.args.rules.now) c.args.items.now c.in-Ok-inputs_at.inputs c.args.place c.number_at-n.result _ _ _ c.in-Ok-inputs_at.ensures c.in-Ok-job.ensures c.in-Ok-run_job.ensures.outs c.in-Ok-run_job.ensures.last)
-    c.in-Ok-run_job.ensures.genuine c.in-Ok-run_job.ensures.of_the_job c.in-Ok-run_job.ensures.told c.in-Ok-run_job.ensures.numbered c.in-Ok-run_job.ensures.world
+    c.in-Ok-run_job.ensures.genuine c.in-Ok-run_job.ensures.of_the_job c.in-Ok-run_job.ensures.told c.in-Ok-run_job.ensures.world
     c.make_room.ensures.dones c.push_reserved-4.ensures.items c.run_job.ensures.same c.run_job.ensures.runs
     (began c.args.place c.number_at-n.result _ c.args.run.now.history.items _ _
     (took c.args.place c.number_at-n.result _ c.args.run.now.history.items _ _ c.make_room.ensures.history c.push_reserved.ensures.items (omega arith)) c.push_reserved-2.ensures.items (omega arith))
@@ -91,11 +91,11 @@ returns-clause-goes g c =
 -- src/runs.rt:225:1
 pub returns-clause-booked : goal.returns-clause-booked
 returns-clause-booked g c = λ first old.
-    back_books g.L.Done.Finished.genuine g.L.Done.Finished.job g.L.Done.Finished.told g.L.Done.Finished.number (g.R.TaskRules.rules c.args.rules.now) c.args.items.now
+    back_books g.L.Done.Finished.genuine g.L.Done.Finished.job g.L.Done.Finished.told (g.R.TaskRules.rules c.args.rules.now) c.args.items.now
     c.args.place c.number_at-n.result _ c.args.run.now.history.items _ _ _ c.args.run.now.dones.items _ _ _ _ first _ _ _ _ _ c.in-Ok-run_job.back.done
     c.requires.inside c.requires.going c.number_at-n.ensures
     (came_back_by (g.R.TaskRules.rules c.args.rules.now) c.args.items.now c.in-Ok-inputs_at.inputs c.args.place c.number_at-n.result _ _ _ c.in-Ok-inputs_at.ensures c.in-Ok-job.ensures c.in-Ok-run_job.ensures.outs c.in-Ok-run_job.ensures.last)
-    c.in-Ok-run_job.ensures.genuine c.in-Ok-run_job.ensures.of_the_job c.in-Ok-run_job.ensures.told c.in-Ok-run_job.ensures.numbered c.in-Ok-run_job.ensures.world
+    c.in-Ok-run_job.ensures.genuine c.in-Ok-run_job.ensures.of_the_job c.in-Ok-run_job.ensures.told c.in-Ok-run_job.ensures.world
     c.make_room.ensures.dones c.push_reserved-4.ensures.items c.run_job.ensures.same c.run_job.ensures.runs
     (began c.args.place c.number_at-n.result _ c.args.run.now.history.items _ _
     (took c.args.place c.number_at-n.result _ c.args.run.now.history.items _ _ c.make_room.ensures.history c.push_reserved.ensures.items (omega arith)) c.push_reserved-2.ensures.items (omega arith))
