@@ -37,6 +37,7 @@ pub fn read_whole<H: Host>(
     ensures later { H.faults host.old ≤ H.faults host.new }
     ensures cause { OnFailed result (Rose (H.faults host.old) (H.faults host.new)) }
     ensures same { H.files host.new ≡ H.files host.old }
+    ensures no_start { H.started host.new ≡ H.started host.old }
     ensures within { IfOk result (IsWithin limit) }
     ensures content { IfSome (H.files host.old) (λ f. IfOk result (IsWhole (f path.now) limit)) }
 {

@@ -25,4 +25,5 @@ loop-bytes-preserved g c = (
   further_told (g.H.Host.files c.args.host.now) (g.H.Host.files c.loop-bytes.host) c.args.path.now c.loop-bytes.bytes.items c.in-Bytes.piece c.extend_from_slice.new.self.items c.in_ok-read_at.field-0 c.len-at.result c.loop-bytes.invariant.1 c.in-Bytes.is (search rules)
       (c.in_ok-extend_from_slice-in-Bytes.ensures.items ∙ ap (λ v. c.loop-bytes.bytes.items ++ v) c.items-items.ensures)
       c.loop-bytes.invariant.3 c.in_ok-read_at.ensures.content,
+  c.in_ok-read_at.ensures.no_start ∙ c.loop-bytes.invariant.4,
 )
