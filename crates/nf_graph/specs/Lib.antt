@@ -3,4 +3,5 @@ pub mod Node
 pub mod Meaning
 pub mod Faults
 pub mod Singles
+pub mod Attempts
 pub mod WellMade

@@ -10,6 +10,7 @@ use Rattle.nf_value.specs.Order.{value_cmp}
 use Rattle.nf_value.specs.Code.{code}
 use Rattle.nf_value.specs.declared.fault.EvalFault.{EvalFault}
 use Rattle.nf_opstream.specs.Push.{Push, push_of}
+use Rattle.nf_operator.specs.Answer.{printed as printed_of}
 use Rattle.nf_job.specs.declared.report.Report.{Report}
 use Rattle.nf_graph.specs.declared.port.Port.{Port}
 use Rattle.nf_graph.specs.Rules.{Rules, Outs, decided, emitted_by}
@@ -113,7 +114,7 @@ bags R o g = bags_from R o 0 g (λ i out. [])
 
 -- what is printed for an operator's node: the answers to what comes to it
 abbrev pub printed : Rules → Outcomes → List PlainNode → ℕ → List Plain
-printed R o g i = map (λ x. x.answer) (pushes R i (deliveries (bags R o g) (node_at g i)))
+printed R o g i = printed_of (pushes R i (deliveries (bags R o g) (node_at g i)))
 
 -- ---- the charge
 

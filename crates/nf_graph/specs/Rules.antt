@@ -1,5 +1,5 @@
 -- What the rules of a graph answer, what their answers owe each other, and which report of a task decides.
-use Rattle.std.specs.Prelude.{◌≡◌, ◌≢◌, ◌↔◌, ℕ, suc, List, [], ◌∷◌, get_or, Option, Some, None, Result, Ok, Err}
+use Rattle.std.specs.Prelude.{◌≡◌, ◌≢◌, ◌↔◌, ℕ, suc, List, [], ◌∷◌, true, get_or, Option, Some, None, Result, Ok, Err, is_ok}
 use Rattle.nf_value.specs.Plain.{Plain}
 use Rattle.nf_value.specs.declared.fault.EvalFault.{EvalFault}
 use Rattle.nf_job.specs.declared.parts.JobParts.{JobParts}
@@ -50,6 +50,11 @@ refused_by (Ok job) = None
 abbrev pub decided : (ℕ → Result JobParts TaskFault) → (ℕ → Report → Outs) → ℕ → List Report → Option Outs
 decided job outputs attempt [] = refused_by (job attempt)
 decided job outputs attempt (r ∷ rs) = decided_by (job attempt) (outputs attempt r) (decided job outputs (suc attempt) rs)
+
+-- each of these attempts, from this one on, has a job, and its report is tried again
+abbrev pub AreTriedAgain : (ℕ → Result JobParts TaskFault) → (ℕ → Report → Outs) → ℕ → List Report → Type 0
+AreTriedAgain job outputs attempt [] = Unit {0}
+AreTriedAgain job outputs attempt (r ∷ rs) = (is_ok (job attempt) ≡ true) × (outputs attempt r ≡ Ok Again) × AreTriedAgain job outputs (suc attempt) rs
 
 abbrev pub list_of : {A : Type 0} → Option A → List A
 list_of None = []

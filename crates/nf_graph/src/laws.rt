@@ -1,7 +1,10 @@
 //! Laws of the meaning of graphs, each a contract over the definitions alone.
 
-ghost use Rattle.std.specs.Prelude.{◌≡◌, ◌<◌, ◌++◌, List, ℕ, length, Err};
+ghost use Rattle.std.specs.Prelude.{◌≡◌, ◌≢◌, ◌<◌, ◌++◌, ◌∷◌, [], List, ℕ, length, true, Ok, Err, is_ok};
+ghost use Rattle.nf_job.specs.declared.emitted.Outputs.TheVariants as outputs;
 ghost use Rattle.nf_job.specs.declared.fault.TaskFault.{TaskFault};
+ghost use Rattle.nf_job.specs.declared.report.Report.{Report};
+ghost use Rattle.nf_graph.specs.Attempts.{LeadTo, ComesTo, IsUndecided};
 ghost use Rattle.nf_graph.specs.Rules.{Rules};
 ghost use Rattle.nf_graph.specs.Node.{PlainNode, IsGraph};
 ghost use Rattle.nf_graph.specs.Meaning.{Outcomes, Instance, bags};
@@ -30,10 +33,23 @@ pub fn value_ports()
     ensures { (g : List PlainNode) → (R : Rules) → (o : Outcomes) → IsGraph g → HasSingles g (bags R o g) }
 {}
 
-/// An instance whose first attempt has no job emits nothing and has the fault of that attempt alone, whatever its reports.
+/// An instance whose reports lead to an attempt without a job, be it the first or a later one, emits nothing and has the fault of that
+/// attempt alone, whatever reports follow.
 pub fn without_a_job()
-    ensures { (R : Rules) → (o : Outcomes) → (i : ℕ) → (z : Instance) → (f : TaskFault) → R.job i z.0 z.1 1 ≡ Err f
+    ensures first { (R : Rules) → (o : Outcomes) → (i : ℕ) → (z : Instance) → (f : TaskFault) → R.job i z.0 z.1 1 ≡ Err f
         → FailsAlone R o i z f }
+    ensures later { (R : Rules) → (o : Outcomes) → (i : ℕ) → (z : Instance) → (attempt : ℕ) → (later : List Report) → (f : TaskFault)
+        → LeadTo R o i z attempt later → R.job i z.0 z.1 attempt ≡ Err f → FailsAlone R o i z f }
+{}
+
+/// An instance whose reports lead to an attempt with a job is decided by the report of that attempt, unless it is tried again; and by
+/// nothing as long as there is none.
+pub fn with_a_job()
+    ensures decided { (R : Rules) → (o : Outcomes) → (i : ℕ) → (z : Instance) → (attempt : ℕ) → (r : Report) → (later : List Report)
+        → LeadTo R o i z attempt (r ∷ later) → is_ok (R.job i z.0 z.1 attempt) ≡ true → R.outputs i z.0 attempt r ≢ Ok outputs.Again
+        → ComesTo R o i z (R.outputs i z.0 attempt r) }
+    ensures waiting { (R : Rules) → (o : Outcomes) → (i : ℕ) → (z : Instance) → (attempt : ℕ) → LeadTo R o i z attempt []
+        → is_ok (R.job i z.0 z.1 attempt) ≡ true → IsUndecided R o i z }
 {}
 
 /// A graph in memory is a graph: its rows are operators, and its value ports read value channels.

@@ -19,7 +19,7 @@ use Rattle.nf_graph.specs.Faults.{item_fails}
 use Rattle.nf_graph.proofs.Lists.{put_same, put_other, put_all}
 use Rattle.nf_machine.specs.Event.{PlainStop, fault_stop, charge_stop, memory_stop, PlainEvent, pass, taking, give, start, finish, reuse, close, abort, halt}
 use Rattle.nf_machine.specs.State.{Ended, Ticket, Spot, State, feed}
-use Rattle.nf_machine.specs.Step.{limit, ticket_at, without, with_ticket, or_stop, with_stop, passed_on, takes, left_at, Given, pushed_on, op_gives, op_ends, push_with, give_push, do_give, ended_on, end_of, do_finish, do_close, at_ticket, step}
+use Rattle.nf_machine.specs.Step.{limit, ticket_at, without, with_ticket, or_stop, with_stop, passed_on, take_at, left_at, Given, pushed_on, op_gives, op_ends, push_with, give_push, do_give, ended_on, end_of, do_finish, do_close, at_ticket, step}
 use Rattle.nf_machine.specs.Legal.{PassIsLegal, IsLegal}
 use Rattle.nf_machine.proofs.Good.{Good}
 use Rattle.nf_machine.proofs.Frame.{More, no_more, take_same, unmoved}
@@ -183,7 +183,7 @@ step_charged g R s (pass i k) good legal h =
           pass_charged g s i k new (record s { spots = put s.spots i new; charge = s.charge + cost x }) legal h refl refl refl refl)
     ]
 step_charged g R s (taking i port place t n) good legal h =
-    let k = takes (node_at g i) (s.spots i) port place in
+    let k = take_at g s i port place in
     let new = record (s.spots i) { waiting = left_at k.slot place (s.spots i).waiting; taken = k ∷ (s.spots i).taken } in
     quiet_charged g R s (step g s (taking i port place t n)) good (quiet_put s (step g s (taking i port place t n)) i new refl refl refl (λ out. no_more ((s.spots i).emitted out))) h
 step_charged g R s (give t a) good legal h = quiet_charged g R s (step g s (give t a)) good (quiet_give g s t a (ticket_at t s.tickets)) h

@@ -13,7 +13,7 @@ use Rattle.nf_opstream.specs.Operator.{emitted as given_by, to_out, oks}
 use Rattle.nf_opstream.proofs.Tally.{sub_map, count_is_passes}
 use Rattle.nf_opstream.proofs.Members.{In}
 use Rattle.nf_graph.specs.declared.port.Port.{Port}
-use Rattle.nf_graph.specs.Rules.{Rules, Outs, decided, decided_by, emit_at, fault_of, fault_by}
+use Rattle.nf_graph.specs.Rules.{Rules, Outs, decided, decided_by, AreTriedAgain, emit_at, fault_of, fault_by}
 use Rattle.nf_graph.specs.Node.{Kind, source, operator, process, PlainNode, port_at, node_at, IsGraph}
 use Rattle.nf_graph.specs.Meaning.{put}
 use Rattle.nf_graph.specs.Faults.{GraphFault, item_fails, op_fails, task_fails}
@@ -23,12 +23,12 @@ use Rattle.nf_machine.specs.State.{Ended, Ticket, Spot, State, attempt_of, insta
 use Rattle.nf_machine.specs.Step.{ticket_at, without, with_ticket, or_stop, with_stop, Given, op_ends, ended_on, end_of, ends_at, do_finish, do_close, at_ticket, step, replay}
 use Rattle.nf_machine.specs.Legal.{IsOperatorKind, IsProcessKind, MayClose, CloseIsLegal, HasJob, ReportIsLegal, FinishIsLegal, ReuseIsLegal, IsOwnFault, MayCause, AbortIsLegal, IsLegal}
 use Rattle.nf_machine.specs.History.{IsLawful, ClosedWell}
-use Rattle.nf_graph.proofs.Refused.{refused_decides}
-use Rattle.nf_machine.proofs.Good.{PortsOk, FlightOk, TakesOk, MadeOk, Done, Whole, SpotOk, AllAgain, TicketOk, OpStop, FaultOk, StopOk, Good}
+use Rattle.nf_graph.proofs.Refused.{refused_decides, again_then}
+use Rattle.nf_machine.proofs.Good.{PortsOk, FlightOk, TakesOk, MadeOk, Done, Whole, SpotOk, TicketOk, OpStop, FaultOk, StopOk, Good}
 use Rattle.nf_machine.proofs.Frame.{Grows, grows_put, spot_kept, tickets_kept}
 use Rattle.nf_machine.proofs.Tickets.{found_each, without_each, flying_less, same_less, same_as, same_back, each_with}
 use Rattle.nf_machine.proofs.Moves.{others, pass_good, once_same, take_good}
-use Rattle.nf_machine.proofs.Gives.{still, open_ticket, in_taken, left_spots, more_append, give_ok, start_ok, again_more, again_then, ended_prefix}
+use Rattle.nf_machine.proofs.Gives.{still, open_ticket, in_taken, left_spots, more_append, give_ok, start_ok, again_more, ended_prefix}
 
 -- what a stop that stands rests on stays
 record Later (g : List PlainNode) (E F : ℕ → Spot) (gone gone' : List Ticket) : Type 0 where
@@ -96,7 +96,7 @@ not_process (operator op) o p = p
 not_process (process q) o p = o
 
 module _ (g : List PlainNode) (R : Rules) (s : State) (t : ℕ) (k : Ticket) (r : Report) (outs : Outs) (good : Good g R s) (found : ticket_at t s.tickets ≡ Some k) (legal : ReportIsLegal g R k r outs) (job : HasJob R k) where
-  before : AllAgain (R.job k.node k.take.inputs k.take.n) (R.outputs k.node k.take.inputs) 1 k.told
+  before : AreTriedAgain (R.job k.node k.take.inputs k.take.n) (R.outputs k.node k.take.inputs) 1 k.told
   before = (found_each (TicketOk g R s.spots) t s.tickets k found good.tickets).again
 
   this_attempt : suc (length k.told) ≡ 1 + length k.told

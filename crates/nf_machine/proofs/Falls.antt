@@ -12,19 +12,19 @@ use Rattle.nf_job.specs.declared.fault.TaskFault.{TaskFault}
 use Rattle.nf_job.specs.declared.emitted.Outputs.TheVariants.{Emits, Ignored, Failed, Again}
 use Rattle.nf_opstream.specs.Push.{Push}
 use Rattle.nf_opstream.proofs.Tally.{tally-append, sum_is_tally}
-use Rattle.nf_graph.specs.Rules.{Rules, IsRules, Outs}
+use Rattle.nf_graph.specs.Rules.{Rules, IsRules, Outs, AreTriedAgain}
 use Rattle.nf_graph.specs.Node.{source, PlainNode, no_node, node_at, IsGraph}
 use Rattle.nf_graph.specs.Meaning.{put, cost}
 use Rattle.nf_graph.specs.Faults.{item_fails, op_fails, task_fails}
 use Rattle.nf_machine.specs.Event.{PlainStop, fault_stop, charge_stop, PlainEvent, pass, taking, give, start, finish, reuse, close, abort, halt}
 use Rattle.nf_machine.specs.State.{Ended, Ticket, Spot, State, opening}
-use Rattle.nf_machine.specs.Step.{limit, ticket_at, without, with_ticket, or_stop, passed_on, do_pass, next_item, takes, Given, pushed_on, op_gives, op_ends, push_with, give_push, do_give, ended_on, end_of, ends_at, do_finish, do_close, at_ticket, step}
+use Rattle.nf_machine.specs.Step.{limit, ticket_at, without, with_ticket, or_stop, passed_on, do_pass, next_item, take_at, Given, pushed_on, op_gives, op_ends, push_with, give_push, do_give, ended_on, end_of, ends_at, do_finish, do_close, at_ticket, step}
 use Rattle.nf_machine.specs.Legal.{MayTake, MayClose, PassIsLegal, TakeIsLegal, CloseIsLegal, GiveIsLegal, StartIsLegal, FinishIsLegal, ReuseIsLegal, AbortIsLegal, IsLegal}
 use Rattle.nf_machine.specs.History.{after, IsHistory}
 use Rattle.nf_machine.specs.Going.{spot_work, work_to, moves_left, ticket_work, work}
 use Rattle.nf_machine.proofs.Limit.{ChargeOk, replay_limit, opening_limit}
 use Rattle.nf_machine.proofs.Measure.{work_put, pass_less, take_less, close_less}
-use Rattle.nf_machine.proofs.Good.{AllAgain, TicketOk, Good}
+use Rattle.nf_machine.proofs.Good.{TicketOk, Good}
 use Rattle.nf_machine.proofs.Tickets.{found_tally, found_each}
 use Rattle.nf_machine.proofs.Ends.{history_good}
 
@@ -62,7 +62,7 @@ moves_same g s u i sp e c w =
 
 -- ---- tickets
 
-again_at : (job : ℕ → Result JobParts TaskFault) (outputs : ℕ → Report → Outs) (a : ℕ) (told : List Report) → AllAgain job outputs a told → (j : ℕ) → j < length told → (r : Report) × (outputs (a + j) r ≡ Ok Again)
+again_at : (job : ℕ → Result JobParts TaskFault) (outputs : ℕ → Report → Outs) (a : ℕ) (told : List Report) → AreTriedAgain job outputs a told → (j : ℕ) → j < length told → (r : Report) × (outputs (a + j) r ≡ Ok Again)
 again_at job outputs a [] h j l = absurd (omega arith)
 again_at job outputs a (r ∷ told) h zero l = let z : a + 0 ≡ a = omega arith in (r, ap (λ n. outputs n r) z ∙ h.1)
 again_at job outputs a (r ∷ told) h (suc j) l =
@@ -70,7 +70,7 @@ again_at job outputs a (r ∷ told) h (suc j) l =
     let z : a + suc j ≡ suc a + j = omega arith in
     (w.0, ap (λ n. outputs n w.0) z ∙ w.1)
 
-few_told : (R : Rules) → IsRules R → (i : ℕ) (inputs : List Plain) (n : ℕ) (told : List Report) → AllAgain (R.job i inputs n) (R.outputs i inputs) 1 told → length told ≤ 100
+few_told : (R : Rules) → IsRules R → (i : ℕ) (inputs : List Plain) (n : ℕ) (told : List Report) → AreTriedAgain (R.job i inputs n) (R.outputs i inputs) 1 told → length told ≤ 100
 few_told R rules i inputs n told h = elim (cases_Bool (nat_lt 100 (length told))) [
   | inl t ↦ absurd (let l : 100 < length told = grind (arith, nat_tests) in
       let w = again_at (R.job i inputs n) (R.outputs i inputs) 1 told h 100 l in rules.last i inputs w.0 w.1)
@@ -167,7 +167,7 @@ node_of_take g s i port place t n legal = elim (cases_Bool (nat_lt i (length g))
 take_falls : (g : List PlainNode) (ok : IsGraph g) (s : State) (i port place t n : ℕ) → TakeIsLegal g s i port place t n → work g (step g s (taking i port place t n)) < work g s
 take_falls g ok s i port place t n legal =
     let u = step g s (taking i port place t n) in
-    let k : Ticket = record { number = s.next; node = i; take = takes (node_at g i) (s.spots i) port place; told = []; started = false } in
+    let k : Ticket = record { number = s.next; node = i; take = take_at g s i port place; told = []; started = false } in
     let a : sum_by ticket_work (with_ticket k s.tickets) ≡ sum_by ticket_work s.tickets + 203 =
     sum_is_tally ticket_work (with_ticket k s.tickets) ∙ tally-append ticket_work s.tickets (k ∷ []) ∙ (let b = sum_is_tally ticket_work s.tickets in omega (arith, b)) in
     moves_by (moves_left g s) (moves_left g u) (sum_by ticket_work s.tickets) (sum_by ticket_work (with_ticket k s.tickets)) (cond (is_none s.stop) 1 0) (cond (is_none s.stop) 1 0)

@@ -39,7 +39,7 @@ ends_ok : {P : Type 0} (r : Given) → is_ok r ≡ true → ((es : List (ℕ × 
 ends_ok (Ok es) h f = f es refl
 ends_ok (Err x) h f = absurd cc
 
-closed_at : (E : ℕ → Spot) (n i : ℕ) → closed_to E n ≡ true → i < n → (E i).closed ≡ true
+pub closed_at : (E : ℕ → Spot) (n i : ℕ) → closed_to E n ≡ true → i < n → (E i).closed ≡ true
 closed_at E zero i h l = absurd (omega arith)
 closed_at E (suc j) i h l =
     let b = both (E j).closed (closed_to E j) h in

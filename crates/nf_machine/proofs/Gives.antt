@@ -12,7 +12,7 @@ use Rattle.nf_opstream.specs.Push.{Push}
 use Rattle.nf_opstream.specs.Fault.{Fault}
 use Rattle.nf_opstream.specs.Operator.{emitted as given_by, to_out}
 use Rattle.nf_opstream.proofs.Tally.{one_if, passes, Sub, tally-map}
-use Rattle.nf_graph.specs.Rules.{Rules, Outs, decided, decided_by, refused_by}
+use Rattle.nf_graph.specs.Rules.{Rules, Outs, decided, decided_by, refused_by, AreTriedAgain}
 use Rattle.nf_graph.specs.Node.{Kind, source, operator, process, PlainNode, node_at}
 use Rattle.nf_graph.specs.Meaning.{put}
 use Rattle.nf_graph.specs.Faults.{item_fails, op_fails}
@@ -21,7 +21,7 @@ use Rattle.nf_machine.specs.State.{Take, Ticket, Spot, State, port_of}
 use Rattle.nf_machine.specs.Step.{ticket_at, without, with_ticket, with_stop, with_spot, Given, pushed_on, op_gives, push_with, give_push, do_give, at_ticket, step}
 use Rattle.nf_machine.specs.Legal.{IsOperatorKind, GiveIsLegal, StartIsLegal, IsLegal}
 use Rattle.nf_machine.specs.declared.event.Cause.{Cause}
-use Rattle.nf_machine.proofs.Good.{take_of, flying, OpTake, Formed, MadeOk, SpotOk, AllAgain, TicketOk, OpStop, Good}
+use Rattle.nf_machine.proofs.Good.{take_of, flying, OpTake, Formed, MadeOk, SpotOk, TicketOk, OpStop, Good}
 use Rattle.nf_machine.proofs.Frame.{More, Grows, no_more, grows_put, ports_kept, spot_kept, tickets_kept}
 use Rattle.nf_machine.proofs.Tickets.{found_each, without_each, flying_less, same_less, same_as, none_in_flight, same_back, each_with}
 use Rattle.nf_machine.proofs.Moves.{others, once_same}
@@ -186,25 +186,12 @@ start_ok g R s t cause good legal = start_found g R s t (ticket_at t s.tickets) 
 
 -- ### Reports
 
-pub again_more : (job : ℕ → Result JobParts TaskFault) (outputs : ℕ → Report → Outs) (a : ℕ) (told : List Report) (r : Report) → AllAgain job outputs a told
-    → is_ok (job (a + length told)) ≡ true → outputs (a + length told) r ≡ Ok Again → AllAgain job outputs a (told ++ r ∷ [])
+pub again_more : (job : ℕ → Result JobParts TaskFault) (outputs : ℕ → Report → Outs) (a : ℕ) (told : List Report) (r : Report) → AreTriedAgain job outputs a told
+    → is_ok (job (a + length told)) ≡ true → outputs (a + length told) r ≡ Ok Again → AreTriedAgain job outputs a (told ++ r ∷ [])
 again_more job outputs a [] r h j e = let z : a + 0 ≡ a = omega arith in (subst (λ n. is_ok (job n) ≡ true) z j, subst (λ n. outputs n r ≡ Ok Again) z e, tt)
 again_more job outputs a (t ∷ told) r h j e =
     let z : a + suc (length told) ≡ suc a + length told = omega arith in
     (h.0, h.1, again_more job outputs (suc a) told r h.2 (subst (λ n. is_ok (job n) ≡ true) z j) (subst (λ n. outputs n r ≡ Ok Again) z e))
-
-by_job : (j : Result JobParts TaskFault) (rest : Option Outs) → is_ok j ≡ true → decided_by j (Ok Again) rest ≡ rest
-by_job (Ok job) rest h = refl
-by_job (Err f) rest h = absurd (true≢false (sym h))
-
--- after attempts that are tried again the rest decides
-pub again_then : (job : ℕ → Result JobParts TaskFault) (outputs : ℕ → Report → Outs) (a : ℕ) (told rest : List Report) → AllAgain job outputs a told → decided job outputs a (told ++ rest) ≡ decided job outputs (a + length told) rest
-again_then job outputs a [] rest h = let z : a + 0 ≡ a = omega arith in ap (λ n. decided job outputs n rest) (sym z)
-again_then job outputs a (r ∷ told) rest h =
-    let z : suc a + length told ≡ a + suc (length told) = omega arith in
-    ap (λ o. decided_by (job a) o (decided job outputs (suc a) (told ++ rest))) h.1
-    ∙ by_job (job a) (decided job outputs (suc a) (told ++ rest)) h.0
-    ∙ again_then job outputs (suc a) told rest h.2 ∙ ap (λ n. decided job outputs n rest) z
 
 -- what decided still does with more reports
 pub ended_prefix : (job : ℕ → Result JobParts TaskFault) (outputs : ℕ → Report → Outs) (a : ℕ) (told rest : List Report) (outs : Outs) → decided job outputs a told ≡ Some outs → decided job outputs a (told ++ rest) ≡ Some outs

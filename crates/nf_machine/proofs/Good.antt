@@ -1,19 +1,17 @@
 -- What every state that a lawful history reaches keeps.
 use Rattle.std.proofs.Common.{◌≡◌, ℕ, suc, ◌+◌, ◌<◌, ◌≤◌, List, [], ◌∷◌, ◌++◌, map, length, take, get_or, Bool, true, cond, ◌&&◌, ◌||◌, ◌⊎◌}
-use Rattle.std.specs.Prelude.{◌==◌, Option, Some, None, is_none, is_ok, Result, Ok, Err}
+use Rattle.std.specs.Prelude.{◌==◌, Option, Some, None, is_none, is_ok, Ok, Err}
 use Rattle.std.specs.List.{AllByRecursion}
 use Rattle.nf_value.specs.Plain.{Plain, null}
 use Rattle.nf_value.specs.declared.fault.EvalFault.{EvalFault}
-use Rattle.nf_job.specs.declared.parts.JobParts.{JobParts}
 use Rattle.nf_job.specs.declared.report.Report.{Report}
 use Rattle.nf_job.specs.declared.fault.TaskFault.{TaskFault}
-use Rattle.nf_job.specs.declared.emitted.Outputs.TheVariants.{Again}
 use Rattle.nf_opstream.specs.Push.{Push}
 use Rattle.nf_opstream.specs.Fault.{Fault}
 use Rattle.nf_opstream.specs.Operator.{Operator, AreFine, emitted as given_by, to_out, oks}
 use Rattle.nf_opstream.proofs.Tally.{passes, Sub}
 use Rattle.nf_opstream.proofs.Members.{In}
-use Rattle.nf_graph.specs.Rules.{Rules, Outs, decided, emit_at, fault_of, fault_by}
+use Rattle.nf_graph.specs.Rules.{Rules, decided, AreTriedAgain, emit_at, fault_of, fault_by}
 use Rattle.nf_graph.specs.Node.{Kind, source, operator, process, PlainNode, port_at, node_at}
 use Rattle.nf_graph.specs.Meaning.{same_inputs, filled, numbered}
 use Rattle.nf_graph.specs.Faults.{GraphFault, item_fails, op_fails, task_fails}
@@ -121,14 +119,9 @@ pub record SpotOk (g : List PlainNode) (R : Rules) (E : ℕ → Spot) (ts : List
   pub whole : sp.closed ≡ true → Whole g E ts i sp
   pub quiet : going ≡ true → AllByRecursion (λ e. fault_of e.outs ≡ []) sp.ended
 
--- each of these attempts has a job, and its report is tried again
-abbrev pub AllAgain : (ℕ → Result JobParts TaskFault) → (ℕ → Report → Outs) → ℕ → List Report → Type 0
-AllAgain job outputs a [] = Unit {0}
-AllAgain job outputs a (r ∷ rs) = (is_ok (job a) ≡ true) × (outputs a r ≡ Ok Again) × AllAgain job outputs (suc a) rs
-
 pub record TicketOk (g : List PlainNode) (R : Rules) (E : ℕ → Spot) (t : Ticket) : Type 0 where
   pub formed : Formed E (node_at g t.node) (node_at g t.node).kind t.take
-  pub again : AllAgain (R.job t.node t.take.inputs t.take.n) (R.outputs t.node t.take.inputs) 1 t.told
+  pub again : AreTriedAgain (R.job t.node t.take.inputs t.take.n) (R.outputs t.node t.take.inputs) 1 t.told
   pub job : t.started ≡ true → HasJob R t
 
 -- the reports that an instance was told

@@ -18,3 +18,4 @@ pub mod Measure
 pub mod Falls
 pub mod Growing
 pub mod Outcomes
+pub mod Refused

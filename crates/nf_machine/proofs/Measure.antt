@@ -12,7 +12,7 @@ use Rattle.nf_graph.specs.Meaning.{put, cost}
 use Rattle.nf_graph.proofs.Lists.{put_same, put_other}
 use Rattle.nf_machine.specs.Event.{pass, taking}
 use Rattle.nf_machine.specs.State.{Spot, State, feed}
-use Rattle.nf_machine.specs.Step.{limit, passed_on, takes, left_at, Given, do_close, step}
+use Rattle.nf_machine.specs.Step.{limit, passed_on, takes, take_at, left_at, Given, do_close, step}
 use Rattle.nf_machine.specs.Legal.{MayTake, PassIsLegal, TakeIsLegal}
 use Rattle.nf_machine.specs.Going.{waits_to, is_new, spot_work, work_to, moves_left}
 use Rattle.nf_machine.proofs.Charge.{node_within}
@@ -89,7 +89,7 @@ take_work ports (process None) sp port place m queue =
 
 pub take_less : (g : List PlainNode) (ok : IsGraph g) (s : State) (i port place t n : ℕ) → i < length g → TakeIsLegal g s i port place t n → moves_left g (step g s (taking i port place t n)) < moves_left g s
 take_less g ok s i port place t n l legal =
-    let k = takes (node_at g i) (s.spots i) port place in
+    let k = take_at g s i port place in
     let new = record (s.spots i) { waiting = left_at k.slot place (s.spots i).waiting; taken = k ∷ (s.spots i).taken } in
     let a = (work_put g s.spots i new (length g)).0 l in
     let b = take_work (node_at g i).ports (node_at g i).kind (s.spots i) port place legal.ready (λ q e. (ok.queues i q e).within) in

@@ -14,7 +14,7 @@ use Rattle.nf_graph.specs.Meaning.{put, same_inputs, filled, cost}
 use Rattle.nf_graph.proofs.Lists.{put_same, put_other, put_all, filled_same}
 use Rattle.nf_machine.specs.Event.{PlainStop, pass, taking}
 use Rattle.nf_machine.specs.State.{Take, Ticket, Spot, State, feed}
-use Rattle.nf_machine.specs.Step.{limit, with_ticket, passed_on, slot_of, heads, takes, left_at, step}
+use Rattle.nf_machine.specs.Step.{limit, with_ticket, passed_on, slot_of, heads, takes, take_at, left_at, step}
 use Rattle.nf_machine.specs.Legal.{IsProcessKind, Holds, MayTake, PassIsLegal, TakeIsLegal}
 use Rattle.nf_machine.proofs.Good.{take_of, from_port, flying, seen, PortsOk, feed_head, ProcessTake, Formed, Once, MadeOk, Done, SpotOk, TicketOk, Good}
 use Rattle.nf_machine.proofs.Frame.{Grows, no_more, grows_put, or_kept, SameFlight, spot_kept, tickets_kept, unmoved}
@@ -289,7 +289,7 @@ take_good g R ok s i port place t n good legal =
     let isopen = open_take g R s i port place t n good legal in
     let run : is_none s.stop ≡ true = ap is_none legal.running in
     let old : (j : ℕ) → SpotOk g R E s.tickets true j (E j) = λ j. subst (λ b. SpotOk g R E s.tickets b j (E j)) run (good.spots j) in
-    let k = takes nd sp port place in
+    let k = take_at g s i port place in
     let new = record sp { waiting = left_at k.slot place sp.waiting; taken = k ∷ sp.taken } in
     let ticket : Ticket = record { number = s.next; node = i; take = k; told = []; started = false } in
     let us : List Ticket = with_ticket ticket s.tickets in

@@ -20,7 +20,7 @@ use Rattle.nf_graph.proofs.Bags.{numbered_once}
 use Rattle.nf_graph.proofs.Lists.{put_all, inputs_law}
 use Rattle.nf_machine.specs.Event.{PlainStop, fault_stop, PlainEvent, pass, taking, give, start, finish, reuse, close, abort, halt}
 use Rattle.nf_machine.specs.State.{Take, Ended, Ticket, Spot, State, instance, opened, opening}
-use Rattle.nf_machine.specs.Step.{limit, ticket_at, without, with_ticket, or_stop, passed_on, do_pass, next_item, takes, left_at, Given, pushed_on, op_gives, op_ends, push_with, give_push, do_give, ended_on, end_of, ends_at, do_finish, do_close, at_ticket, step, replay}
+use Rattle.nf_machine.specs.Step.{limit, ticket_at, without, with_ticket, or_stop, passed_on, do_pass, next_item, take_at, left_at, Given, pushed_on, op_gives, op_ends, push_with, give_push, do_give, ended_on, end_of, ends_at, do_finish, do_close, at_ticket, step, replay}
 use Rattle.nf_machine.specs.Legal.{IsProcessKind, FinishIsLegal, ReuseIsLegal, IsLegal}
 use Rattle.nf_machine.specs.History.{IsLawful, after, IsHistory, IsPrefix, Agrees}
 use Rattle.nf_machine.specs.History.{is_instance, told_by_ended, told_by_tickets, or_else, outcomes_of}
@@ -114,7 +114,7 @@ abort_apart g s t cause (Some k) e h = record { counted = gone_counted g s t k e
 
 take_apart : (g : List PlainNode) (s : State) (i port place t n : ℕ) → Apart g s → Apart g (step g s (taking i port place t n))
 take_apart g s i port place t n h =
-    let k = takes (node_at g i) (s.spots i) port place in
+    let k = take_at g s i port place in
     let ticket : Ticket = record { number = s.next; node = i; take = k; told = []; started = false } in
     let new = record (s.spots i) { waiting = left_at k.slot place (s.spots i).waiting; taken = k ∷ (s.spots i).taken } in
     record {

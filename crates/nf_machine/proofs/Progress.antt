@@ -8,7 +8,7 @@ use Rattle.nf_graph.specs.Rules.{Rules}
 use Rattle.nf_graph.specs.Node.{Kind, source, operator, process, PlainNode, port_at, node_at, IsGraph}
 use Rattle.nf_machine.specs.Event.{PlainStop, PlainEvent, pass, taking, close}
 use Rattle.nf_machine.specs.State.{Take, Ticket, Spot, State, feed}
-use Rattle.nf_machine.specs.Step.{takes}
+use Rattle.nf_machine.specs.Step.{take_at}
 use Rattle.nf_machine.specs.Legal.{Holds, MayTake, Lacks, MayClose}
 use Rattle.nf_machine.specs.History.{after, IsHistory, closed_to, all_closed, is_quiet, is_over}
 use Rattle.nf_machine.specs.Going.{HasMove}
@@ -44,7 +44,7 @@ module _ (g : List PlainNode) (R : Rules) (s : State) (good : Good g R s) (run :
   pass_move k l m = record { event = pass i k; move = tt; legal = record { running = run; within = l; more = m } }
 
   take_move : (port place : ℕ) → MayTake (node_at g i) (node_at g i).kind (s.spots i) port place → HasMove g R s
-  take_move port place m = record { event = taking i port place s.next (takes (node_at g i) (s.spots i) port place).n; move = tt; legal = record { running = run; ready = m; ticket = refl; number = refl } }
+  take_move port place m = record { event = taking i port place s.next (take_at g s i port place).n; move = tt; legal = record { running = run; ready = m; ticket = refl; number = refl } }
 
   close_move : ((k : ℕ) → k < length (node_at g i).ports → (s.spots i).passed k ≡ length (feed s.spots (port_at (node_at g i) k))) → MayClose (node_at g i) (node_at g i).kind (s.spots i) → HasMove g R s
   close_move p d = record { event = close i; move = tt; legal = record { running = run; still = isopen; producers = producers; passed = p; flight = rw quiet refl; done = d } }

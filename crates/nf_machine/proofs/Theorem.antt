@@ -98,6 +98,26 @@ module _ (g : List PlainNode) (R : Rules) (ok : IsGraph g) (o : Outcomes) (s : S
   kind_fits (operator op) is = op_fits g R ok s good B i before op is (ok.operators i op is) (λ out. (rw is at (means.at i out)))
   kind_fits (process q) is = proc_fits q is
 
+-- a node that isn't a source of nothing stands in the graph
+pub kind_within : (g : List PlainNode) (i : ℕ) → ((node_at g i).kind ≡ source [] → ⊥) → i < length g
+kind_within g i h = elim (cases_Bool (nat_lt i (length g))) [
+  | inl t ↦ grind (arith, nat_tests)
+  | inr f ↦ absurd (let z : length g ≤ i = grind (arith, nat_tests) in h (ap (λ (n : PlainNode). n.kind) (get_or_past g i no_node z)))
+]
+
+process_is : (kind : Kind) → IsProcessKind kind → (q : Option ℕ) × (kind ≡ process q)
+process_is (source items) h = absurd h
+process_is (operator op) h = absurd h
+process_is (process q) h = (q, refl)
+
+operator_is : (kind : Kind) → IsOperatorKind kind → (op : Operator) × (kind ≡ operator op)
+operator_is (source items) h = absurd h
+operator_is (operator op) h = (op, refl)
+operator_is (process q) h = absurd h
+
+pub process_within : (g : List PlainNode) (i : ℕ) → IsProcessKind (node_at g i).kind → i < length g
+process_within g i h = let k = process_is (node_at g i).kind h in kind_within g i (λ e. (let z : source [] ≡ process k.0 = sym e ∙ k.1 in cc))
+
 module _ (g : List PlainNode) (R : Rules) (ok : IsGraph g) (o : Outcomes) (s : State) (good : Good g R s) (agree : Agrees o s) (B : Bags) (means : IsMadeByNodes g R o B) (lone : HasSingles g B) where
   below_fits : (n j : ℕ) → j < n → NodeFits g s B j
   below_fits zero j l = absurd (omega arith)
@@ -108,14 +128,19 @@ module _ (g : List PlainNode) (R : Rules) (ok : IsGraph g) (o : Outcomes) (s : S
 
   -- ### The stop
 
-  task_stop : (i : ℕ) (inputs : List Plain) (n : ℕ) (f : TaskFault) (q : Option ℕ) → (node_at g i).kind ≡ process q → TaskStop g R s.spots s.gone i inputs n f → In (task_fails i inputs n f) (node_faults R o B i (node_at g i) (node_at g i).kind)
-  task_stop i inputs n f q is h =
-      let inst : In (inputs, n) (instances B (node_at g i) q) = in_larger same_instance instance_law (inputs, n) [] (instances B (node_at g i) q) (sub_trans h.taken (proc_instances g R ok o s good agree B means lone i (λ j l. all_fit j) q is)) in
-      let pre : IsPrefix h.told (o i inputs n) = told_prefix h.was_told in
-      let one : fault_by (decided_under R o i (inputs, n)) ≡ f ∷ [] = rw pre.is (h.fault pre.rest) in
-      let task : task_faults R o i (inputs, n) ≡ task_fails i inputs n f ∷ [] = ap (map (task_fails i inputs n)) one in
+  -- an instance that was taken, and the fault that it has alone
+  task_in : (i : ℕ) (inputs : List Plain) (n : ℕ) (f : TaskFault) (q : Option ℕ) → (node_at g i).kind ≡ process q → Sub ((inputs, n) ∷ []) (map instance (s.spots i).taken) → task_faults R o i (inputs, n) ≡ task_fails i inputs n f ∷ []
+      → In (task_fails i inputs n f) (node_faults R o B i (node_at g i) (node_at g i).kind)
+  task_in i inputs n f q is taken task =
+      let inst : In (inputs, n) (instances B (node_at g i) q) = in_larger same_instance instance_law (inputs, n) [] (instances B (node_at g i) q) (sub_trans taken (proc_instances g R ok o s good agree B means lone i (λ j l. all_fit j) q is)) in
       let here : In (task_fails i inputs n f) (task_faults R o i (inputs, n)) = rw task (inl refl) in
       rw is (in_flat_map (task_faults R o i) (inputs, n) (task_fails i inputs n f) (instances B (node_at g i) q) inst here)
+
+  task_stop : (i : ℕ) (inputs : List Plain) (n : ℕ) (f : TaskFault) (q : Option ℕ) → (node_at g i).kind ≡ process q → TaskStop g R s.spots s.gone i inputs n f → In (task_fails i inputs n f) (node_faults R o B i (node_at g i) (node_at g i).kind)
+  task_stop i inputs n f q is h =
+      let pre : IsPrefix h.told (o i inputs n) = told_prefix h.was_told in
+      let one : fault_by (decided_under R o i (inputs, n)) ≡ f ∷ [] = rw pre.is (h.fault pre.rest) in
+      task_in i inputs n f q is h.taken (ap (map (task_fails i inputs n)) one)
     where
       told_prefix : Told s.spots s.gone i inputs n h.told → IsPrefix h.told (o i inputs n)
       told_prefix w = elim w [
@@ -162,22 +187,6 @@ module _ (g : List PlainNode) (R : Rules) (ok : IsGraph g) (o : Outcomes) (s : S
     | inr n ↦ in_right x (node_faults R o B j (node_at g j) (node_at g j).kind) (faults_to R o B g j) (faults_has x i j (grind arith) h)
   ]
 
-  kind_within : (i : ℕ) → ((node_at g i).kind ≡ source [] → ⊥) → i < length g
-  kind_within i h = elim (cases_Bool (nat_lt i (length g))) [
-    | inl t ↦ grind (arith, nat_tests)
-    | inr f ↦ absurd (let z : length g ≤ i = grind (arith, nat_tests) in h (ap (λ (n : PlainNode). n.kind) (get_or_past g i no_node z)))
-  ]
-
-  process_is : (kind : Kind) → IsProcessKind kind → (q : Option ℕ) × (kind ≡ process q)
-  process_is (source items) h = absurd h
-  process_is (operator op) h = absurd h
-  process_is (process q) h = (q, refl)
-
-  operator_is : (kind : Kind) → IsOperatorKind kind → (op : Operator) × (kind ≡ operator op)
-  operator_is (source items) h = absurd h
-  operator_is (operator op) h = (op, refl)
-  operator_is (process q) h = absurd h
-
   op_stop_kind : (i : ℕ) (f : Fault) (kind : Kind) → OpStop g R s.spots i kind f → IsOperatorKind kind
   op_stop_kind i f (source items) h = h
   op_stop_kind i f (operator op) h = tt
@@ -186,13 +195,18 @@ module _ (g : List PlainNode) (R : Rules) (ok : IsGraph g) (o : Outcomes) (s : S
   pub fault_is : (x : GraphFault) → FaultOk g R s.spots s.gone x → In x (faults_to R o B g (length g))
   fault_is (task_fails i inputs n f) h =
       let k = process_is (node_at g i).kind h.kind in
-      let l : i < length g = kind_within i (λ e. (let z : source [] ≡ process k.0 = sym e ∙ k.1 in cc)) in
-      faults_has (task_fails i inputs n f) i (length g) l (task_stop i inputs n f k.0 k.1 h)
+      faults_has (task_fails i inputs n f) i (length g) (process_within g i h.kind) (task_stop i inputs n f k.0 k.1 h)
   fault_is (item_fails i x f) h =
       let k = operator_is (node_at g i).kind h.kind in
-      let l : i < length g = kind_within i (λ e. (let z : source [] ≡ operator k.0 = sym e ∙ k.1 in cc)) in
+      let l : i < length g = kind_within g i (λ e. (let z : source [] ≡ operator k.0 = sym e ∙ k.1 in cc)) in
       faults_has (item_fails i x f) i (length g) l (item_stop i x f k.0 k.1 h)
   fault_is (op_fails i f) h =
       let k = operator_is (node_at g i).kind (op_stop_kind i f (node_at g i).kind h) in
-      let l : i < length g = kind_within i (λ e. (let z : source [] ≡ operator k.0 = sym e ∙ k.1 in cc)) in
+      let l : i < length g = kind_within g i (λ e. (let z : source [] ≡ operator k.0 = sym e ∙ k.1 in cc)) in
       faults_has (op_fails i f) i (length g) l (op_stop i f (node_at g i).kind refl h)
+
+  pub taken_fault_is : (i : ℕ) (inputs : List Plain) (n : ℕ) (f : TaskFault) → IsProcessKind (node_at g i).kind → Sub ((inputs, n) ∷ []) (map instance (s.spots i).taken) → task_faults R o i (inputs, n) ≡ task_fails i inputs n f ∷ []
+      → In (task_fails i inputs n f) (faults_to R o B g (length g))
+  taken_fault_is i inputs n f kind taken task =
+      let k = process_is (node_at g i).kind kind in
+      faults_has (task_fails i inputs n f) i (length g) (process_within g i kind) (task_in i inputs n f k.0 k.1 taken task)

@@ -10,7 +10,7 @@ use Rattle.nf_graph.specs.Node.{Kind, source, operator, process, PlainNode, port
 use Rattle.nf_graph.specs.Faults.{GraphFault, item_fails, op_fails, task_fails}
 use Rattle.nf_machine.specs.Event.{PlainStop, fault_stop, charge_stop, outside_stop, memory_stop, PlainEvent, pass, taking, give, start, finish, reuse, close, abort, halt}
 use Rattle.nf_machine.specs.State.{Spot, Ticket, State, attempt_of, feed}
-use Rattle.nf_machine.specs.Step.{takes, ticket_at}
+use Rattle.nf_machine.specs.Step.{take_at, ticket_at}
 
 abbrev pub IsOperatorKind : Kind → Type 0
 IsOperatorKind (source items) = ⊥
@@ -57,7 +57,7 @@ pub record TakeIsLegal (g : List PlainNode) (s : State) (i port place t n : ℕ)
   pub running : s.stop ≡ None
   pub ready : MayTake (node_at g i) (node_at g i).kind (s.spots i) port place
   pub ticket : t ≡ s.next
-  pub number : n ≡ (takes (node_at g i) (s.spots i) port place).n
+  pub number : n ≡ (take_at g s i port place).n
 
 pub record CloseIsLegal (g : List PlainNode) (s : State) (i : ℕ) : Type 0 where
   pub running : s.stop ≡ None

@@ -5,3 +5,4 @@ pub mod Legal
 pub mod History
 pub mod Beside
 pub mod Going
+pub mod Refused

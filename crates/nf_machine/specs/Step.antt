@@ -103,10 +103,14 @@ abbrev pub left_at : ℕ → ℕ → (ℕ → List Plain) → ℕ → List Plain
 left_at zero place waiting = waiting
 left_at (suc k) place waiting = put waiting k (remove (waiting k) place)
 
-abbrev pub do_take : State → PlainNode → ℕ → ℕ → ℕ → State
-do_take s node i port place =
+-- what node i takes. Its number counts what this node took alone, though another process may have taken equal inputs
+abbrev pub take_at : List PlainNode → State → ℕ → ℕ → ℕ → Take
+take_at g s i port place = takes (node_at g i) (s.spots i) port place
+
+-- node i takes t from this place of its port
+abbrev pub do_take : State → ℕ → ℕ → Take → State
+do_take s i place t =
     let sp = s.spots i in
-    let t = takes node sp port place in
     record s {
       spots = put s.spots i (record sp { waiting = left_at t.slot place sp.waiting; taken = t ∷ sp.taken });
       tickets = with_ticket (record { number = s.next; node = i; take = t; told = []; started = false }) s.tickets;
@@ -178,7 +182,7 @@ at_ticket s t (Some k) f = f (record s { tickets = without t s.tickets }) k
 
 abbrev pub step : List PlainNode → State → PlainEvent → State
 step g s (pass i k) = do_pass s i k (next_item g s i k)
-step g s (taking i port place t n) = do_take s (node_at g i) i port place
+step g s (taking i port place t n) = do_take s i place (take_at g s i port place)
 step g s (give t a) = at_ticket s t (ticket_at t s.tickets) (λ s' k. do_give g s' k a)
 step g s (start t cause) = at_ticket s t (ticket_at t s.tickets) (λ s' k. record s' { tickets = with_ticket (record k { started = true }) s'.tickets })
 step g s (finish t r outs) = at_ticket s t (ticket_at t s.tickets) (λ s' k. do_finish s' k r outs)

@@ -1,16 +1,18 @@
 //! Laws of the machine, each a contract over the definitions alone.
 
 ghost use Rattle.std.specs.Prelude.{◌≡◌, ◌<◌, ◌++◌, ◌∷◌, ◌↔◌, List, [], ℕ, false};
+ghost use Rattle.nf_job.specs.declared.fault.TaskFault.{TaskFault};
 ghost use Rattle.nf_graph.specs.Rules.{Rules, IsRules};
 ghost use Rattle.nf_graph.specs.Node.{PlainNode, IsGraph};
 ghost use Rattle.nf_graph.specs.Meaning.{Outcomes};
 ghost use Rattle.nf_machine.specs.Event.{PlainEvent};
-ghost use Rattle.nf_machine.specs.State.{State};
+ghost use Rattle.nf_machine.specs.State.{Ticket, State};
 ghost use Rattle.nf_machine.specs.Step.{step, replay};
 ghost use Rattle.nf_machine.specs.Legal.{IsLegal};
 ghost use Rattle.nf_machine.specs.History.{IsLawful, after, IsHistory, is_over, outcomes_of, Agrees};
 ghost use Rattle.nf_machine.specs.Beside.{IsBeside};
 ghost use Rattle.nf_machine.specs.Going.{HasMove, work};
+ghost use Rattle.nf_machine.specs.Refused.{LacksJob, FailsItsRun};
 
 /// Whatever the order of its events, a lawful history is beside the meaning of its graph, under all outcomes that agree with it.
 pub fn every_order()
@@ -22,6 +24,13 @@ pub fn every_order()
 pub fn own_outcomes()
     ensures { (g : List PlainNode) → (R : Rules) → (h : List PlainEvent) → IsGraph g → IsHistory g R h
         → Agrees (outcomes_of (after g h)) (after g h) }
+{}
+
+/// A task whose attempt has no job, be it the first or a later one, fails its run: its ticket can only be given up, its instance emits
+/// nothing and has the fault of that attempt alone, and the run doesn't end well.
+pub fn attempt_without_a_job()
+    ensures { (g : List PlainNode) → (R : Rules) → (h : List PlainEvent) → (k : Ticket) → (f : TaskFault) → IsGraph g → IsHistory g R h
+        → LacksJob g R (after g h) k f → FailsItsRun g R (after g h) k f }
 {}
 
 /// A run that isn't over and has nothing in flight has a legal Pass, Take or Close.
