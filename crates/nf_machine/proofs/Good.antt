@@ -1,6 +1,6 @@
 -- What every state that a lawful history reaches keeps.
 use Rattle.std.proofs.Common.{◌≡◌, ℕ, suc, ◌+◌, ◌<◌, ◌≤◌, List, [], ◌∷◌, ◌++◌, map, length, take, get_or, Bool, true, cond, ◌&&◌, ◌||◌, ◌⊎◌}
-use Rattle.std.specs.Prelude.{◌==◌, Option, Some, None, is_none, is_ok, Ok, Err}
+use Rattle.std.specs.Prelude.{◌==◌, Option, Some, None, is_none, Ok, Err}
 use Rattle.std.specs.List.{AllByRecursion}
 use Rattle.nf_value.specs.Plain.{Plain, null}
 use Rattle.nf_value.specs.declared.fault.EvalFault.{EvalFault}

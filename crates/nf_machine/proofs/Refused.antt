@@ -1,11 +1,10 @@
 -- A task whose attempt has no job fails its run.
 use Rattle.std.proofs.Common.{◌≡◌, ℕ, ◌+◌, List, [], ◌∷◌, ◌++◌, length, Bool, true, false, ◌&&◌, refl, ap, sym, ◌∙◌, subst, arith, ◌⊎◌, inl, inr}
-use Rattle.std.specs.Prelude.{◌≢◌, ◌==◌, nat_lt, Option, Some, None, is_none, is_some, is_ok, Result, Ok, Err, MatchOption}
-use Rattle.std.proofs.lemmas.Bool.{cases_eq, cases_Bool, true≢false}
+use Rattle.std.specs.Prelude.{◌==◌, nat_lt, Option, Some, None, is_none, is_some, is_ok, Result, Ok, Err, MatchOption}
+use Rattle.std.proofs.lemmas.Bool.{cases_Bool, true≢false}
 use Rattle.std.proofs.lemmas.Bool.Decides.{nat_tests}
 use Rattle.nf_value.specs.Plain.{Plain}
 use Rattle.nf_value.specs.declared.fault.EvalFault.{EvalFault}
-use Rattle.nf_job.specs.declared.parts.JobParts.{JobParts}
 use Rattle.nf_job.specs.declared.report.Report.{Report}
 use Rattle.nf_job.specs.declared.fault.TaskFault.{TaskFault}
 use Rattle.nf_job.specs.declared.emitted.Outputs.TheVariants.{Emits, Ignored, Failed, Again}
@@ -25,7 +24,7 @@ use Rattle.nf_machine.specs.Event.{PlainStop, fault_stop, PlainEvent, pass, taki
 use Rattle.nf_machine.specs.State.{Ticket, State, attempt_of, instance}
 use Rattle.nf_machine.specs.Step.{limit, ticket_at, without, with_ticket, or_stop, do_pass, next_item, Given, op_gives, op_ends, push_with, give_push, do_give, do_finish, do_close, at_ticket, step, replay}
 use Rattle.nf_machine.specs.Legal.{IsOperatorKind, IsProcessKind, GiveIsLegal, HasJob, StartIsLegal, FinishIsLegal, ReuseIsLegal, AbortIsLegal, IsLegal}
-use Rattle.nf_machine.specs.History.{IsLawful, after, IsHistory, all_closed, ended_well, IsPrefix, Agrees}
+use Rattle.nf_machine.specs.History.{IsLawful, after, IsHistory, all_closed, ended_well, Agrees}
 use Rattle.nf_machine.specs.Refused.{LacksJob, own_fault, Spares, FailsItsRun}
 use Rattle.nf_machine.proofs.Good.{TicketOk, Good}
 use Rattle.nf_machine.proofs.Tickets.{found_each}
