@@ -3,7 +3,7 @@ use Rattle.std.specs.Prelude.{◌≡◌, ℕ, List, Result, Ok}
 use Rattle.nf_value.specs.Plain.{Plain, list, plains_of}
 use Rattle.nf_job.specs.declared.parts.JobParts.{JobParts}
 use Rattle.nf_job.specs.declared.fault.TaskFault.{TaskFault}
-use Rattle.nf_job.specs.JobText.{inputs_text}
+use Rattle.nf_job.specs.JobText.{job_text, inputs_text}
 use Rattle.nf_job.specs.Sizes.{IsFit, IsSized}
 use Rattle.nf_graph.specs.Rules.{Rules}
 
@@ -34,3 +34,7 @@ pub record IsJobOf (R : Rules) (x : Attempt) (p : JobParts) : Type 0 where
   pub job : job_of R x ≡ Ok p
   pub sized : IsSized p
   pub fit : IsFit (list (plains_of x.inputs))
+
+-- attempts whose jobs have one text are one
+pub record TellsApart (R : Rules) : Type 0 where
+  pub apart : (x y : Attempt) (p q : JobParts) → IsJobOf R x p → IsJobOf R y q → job_text p ≡ job_text q → x ≡ y

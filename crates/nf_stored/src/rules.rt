@@ -1,7 +1,9 @@
 //! `Rules`: what a run asks about the nodes of its graph.
 
-ghost use Rattle.std.specs.Prelude.{◌≡◌, ◌≤◌};
+ghost use Rattle.std.specs.Prelude.{◌≡◌, ◌≤◌, OnOk};
+ghost use Rattle.nf_value.specs.Plain.{list, plains_of};
 ghost use Rattle.nf_value.specs.View.{plain_of};
+ghost use Rattle.nf_job.specs.Sizes.{IsFit};
 ghost use Rattle.nf_stored.specs.Answers.{AnswersItem, AnswersTask};
 
 use nf_job::{Job, Outputs, Report, TaskRefusal};
@@ -29,7 +31,7 @@ pub trait Rules {
         ensures { AnswersItem ((meaning self.now).answer node (plain_of item.now)) result };
 
     /// The job of an attempt at a task of a process. `n` is how many tasks of the process with equal inputs come before it, from 0;
-    /// `attempt` is from 1 to 101.
+    /// `attempt` is from 1 to 101. The numbers, lengths and counts in the inputs of a task that has a job fit 64 bits.
     ///
     /// # Errors
     ///
@@ -45,7 +47,8 @@ pub trait Rules {
         requires kept { keeps self.now }
         requires first { 1 ≤ attempt }
         requires last { attempt ≤ 101 }
-        ensures { AnswersTask ((meaning self.now).job node inputs.now n attempt) result };
+        ensures answer { AnswersTask ((meaning self.now).job node inputs.now n attempt) result }
+        ensures fit { OnOk result (IsFit (list (plains_of inputs.now))) };
 
     /// What the report of an attempt at a task amounts to.
     ///

@@ -47,8 +47,10 @@ where
     G: Fn(Global, u32, &Vals, u32, u32) -> Result<Job, TaskRefusal>,
     H: Fn(Global, u32, &Vals, u32, &Report) -> Result<Outputs, TaskRefusal>,
 {
-    ghost use Rattle.std.specs.Prelude.{ℕ, ◌≤◌};
+    ghost use Rattle.std.specs.Prelude.{ℕ, ◌≤◌, OnOk};
+    ghost use Rattle.nf_value.specs.Plain.{list, plains_of};
     ghost use Rattle.nf_value.specs.View.{plain_of};
+    ghost use Rattle.nf_job.specs.Sizes.{IsFit};
     ghost use Rattle.nf_stored.specs.Answers.{AnswersItem, AnswersTask};
 
     ghost meaning = { λ s. B.told s.book };
@@ -60,7 +62,8 @@ where
         × ((alloc : _) (node : ℕ) (inputs : _) (n attempt : ℕ) → 1 ≤ attempt → attempt ≤ 101
         → G.pre s.job alloc node inputs n attempt)
         × ((alloc : _) (node : ℕ) (inputs : _) (n attempt : ℕ) (r : _) → 1 ≤ attempt → attempt ≤ 101
-        → G.post s.job alloc node inputs n attempt r → AnswersTask ((B.told s.book).job node inputs.now n attempt) r)
+        → G.post s.job alloc node inputs n attempt r
+        → AnswersTask ((B.told s.book).job node inputs.now n attempt) r × OnOk r (IsFit (list (plains_of inputs.now))))
         × H.IsAlwaysCallable s.outputs
         × ((alloc : _) (node : ℕ) (inputs : _) (attempt : ℕ) (report : _) (r : _) → H.post s.outputs alloc node inputs attempt report r
         → AnswersTask ((B.told s.book).outputs node inputs.now attempt report.now) r) };
