@@ -1,12 +1,11 @@
 -- Parts in which no rule comes back to itself before a token is taken: each rule has a rank, and begins with rules of lower rank alone.
-use Rattle.std.proofs.Common.{◌≡◌, ℕ, ◌<◌, ◌≤◌, Bool, true, false, List, refl, arith, if◌then◌else◌}
+use Rattle.std.proofs.Common.{◌≡◌, ℕ, ◌<◌, Bool, true, false, List, refl, arith}
 use Rattle.nf_token.specs.declared.token.Lexeme.{Lexeme}
-use Rattle.nf_value.specs.declared.place.Place.{Place}
 use Rattle.nf_grammar.specs.Gram.{token, gives, bind, either, only_where, many, rule}
 use Rattle.nf_ast.specs.Tree.{Tree}
 use Rattle.nf_exprs.specs.declared.band.Band.{Band}
 use Rattle.nf_exprs.specs.declared.band.Band.TheVariants as band
-use Rattle.nf_exprs.specs.Level.{Level, Expr, Operands, Pre, Post, Prim, Args, Arg, Pair, Closure, Body, Stmt, Choice, Script, Top, Process, Directive, Input, Inputs, Output, Outputs, Task, Workflow, Parts, Function, Gram}
+use Rattle.nf_exprs.specs.Level.{Level, Expr, Operands, Pre, Post, Prim, Args, Arg, Closure, Body, Stmt, Script, Top, Inputs, Outputs, Task, Parts, Gram}
 use Rattle.nf_exprs.specs.Tokens.{Kind}
 use Rattle.nf_exprs.specs.Rules.{maybe, skips, with_sep, separated, listed, series, closes, closed, body_section}
 
@@ -20,7 +19,7 @@ band_rank band.Pipe = 8
 band_rank band.And = 9
 band_rank band.Or = 10
 
--- a rule that begins with a token has the rank 0
+-- above the ranks of all rules with which the rule may begin; 0 where it begins with a token
 abbrev pub rank : Level → ℕ
 rank (Expr d n) = 11
 rank (Operands d b) = band_rank b

@@ -1,19 +1,17 @@
 -- Each list of tokens and each text comes to one outcome.
-use Rattle.std.proofs.Common.{◌≡◌, ℕ, ◌-◌, ◌≤◌, List, [], length, ◌⊎◌, inl, inr, refl, sym, subst, ap, ◌∙◌, arith}
+use Rattle.std.proofs.Common.{◌≡◌, ℕ, ◌-◌, List, length, ◌⊎◌, inl, inr, refl, subst, ap, arith}
 use Rattle.nf_value.specs.declared.place.Place.{Place}
 use Rattle.nf_token.specs.declared.token.Lexeme.{Lexeme}
 use Rattle.nf_lexer.specs.declared.fault.LexFault.{LexFault}
 use Rattle.nf_lexer.specs.Tokens.{IsTokensOf, Breaks}
-use Rattle.nf_grammar.specs.Gram.{rule}
 use Rattle.nf_grammar.specs.Reads.{stands_before, stands_first, stands_left, stands_rule}
 use Rattle.nf_grammar.proofs.Outcomes.{stands_le, deep_stands}
 use Rattle.nf_ast.specs.Tree.{Tree}
-use Rattle.nf_exprs.specs.Level.{Script}
 use Rattle.nf_exprs.specs.Rules.{rules}
 use Rattle.nf_exprs.specs.Spells.{first_place}
 use Rattle.nf_parser.specs.Spells.{Whole, Reaches, Passes, Spells, IsUnexpected, IsTooDeep}
 use Rattle.nf_outcomes.specs.Outcome.{ScriptOutcome, spelled, unexpected, too_deep, IsOutcome, TextOutcome, broken, lexed, IsTextOutcome}
-use Rattle.nf_outcomes.proofs.Search.{Search, Least, least_from}
+use Rattle.nf_outcomes.proofs.Search.{Least, least_from}
 use Rattle.nf_outcomes.proofs.Sights.{searched_stands, searched_deep, searched_whole}
 use Rattle.nf_outcomes.proofs.Every.{searched_script}
 
@@ -23,35 +21,41 @@ begins : (ts : List Lexeme) → Reaches ts ts
 unfolding rules
 begins ts = stands_rule (stands_first (stands_left (stands_first stands_before)))
 
-is_too_deep : (ts : List Lexeme) (end : Place) → Least (Passes ts) (λ r. length ts - length r) → (o : ScriptOutcome) × IsOutcome ts end o
-is_too_deep ts end e = (too_deep (first_place end e.it), record {
-  rest = e.it;
-  deep = e.holds;
-  earliest = λ r d. omega (arith, e.least r d, stands_le (deep_stands d), stands_le (deep_stands e.holds));
-  place = refl;
-})
+too_deep_outcome : (ts : List Lexeme) (end : Place) → Least (Passes ts) (λ r. length ts - length r) → (o : ScriptOutcome) × IsOutcome ts end o
+too_deep_outcome ts end e = (
+  too_deep (first_place end e.it),
+  record {
+    rest = e.it;
+    deep = e.holds;
+    earliest = λ r d. omega (arith, e.least r d, stands_le (deep_stands d), stands_le (deep_stands e.holds));
+    place = refl;
+  },
+)
 
-is_unexpected : (ts : List Lexeme) (end : Place) → ((v : Tree) → Whole ts v → ⊥) → ((r : List Lexeme) → Passes ts r → ⊥) → Least (Reaches ts) length → (o : ScriptOutcome) × IsOutcome ts end o
-is_unexpected ts end none shallow e = (unexpected (first_place end e.it), record {
-  none = none;
-  shallow = shallow;
-  rest = e.it;
-  stands = e.holds;
-  farthest = e.least;
-  place = refl;
-})
+unexpected_outcome : (ts : List Lexeme) (end : Place) → ((v : Tree) → Whole ts v → ⊥) → ((r : List Lexeme) → Passes ts r → ⊥) → Least (Reaches ts) length → (o : ScriptOutcome) × IsOutcome ts end o
+unexpected_outcome ts end none shallow e = (
+  unexpected (first_place end e.it),
+  record {
+    none = none;
+    shallow = shallow;
+    rest = e.it;
+    stands = e.holds;
+    farthest = e.least;
+    place = refl;
+  },
+)
 
 -- where no reading passes a limit
-within_limits : (ts : List Lexeme) (end : Place) → ((r : List Lexeme) → Passes ts r → ⊥) → (o : ScriptOutcome) × IsOutcome ts end o
-within_limits ts end shallow = elim ((searched_whole (searched_script ts)).search (λ v. Unit {0}) (λ v x. yes tt)) [
+outcome_within_limits : (ts : List Lexeme) (end : Place) → ((r : List Lexeme) → Passes ts r → ⊥) → (o : ScriptOutcome) × IsOutcome ts end o
+outcome_within_limits ts end shallow = elim ((searched_whole (searched_script ts)).search (λ v. Unit {0}) (λ v x. yes tt)) [
   | yes q ↦ (spelled q.0, record { whole = q.1; shallow = shallow })
-  | no n ↦ is_unexpected ts end (λ v x. n (v, x, tt)) shallow (least_from (searched_stands (searched_script ts)) length (length ts) ts (begins ts) (omega arith))
+  | no n ↦ unexpected_outcome ts end (λ v x. n (v, x, tt)) shallow (least_from (searched_stands (searched_script ts)) length (length ts) ts (begins ts) (omega arith))
 ]
 
 pub some_outcome : (ts : List Lexeme) (end : Place) → (o : ScriptOutcome) × IsOutcome ts end o
 some_outcome ts end = elim ((searched_deep (searched_script ts)).search (λ r. Unit {0}) (λ r d. yes tt)) [
-  | yes q ↦ is_too_deep ts end (least_from (searched_deep (searched_script ts)) (λ r. length ts - length r) (length ts) q.0 q.1 (omega arith))
-  | no n ↦ within_limits ts end (λ r d. n (r, d, tt))
+  | yes q ↦ too_deep_outcome ts end (least_from (searched_deep (searched_script ts)) (λ r. length ts - length r) (length ts) q.0 q.1 (omega arith))
+  | no n ↦ outcome_within_limits ts end (λ r d. n (r, d, tt))
 ]
 
 -- the laws of one tree and of one place

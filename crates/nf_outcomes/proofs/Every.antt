@@ -1,7 +1,7 @@
 -- Every part that begins with rules of lower rank can be searched, on any tokens.
-use Rattle.std.proofs.Common.{◌≡◌, ℕ, zero, suc, ◌<◌, ◌≤◌, Bool, true, false, List, ◌∷◌, length, refl, subst, arith}
+use Rattle.std.proofs.Common.{◌≡◌, ℕ, zero, suc, ◌<◌, ◌≤◌, Bool, true, List, length, refl, subst, arith}
 use Rattle.nf_token.specs.declared.token.Lexeme.{Lexeme}
-use Rattle.nf_grammar.specs.Gram.{token, many, rule}
+use Rattle.nf_grammar.specs.Gram.{token, rule}
 use Rattle.nf_grammar.specs.Reads.{Reads, reads_token, reads_gives, reads_bind, reads_left, reads_right, reads_where, reads_end, reads_more, reads_rule}
 use Rattle.nf_grammar.proofs.Outcomes.{reads_le}
 use Rattle.nf_ast.specs.Tree.{Tree}

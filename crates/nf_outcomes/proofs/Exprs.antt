@@ -1,13 +1,13 @@
 -- The rules of expressions, closures and statements begin with rules of lower rank.
 use Rattle.std.proofs.Common.{ℕ, suc, ◌<◌, ◌≤◌, Bool, true, false, refl, arith, if◌then◌else◌}
 use Rattle.nf_value.specs.declared.place.Place.{Place}
-use Rattle.nf_grammar.specs.Gram.{token, gives, either, rule, ◌>>=◌}
+use Rattle.nf_grammar.specs.Gram.{either, rule, ◌>>=◌}
 use Rattle.nf_ast.specs.Tree.{Tree}
 use Rattle.nf_exprs.specs.declared.band.Band.{Band}
 use Rattle.nf_exprs.specs.declared.band.Band.TheVariants as band
 use Rattle.nf_exprs.specs.Level.{Expr, Args, Gram}
-use Rattle.nf_exprs.specs.Tokens.{Kind, literal, no_start, no_params}
-use Rattle.nf_exprs.specs.Rules.{kind, maybe, round, operand, is_single, operand_next, after_operand, or_more, prefixed, post_part, pieces, template_of, key, ended_by_comma, items, pairs, square, closure_of, names, parameters, label, some_labels, closure_body, assigned, print, log, defines, statement, block, arm, choice}
+use Rattle.nf_exprs.specs.Tokens.{literal, no_start, no_params}
+use Rattle.nf_exprs.specs.Rules.{kind, maybe, round, operand, is_single, operand_next, after_operand, or_more, prefixed, index, call, post_part, pieces, template_of, key, ended_by_comma, items, pairs, square, closure_of, names, parameters, label, some_labels, closure_body, assigned, print, log, defines, plain_statement, statement, block, arm, choice}
 use Rattle.nf_outcomes.proofs.Descends.{band_rank, top, Descends, down_token, down_gives, down_after, down_first, down_second, down_either, down_where, down_many, down_rule, down_taking, down_tokens, down_maybe, down_skips, down_sep, down_separated, down_listed, down_closed, down_braced, down_round, down_expr, down_body, down_token_expr}
 
 -- ---- operands
@@ -48,7 +48,13 @@ pub down_args : {d n : ℕ} → 13 < n → Descends false n (maybe (rule (Args d
 down_args h = down_maybe (down_taking refl h)
 
 pub down_post_part : {b : Bool} {i : ℕ} (d n : ℕ) (e : Tree) → Descends b i (post_part d n e)
-down_post_part d n e = down_either down_tokens (down_either down_tokens (down_either (down_after (λ o. down_first down_expr (λ x. down_after (λ c. down_gives)))) (down_either (down_after (λ o. down_first (down_args (omega arith)) (λ xs. down_after (λ c. down_gives)))) (down_after (λ o. down_first (down_taking refl (omega arith)) (λ c. down_gives))))))
+down_post_part d n e = down_either down_tokens (down_either down_tokens (down_either down_index (down_either down_call (down_after (λ o. down_first (down_taking refl (omega arith)) (λ c. down_gives))))))
+  where
+    down_index : {b : Bool} {i : ℕ} → Descends b i (index d n e)
+    down_index = down_after (λ o. down_first down_expr (λ x. down_after (λ c. down_gives)))
+
+    down_call : {b : Bool} {i : ℕ} → Descends b i (call d n e)
+    down_call = down_after (λ o. down_first (down_args (omega arith)) (λ xs. down_after (λ c. down_gives)))
 
 -- ---- literals
 
@@ -110,8 +116,12 @@ down_log d = down_after (λ w. down_after (λ o. down_token_expr))
 down_defines : {b : Bool} {n : ℕ} (d : ℕ) → Descends b n (defines d)
 down_defines d = down_either (down_after (λ w. down_after (λ n. down_token_expr))) (down_after (λ w. down_first (down_round down_names) (λ ns. down_token_expr)))
 
+-- a print, or another expression
+down_plain : {b : Bool} (d : ℕ) → Descends b 12 (plain_statement d)
+down_plain d = down_either (down_where (down_print d)) (down_either (down_where (down_log d)) (down_where (down_taking refl (omega arith))))
+
 pub down_statement : {b : Bool} (d : ℕ) → Descends b 12 (statement d)
-down_statement d = down_either (down_defines d) (down_either (down_assigned d) (down_either down_token_expr (down_either (down_taking refl (omega arith)) (down_either (down_where (down_print d)) (down_either (down_where (down_log d)) (down_where (down_taking refl (omega arith))))))))
+down_statement d = down_either (down_defines d) (down_either (down_assigned d) (down_either down_token_expr (down_either (down_taking refl (omega arith)) (down_plain d))))
 
 pub down_choice : {b : Bool} {i : ℕ} (d n : ℕ) → Descends b i (choice d n)
 down_choice d n = down_first down_arm (λ a. down_first (down_maybe (down_after (λ w. down_either (down_block d) (down_taking refl (omega arith))))) (λ e. down_gives))

@@ -2,11 +2,11 @@
 use Rattle.std.proofs.Common.{◌≡◌, ℕ, zero, suc, ◌<◌, ◌≤◌, ◌⊎◌, inl, inr, ⊎_elim, List, [], ◌∷◌, refl, sym, subst, arith}
 use Rattle.std.proofs.Math.Decide.{dec_lt}
 
--- of the things of which S holds, whether one meets a test that can be told of each
+-- whether one of the things of which S holds meets a test, for any test that can be decided of each of them
 pub record Search {X : Type 0} (S : X → Type 0) : Type 1 where
   pub search : (P : X → Type 0) → ((x : X) → S x → Dec (P x)) → Dec ((x : X) × S x × P x)
 
--- one of these
+-- x is one of these
 abbrev pub Among : {X : Type 0} → List X → X → Type 0
 Among [] x = ⊥
 Among (y ∷ ys) x = (x ≡ y) ⊎ Among ys x
@@ -16,6 +16,7 @@ abbrev pub Each : {X : Type 0} → (X → Type 0) → List X → Type 0
 Each S [] = Unit {0}
 Each S (y ∷ ys) = S y × Each S ys
 
+-- no thing
 pub searched_none : {X : Type 0} {S : X → Type 0} → ((x : X) → S x → ⊥) → Search S
 searched_none h = record { search = λ P d. no (λ q. h q.0 q.1) }
 
@@ -79,7 +80,7 @@ searched_next {X} {Y} {A} {B} {S} f g join split = record { search = search }
       | no n ↦ no (λ q. (let s = split q.0 q.1 in n (s.0, s.1, (q.0, s.2, q.2))))
     ]
 
--- one of the least
+-- a thing of the least size
 pub record Least {X : Type 0} (S : X → Type 0) (size : X → ℕ) : Type 0 where
   pub it : X
   pub holds : S it

@@ -1,11 +1,12 @@
 -- The rules of what stands at the top of a script begin with rules of lower rank.
-use Rattle.std.proofs.Common.{ℕ, Bool, true, false, List, arith, refl}
+use Rattle.std.proofs.Common.{ℕ, Bool, false, List, arith, refl}
+use Rattle.nf_value.specs.declared.place.Place.{Place}
 use Rattle.nf_token.specs.declared.token.Lexeme.{Lexeme}
 use Rattle.nf_grammar.specs.Gram.{either, rule, ◌>>=◌}
 use Rattle.nf_ast.specs.Tree.{Tree, empty}
-use Rattle.nf_exprs.specs.Level.{Process, Workflow, Function, Input, Gram}
-use Rattle.nf_exprs.specs.Rules.{past_separator, tops, small_top, process, process_body, directives, second_inputs, stub_end, directive, one_name, input, tuple_of, some_input, input_section, output_value, some_output, one_output, output_section, task, workflow, take_section, emit_section, workflow_parts, function}
-use Rattle.nf_outcomes.proofs.Descends.{top, Descends, down_token, down_gives, down_after, down_first, down_second, down_either, down_where, down_many, down_rule, down_taking, down_tokens, down_maybe, down_skips, down_sep, down_series, down_listed, down_closes, down_closed, down_braced, down_round, down_body_section, down_body, down_token_expr}
+use Rattle.nf_exprs.specs.Level.{Process, Workflow, Function, Gram}
+use Rattle.nf_exprs.specs.Rules.{past_separator, tops, parameter, dsl, small_top, process, sections, second_inputs, stub_end, directive, one_name, input, tuple_of, input_section, output_value, one_output, output_section, task, workflow, take_section, emit_section, workflow_parts, function}
+use Rattle.nf_outcomes.proofs.Descends.{top, Descends, down_token, down_gives, down_after, down_first, down_second, down_either, down_where, down_many, down_taking, down_tokens, down_maybe, down_skips, down_sep, down_series, down_listed, down_closes, down_braced, down_round, down_body_section, down_body, down_token_expr}
 use Rattle.nf_outcomes.proofs.Exprs.{down_args, down_template, down_names, down_label, down_assigned, down_print, down_log}
 
 -- ---- scripts
@@ -13,9 +14,14 @@ use Rattle.nf_outcomes.proofs.Exprs.{down_args, down_template, down_names, down_
 pub down_script : Descends false 2 (past_separator >>= λ s. tops)
 down_script = down_first down_skips (λ s. down_series (down_taking refl (omega arith)))
 
--- words and marks, and an expression
 down_small_top : {b : Bool} {n : ℕ} → Descends b n small_top
-down_small_top = down_either (down_after (λ w. down_after (λ o. down_after (λ n. down_token_expr)))) (down_either (down_print 0) (down_either (down_log 0) (down_after (λ w. down_after (λ a. down_after (λ x. down_after (λ b. down_after (λ y. down_after (λ e. down_after (λ n. down_gives))))))))))
+down_small_top = down_either down_parameter (down_either (down_print 0) (down_either (down_log 0) down_dsl))
+  where
+    down_parameter : {b : Bool} {n : ℕ} → Descends b n parameter
+    down_parameter = down_after (λ w. down_after (λ o. down_after (λ n. down_token_expr)))
+
+    down_dsl : {b : Bool} {n : ℕ} → Descends b n dsl
+    down_dsl = down_after (λ w. down_after (λ a. down_after (λ x. down_after (λ c. down_after (λ y. down_after (λ e. down_after (λ n. down_gives)))))))
 
 pub down_top : {b : Bool} → Descends b 1 (either (rule Process) (either (rule Workflow) (either (rule Function) small_top)))
 down_top = down_either (down_taking refl (omega arith)) (down_either (down_taking refl (omega arith)) (down_either (down_taking refl (omega arith)) down_small_top))
@@ -56,8 +62,12 @@ down_second_inputs : (xs : Tree) → Descends false top (second_inputs xs)
 down_second_inputs empty = down_maybe (down_taking refl (omega arith))
 down_second_inputs _ = down_gives
 
+-- what stands in a process after its directives
+down_sections : (p : Place) (n ds : Tree) → Descends false top (sections p n ds)
+down_sections p n ds = down_first (down_maybe (down_taking refl (omega arith))) (λ xs. down_first (down_maybe (down_taking refl (omega arith))) (λ ys. down_first (down_second_inputs xs) (λ zs. down_first (down_taking refl (omega arith)) (λ t. down_first down_stub_end (λ s. down_gives)))))
+
 pub down_process : {b : Bool} {n : ℕ} → Descends b n process
-down_process = down_after (λ w. down_after (λ n. down_after (λ o. down_first (down_series (down_taking refl (omega arith))) (λ ds. down_first (down_maybe (down_taking refl (omega arith))) (λ xs. down_first (down_maybe (down_taking refl (omega arith))) (λ ys. down_first (down_second_inputs xs) (λ zs. down_first (down_taking refl (omega arith)) (λ t. down_first down_stub_end (λ s. down_gives)))))))))
+down_process = down_after (λ w. down_after (λ n. down_after (λ o. down_first (down_series (down_taking refl (omega arith))) (λ ds. down_sections _ n ds))))
 
 -- ---- workflows and functions
 
