@@ -3,6 +3,7 @@
 use crate::makers::{PIPELINE, deepest};
 use nf_ast::Script;
 use nf_lexer::tokens;
+use nf_outcomes::laws as outcomes;
 use nf_parser::{ParseFault, laws, script};
 use nf_printer::print;
 use std::alloc::Global;
@@ -16,6 +17,10 @@ fn has_laws() {
     laws::unexpected_spells_none();
     laws::too_deep_spells_none();
     laws::not_both();
+    outcomes::some_outcome();
+    outcomes::one_outcome();
+    outcomes::some_text_outcome();
+    outcomes::one_text_outcome();
 }
 
 /// A script as users write it, and each front of it: a fault at one place, or a tree.
