@@ -3,9 +3,9 @@
 ghost use Rattle.std.specs.Prelude.{◌≡◌, ◌+◌, ◌<◌, ◌^◌};
 
 use crate::makers::job_parts;
-use nf_job::{Captured, Found, Job, Report, make_job};
-use nf_lane::{ChildLane, Finished, Lane, LaneRefusal, Table, TableLane};
-use nf_value::Mem;
+use nf_job::{Captured, FileRefs, Found, Job, Report, make_job};
+use nf_lane::{ChildLane, Finished, Lane, LaneRefusal, Look, Present, Table, TableLane};
+use nf_value::{Digest, FileRef, Mem, Txt};
 use std::alloc::{Allocator, Global};
 use std::io;
 use std::io::{Empty, ErrorKind, Read, Sink};
@@ -71,6 +71,64 @@ fn a_table_answers(rt: HostRuntime) -> Result<(), Fail> {
     let table = table(alloc, &known)?;
     let ended = table_outcome(alloc, table, Vec::new(alloc), &known);
     assert_eq!(rt; ended, (3, UNWANTED));
+    Ok(())
+}
+
+const DIGEST: Digest = Digest([7; 32]);
+
+// The report of a job that left one file, `x.txt`.
+fn leaves_a_file(alloc: Global) -> Result<Report, Mem> {
+    let file = FileRef {
+        name: Txt::of(String::from_str(alloc, "x.txt")?),
+        digest: DIGEST,
+        len: 3,
+    };
+    let files = FileRefs::of(vec![in alloc; file]?);
+    Ok(Report {
+        exit: 0,
+        captured: Captured::None,
+        found: Found::of(vec![in alloc; files]?),
+    })
+}
+
+// Whether a look at the report finds its files, or misses this one.
+fn looked<L: Lane>(alloc: Global, lane: &mut L, report: &Report, name: &str) -> (bool, bool) {
+    match lane.look(alloc, report) {
+        Ok(Look::There(seen)) => (seen.report().exit == report.exit, false),
+        Ok(Look::Gone { name: missed }) => (false, missed.as_str() == name),
+        Err(_) => (false, false),
+    }
+}
+
+const THERE: (bool, bool) = (true, false);
+
+const GONE: (bool, bool) = (false, true);
+
+#[test]
+fn a_table_lane_has_files_until_they_are_lost(rt: HostRuntime) -> Result<(), Fail> {
+    let alloc = rt.alloc();
+    let report = leaves_a_file(alloc)?;
+    let known = job(alloc, "a", false)?;
+    let table = Table::of(vec![in alloc; (known.text().copy()?, report.copy()?)]?);
+    let mut lane = TableLane::new(table, Vec::new(alloc));
+    assert_eq!(rt; looked(alloc, &mut lane, &report, "x.txt"), GONE);
+    assert_eq!(rt; outcome(alloc, &mut lane, &known), (0, UNWANTED));
+    assert_eq!(rt; looked(alloc, &mut lane, &report, "x.txt"), THERE);
+    lane.lose(&DIGEST);
+    assert_eq!(rt; looked(alloc, &mut lane, &report, "x.txt"), GONE);
+    lane.store(DIGEST)?;
+    assert_eq!(rt; looked(alloc, &mut lane, &report, "x.txt"), THERE);
+    Ok(())
+}
+
+#[test]
+fn a_lane_of_children_has_no_files(rt: HostRuntime) -> Result<(), Fail> {
+    let alloc = rt.alloc();
+    let mut lane = ChildLane::new(&rt);
+    let without = exits(alloc, 0);
+    assert_eq!(rt; looked(alloc, &mut lane, &without, "x.txt"), THERE);
+    let report = leaves_a_file(alloc)?;
+    assert_eq!(rt; looked(alloc, &mut lane, &report, "x.txt"), GONE);
     Ok(())
 }
 
