@@ -3,7 +3,7 @@
 use crate::values::{list, two};
 use anyhow::{Context, Result, bail};
 use nf_job::{Captured, Emitted, Found, Outputs, Report, TaskRefusal};
-use nf_process::{Pieces, ProcessSpec, ScriptPiece, emit_of, script_text, tell_fit};
+use nf_process::{Pieces, ProcessSpec, ScriptPiece, emit_of, script_text};
 use nf_value::{Place, Txt, Vals, Value, text_of};
 use std::alloc::Global;
 
@@ -53,7 +53,6 @@ fn printf(alloc: Global) -> Result<ProcessSpec> {
 /// The text of the job of the first attempt at P with these inputs.
 pub(crate) fn task(alloc: Global, parts: &str) -> Result<String> {
     let inputs = list(alloc, parts)?;
-    tell_fit(alloc, &inputs)?;
     match nf_process::job(alloc, &printf(alloc)?, &inputs, 0, 1) {
         Ok(job) => Ok(String::from_str(alloc, job.text().as_str())?),
         Err(refusal) => refused(alloc, &refusal),

@@ -1,7 +1,9 @@
 //! The rules of a small graph.
 
-ghost use Rattle.std.specs.Prelude.{◌≡◌, ◌≤◌, IfOk};
+ghost use Rattle.std.specs.Prelude.{◌≡◌, ◌≤◌, IfOk, OnOk};
+ghost use Rattle.nf_value.specs.Plain.{list, plains_of};
 ghost use Rattle.nf_value.specs.View.{plain_of};
+ghost use Rattle.nf_job.specs.Sizes.{IsFit};
 ghost use Rattle.nf_stored.specs.Answers.{AnswersItem, AnswersTask};
 ghost use Rattle.tests_rules.specs.Small.{small_answer, small_parts, small_job, small_outputs, status_of};
 
@@ -43,7 +45,8 @@ fn small_answer(node: u32, item: &Value) -> Result<Value, EvalRefusal>
 }
 
 fn small_parts(alloc: Global, inputs: &Vals, n: u32, attempt: u32) -> Result<JobParts, Mem>
-    ensures { IfOk result (λ p. p ≡ small_parts inputs.now n attempt) }
+    ensures parts { IfOk result (λ p. p ≡ small_parts inputs.now n attempt) }
+    ensures fit { OnOk result (IsFit (list (plains_of inputs.now))) }
 {
     Ok(JobParts {
         process: txt(alloc, "P")?,
@@ -67,7 +70,8 @@ fn small_job(
 ) -> Result<Job, TaskRefusal>
     requires first { 1 ≤ attempt }
     requires last { attempt ≤ 101 }
-    ensures { AnswersTask (small_job node inputs.now n attempt) result }
+    ensures answer { AnswersTask (small_job node inputs.now n attempt) result }
+    ensures fit { OnOk result (IsFit (list (plains_of inputs.now))) }
 {
     match node {
         2 => {
@@ -143,7 +147,8 @@ fn first_job<Q: Rules>(
     inputs: &Vals,
 ) -> Result<Job, TaskRefusal>
     requires { Q.keeps rules.now }
-    ensures { AnswersTask ((Q.meaning rules.now).job node inputs.now 0 1) result }
+    ensures answer { AnswersTask ((Q.meaning rules.now).job node inputs.now 0 1) result }
+    ensures fit { OnOk result (IsFit (list (plains_of inputs.now))) }
 {
     rules.job(alloc, node, inputs, 0, 1)
 }
@@ -231,7 +236,8 @@ fn rules_by_three_closures(rt: HostRuntime) -> Result<(), Fail> {
         |alloc: Global, node: u32, inputs: &Vals, n: u32, attempt: u32| -> Result<Job, TaskRefusal>
             requires first { 1 ≤ attempt }
             requires last { attempt ≤ 101 }
-            ensures { AnswersTask (small_job node inputs.now n attempt) result }
+            ensures answer { AnswersTask (small_job node inputs.now n attempt) result }
+            ensures fit { OnOk result (IsFit (list (plains_of inputs.now))) }
         { small_job(alloc, node, inputs, n, attempt) },
         |alloc: Global, node: u32, inputs: &Vals, attempt: u32, report: &Report| -> Result<
             Outputs,
