@@ -183,10 +183,10 @@ output env words files h (Some before) (Some after) (Err first) e g early k w =
 
 -- ---- the whole call
 
-module _ {L D : Type 0} (Genuine : D → Type 0) (job_of : D → List ℕ) (report_by : D → Report) (number : D → ℕ) (run_count : L → ℕ) (world : L → Option World) where
+module _ {L D : Type 0} (Genuine : D → Type 0) (job_of : D → List ℕ) (report_by : D → Report) (run_count : L → ℕ) (world : L → Option World) where
   all_over : (env : Env) (words : List (List ℕ)) (f : Files) (h : List Event) (kept : List D) (lanes_old lanes_new : List L) (old new : Option (List ℕ)) (r : Result Output End) (e : End)
-      → HasWorked env Genuine job_of report_by number run_count world words f h kept lanes_old lanes_new r → IfErr r IsRefusal → EndsAs r e → Took old new r e
-      → EndsOver env Genuine job_of report_by number run_count world words f h kept lanes_old lanes_new old new e
+      → HasWorked env Genuine job_of report_by run_count world words f h kept lanes_old lanes_new r → IfErr r IsRefusal → EndsAs r e → Took old new r e
+      → EndsOver env Genuine job_of report_by run_count world words f h kept lanes_old lanes_new old new e
   all_over env words f h kept lanes_old lanes_new old new r e has early k w =
       let end_is = ended env words f h r e has.gives k in
       record {
@@ -198,12 +198,12 @@ module _ {L D : Type 0} (Genuine : D → Type 0) (job_of : D → List ℕ) (repo
       }
 
   pub over : (titles : List (List ℕ)) (answer : ℕ → List Plain → Option Plain) (told : Option Files) (words : List (List ℕ)) (h : List Event) (kept : List D) (lanes_old lanes_new : List L) (old new : Option (List ℕ)) (r : Result Output End) (e : End)
-      → ((f : Files) × Tells told f × OverBuilt titles answer (λ env. HasWorked env Genuine job_of report_by number run_count world words f h kept lanes_old lanes_new r)) → IfErr r IsRefusal → EndsAs r e → Took old new r e
-      → (f : Files) × Tells told f × OverBuilt titles answer (λ env. EndsOver env Genuine job_of report_by number run_count world words f h kept lanes_old lanes_new old new e)
+      → ((f : Files) × Tells told f × OverBuilt titles answer (λ env. HasWorked env Genuine job_of report_by run_count world words f h kept lanes_old lanes_new r)) → IfErr r IsRefusal → EndsAs r e → Took old new r e
+      → (f : Files) × Tells told f × OverBuilt titles answer (λ env. EndsOver env Genuine job_of report_by run_count world words f h kept lanes_old lanes_new old new e)
   over titles answer told words h kept lanes_old lanes_new old new r e worked early k w =
       let f = worked.0 in (
         f,
         worked.1,
-        over_same titles answer (λ env. HasWorked env Genuine job_of report_by number run_count world words f h kept lanes_old lanes_new r) (λ env. EndsOver env Genuine job_of report_by number run_count world words f h kept lanes_old lanes_new old new e)
+        over_same titles answer (λ env. HasWorked env Genuine job_of report_by run_count world words f h kept lanes_old lanes_new r) (λ env. EndsOver env Genuine job_of report_by run_count world words f h kept lanes_old lanes_new old new e)
             (λ ps has. all_over (bare titles answer ps) words f h kept lanes_old lanes_new old new r e has early k w) worked.2,
       )

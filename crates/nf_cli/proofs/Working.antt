@@ -39,15 +39,15 @@ text_gives : (tree : Tree) (h : List Event) (r : Result Output End) → IsTextOr
 text_gives tree h (Ok o) is = is
 text_gives tree h (Err e) is = subst (λ e. OutcomeGives (formats tree) h (Err e)) (sym is) tt
 
-module _ {L D : Type 0} (Genuine : D → Type 0) (job_of : D → List ℕ) (report_by : D → Report) (number : D → ℕ) (run_count : L → ℕ) (world : L → Option World) where
+module _ {L D : Type 0} (Genuine : D → Type 0) (job_of : D → List ℕ) (report_by : D → Report) (run_count : L → ℕ) (world : L → Option World) where
   -- lanes that ran nothing
   abbrev pub Idle : List L → Type 0
-  Idle ls = (form : Form) → AreBooked Genuine job_of report_by number run_count world form [] [] ls ls
+  Idle ls = (form : Form) → AreBooked Genuine job_of report_by run_count world form [] [] ls ls
 
   pub idle_as : (ls ms : List L) → ms ≡ ls → Idle ms → Idle ls
   idle_as ls ms same free = subst Idle same free
 
-  idle : (ls : List L) → Idle ls → (o : Outcome) → RanTasks Genuine job_of report_by number run_count world o [] [] ls ls
+  idle : (ls : List L) → Idle ls → (o : Outcome) → RanTasks Genuine job_of report_by run_count world o [] [] ls ls
   idle ls free (runs form) = (tt, free form)
   idle ls free (formats t) = (refl, refl, refl)
   idle ls free (misused f) = (refl, refl, refl)
@@ -57,11 +57,11 @@ module _ {L D : Type 0} (Genuine : D → Type 0) (job_of : D → List ℕ) (repo
   idle ls free (unbuilt p) = (refl, refl, refl)
 
   pub nothing_worked : (env : Env) (words : List (List ℕ)) (files : Files) (ls : List L) → Idle ls → (e : End) → Gives env words files (Err e)
-      → (h : List Event) (kept : List D) (r : Result Output End) → h ≡ [] → kept ≡ [] → r ≡ Err e → HasWorked env Genuine job_of report_by number run_count world words files h kept ls ls r
+      → (h : List Event) (kept : List D) (r : Result Output End) → h ≡ [] → kept ≡ [] → r ≡ Err e → HasWorked env Genuine job_of report_by run_count world words files h kept ls ls r
   nothing_worked env words files ls free e g h kept r no_events no_dones is =
-      subst (λ r. HasWorked env Genuine job_of report_by number run_count world words files h kept ls ls r) (sym is)
-      (subst (λ k. HasWorked env Genuine job_of report_by number run_count world words files h k ls ls (Err e)) (sym no_dones)
-      (subst (λ h. HasWorked env Genuine job_of report_by number run_count world words files h [] ls ls (Err e)) (sym no_events)
+      subst (λ r. HasWorked env Genuine job_of report_by run_count world words files h kept ls ls r) (sym is)
+      (subst (λ k. HasWorked env Genuine job_of report_by run_count world words files h k ls ls (Err e)) (sym no_dones)
+      (subst (λ h. HasWorked env Genuine job_of report_by run_count world words files h [] ls ls (Err e)) (sym no_events)
       (record { ran = λ o means. idle ls free o; gives = g })))
 
   work_gives : (env : Env) (words : List (List ℕ)) (files : Files) (outcome : Outcome) (h : List Event) (r : Result Output End) → IsOutcome env words files outcome → OutcomeGives outcome h r → WorkGives env words files h r
@@ -69,16 +69,16 @@ module _ {L D : Type 0} (Genuine : D → Type 0) (job_of : D → List ℕ) (repo
   work_gives env words files outcome h (Err e) is g = as_due outcome is g
 
   pub request_worked : (env : Env) (words : List (List ℕ)) (files : Files) (q : Request) (h : List Event) (kept : List D) (old new : List L) (r : Result Output End) → Gives env words files (Ok q)
-      → HasDone Genuine job_of report_by number run_count world (outcome_of env.titles env.answer q) h kept old new r → HasWorked env Genuine job_of report_by number run_count world words files h kept old new r
+      → HasDone Genuine job_of report_by run_count world (outcome_of env.titles env.answer q) h kept old new r → HasWorked env Genuine job_of report_by run_count world words files h kept old new r
   request_worked env words files q h kept old new r is done =
       record {
-        ran = λ o means. subst (λ o. RanTasks Genuine job_of report_by number run_count world o h kept old new) (sym (is.only o means)) done.ran;
+        ran = λ o means. subst (λ o. RanTasks Genuine job_of report_by run_count world o h kept old new) (sym (is.only o means)) done.ran;
         gives = work_gives env words files (outcome_of env.titles env.answer q) h r is done.gives;
       }
 
   -- `fmt FILE` asks for no run
   pub fmt_idles : (env : Env) (words : List (List ℕ)) (files : Files) (q : Request) (h : List Event) (kept : List D) (old new : List L) (r : Result Output End) → Gives env words files (Ok q)
-      → HasDone Genuine job_of report_by number run_count world (outcome_of env.titles env.answer q) h kept old new r → FmtRunsNothing words h kept old new
+      → HasDone Genuine job_of report_by run_count world (outcome_of env.titles env.answer q) h kept old new r → FmtRunsNothing words h kept old new
   fmt_idles env words files (request.Run plan) h kept old new r is done file formats_it = absurd (no_run env words files file (view_plan env.titles env.answer plan) formats_it is.means)
   fmt_idles env words files (request.Format s) h kept old new r is done file formats_it = done.ran
 
@@ -86,7 +86,7 @@ module _ {L D : Type 0} (Genuine : D → Type 0) (job_of : D → List ℕ) (repo
   nothing_idles words h kept ls no_events no_dones file formats_it = (no_events, no_dones, refl)
 
   pub text_done : (tree : Tree) (h : List Event) (kept : List D) (ls : List L) (given r : Result Output End) → h ≡ [] → kept ≡ [] → r ≡ given → IsTextOrEnd tree given
-      → HasDone Genuine job_of report_by number run_count world (formats tree) h kept ls ls r
+      → HasDone Genuine job_of report_by run_count world (formats tree) h kept ls ls r
   text_done tree h kept ls given r no_events no_dones is text = record { ran = (no_events, no_dones, refl); gives = subst (OutcomeGives (formats tree) h) (sym is) (text_gives tree h given text) }
 
 -- ---- how a run ends
@@ -103,9 +103,9 @@ run_gives form h (Ok items) (Err e) g is = subst (RunEnds form h) (sym is) tt
 run_gives form h (Err f) (Ok o) g is = absurd is
 run_gives form h (Err f) (Err e) g is = subst (RunEnds form h) (sym is) (run_ends form h f g)
 
-pub run_done : {L D : Type 0} (Genuine : D → Type 0) (job_of : D → List ℕ) (report_by : D → Report) (number : D → ℕ) (run_count : L → ℕ) (world : L → Option World)
+pub run_done : {L D : Type 0} (Genuine : D → Type 0) (job_of : D → List ℕ) (report_by : D → Report) (run_count : L → ℕ) (world : L → Option World)
     (form : Form) (h : List Event) (kept : List D) (old new : List L) (outcome : Result (List Plain) RunFault) (r : Result Output End)
-    → IsHistoryOf form h → AreBooked Genuine job_of report_by number run_count world form h kept old new → RunGives form h outcome → IsOutputOrEnd outcome h r
-    → HasDone Genuine job_of report_by number run_count world (runs form) h kept old new r
-run_done Genuine job_of report_by number run_count world form h kept old new outcome r lawful booked gives is =
+    → IsHistoryOf form h → AreBooked Genuine job_of report_by run_count world form h kept old new → RunGives form h outcome → IsOutputOrEnd outcome h r
+    → HasDone Genuine job_of report_by run_count world (runs form) h kept old new r
+run_done Genuine job_of report_by run_count world form h kept old new outcome r lawful booked gives is =
     record { ran = (lawful, booked); gives = run_gives form h outcome r gives is }

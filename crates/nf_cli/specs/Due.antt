@@ -135,10 +135,10 @@ abbrev pub RanNothing : {L D : Type 0} → List Event → List D → List L → 
 RanNothing h kept old new = (h ≡ []) × (kept ≡ []) × (new ≡ old)
 
 -- if a script was run, the history is one of this script and the lanes ran what it says; otherwise nothing was run
-abbrev pub RanTasks : {L D : Type 0} → (D → Type 0) → (D → List ℕ) → (D → Report) → (D → ℕ) → (L → ℕ) → (L → Option World) → Outcome → List Event → List D → List L → List L → Type 0
-RanTasks Genuine job_of report_by number run_count world (runs form) h kept old new =
-    IsHistoryOf form h × AreBooked Genuine job_of report_by number run_count world form h kept old new
-RanTasks Genuine job_of report_by number run_count world _ h kept old new = RanNothing h kept old new
+abbrev pub RanTasks : {L D : Type 0} → (D → Type 0) → (D → List ℕ) → (D → Report) → (L → ℕ) → (L → Option World) → Outcome → List Event → List D → List L → List L → Type 0
+RanTasks Genuine job_of report_by run_count world (runs form) h kept old new =
+    IsHistoryOf form h × AreBooked Genuine job_of report_by run_count world form h kept old new
+RanTasks Genuine job_of report_by run_count world _ h kept old new = RanNothing h kept old new
 
 -- `fmt FILE` runs nothing
 abbrev pub FmtRunsNothing : {L D : Type 0} → List (List ℕ) → List Event → List D → List L → List L → Type 0
@@ -190,13 +190,13 @@ Tells None files = Unit {0}
 Tells (Some told) files = files ≡ told
 
 -- what a call does over these files, and how it ends
-pub record EndsOver {L D : Type 0} (env : Env) (Genuine : D → Type 0) (job_of : D → List ℕ) (report_by : D → Report) (number : D → ℕ) (run_count : L → ℕ) (world : L → Option World) (words : List (List ℕ)) (files : Files) (h : List Event) (kept : List D) (lanes_old lanes_new : List L) (old new : Option (List ℕ)) (e : End) : Type 0 where
+pub record EndsOver {L D : Type 0} (env : Env) (Genuine : D → Type 0) (job_of : D → List ℕ) (report_by : D → Report) (run_count : L → ℕ) (world : L → Option World) (words : List (List ℕ)) (files : Files) (h : List Event) (kept : List D) (lanes_old lanes_new : List L) (old new : Option (List ℕ)) (e : End) : Type 0 where
   -- the end has its cause
   pub ended : Ended env words files h e
   -- and each cause its end, unless the host failed or memory ran out
   pub complete : (outcome : Outcome) → Means env words files outcome → MayEnd outcome h e
   -- the history is lawful, and the lanes ran each of its tasks once
-  pub ran : (outcome : Outcome) → Means env words files outcome → RanTasks Genuine job_of report_by number run_count world outcome h kept lanes_old lanes_new
+  pub ran : (outcome : Outcome) → Means env words files outcome → RanTasks Genuine job_of report_by run_count world outcome h kept lanes_old lanes_new
   -- if the history stops, the call ends by that stop
   pub stopped : (outcome : Outcome) → Means env words files outcome → EndsByStop outcome h e
   -- what was written is the report under the history's outcomes, or the canonical text

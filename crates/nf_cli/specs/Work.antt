@@ -127,8 +127,8 @@ OutcomeGives outcome h (Ok o) = IsDue outcome h o
 OutcomeGives outcome h (Err e) = MayEnd outcome h e
 
 -- what a call with this outcome runs, and its output
-pub record HasDone {L D : Type 0} (Genuine : D → Type 0) (job_of : D → List ℕ) (report_by : D → Report) (number : D → ℕ) (run_count : L → ℕ) (world : L → Option World) (outcome : Outcome) (h : List Event) (kept : List D) (old new : List L) (r : Result Output End) : Type 0 where
-  pub ran : RanTasks Genuine job_of report_by number run_count world outcome h kept old new
+pub record HasDone {L D : Type 0} (Genuine : D → Type 0) (job_of : D → List ℕ) (report_by : D → Report) (run_count : L → ℕ) (world : L → Option World) (outcome : Outcome) (h : List Event) (kept : List D) (old new : List L) (r : Result Output End) : Type 0 where
+  pub ran : RanTasks Genuine job_of report_by run_count world outcome h kept old new
   pub gives : OutcomeGives outcome h r
 
 -- the output, or how the call ends
@@ -137,8 +137,8 @@ WorkGives env words files h (Ok o) = (outcome : Outcome) × IsOutcome env words 
 WorkGives env words files h (Err e) = Ended env words files h e
 
 -- the call up to its writing
-pub record HasWorked {L D : Type 0} (env : Env) (Genuine : D → Type 0) (job_of : D → List ℕ) (report_by : D → Report) (number : D → ℕ) (run_count : L → ℕ) (world : L → Option World) (words : List (List ℕ)) (files : Files) (h : List Event) (kept : List D) (old new : List L) (r : Result Output End) : Type 0 where
-  pub ran : (outcome : Outcome) → Means env words files outcome → RanTasks Genuine job_of report_by number run_count world outcome h kept old new
+pub record HasWorked {L D : Type 0} (env : Env) (Genuine : D → Type 0) (job_of : D → List ℕ) (report_by : D → Report) (run_count : L → ℕ) (world : L → Option World) (words : List (List ℕ)) (files : Files) (h : List Event) (kept : List D) (old new : List L) (r : Result Output End) : Type 0 where
+  pub ran : (outcome : Outcome) → Means env words files outcome → RanTasks Genuine job_of report_by run_count world outcome h kept old new
   pub gives : WorkGives env words files h r
 
 -- ---- the writing

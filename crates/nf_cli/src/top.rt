@@ -57,7 +57,7 @@ pub fn nf_main<H: Host, N: Natives, L: Lane, O: Sink>(
     // - If the history stops, the call ends by that stop.
     // - What was written is the report of what the script means under the history's outcomes, and the count of its Start
     //   events; or, for `fmt`, the canonical text of the tree that the script's tokens spell.
-    ensures over { (f : Files) × Tells (H.files host.old) f × OverBuilt (N.titles natives.now) (N.answer natives.now) (λ env. EndsOver env L.Done.genuine L.Done.job L.Done.told L.Done.number L.runs L.world (map string_bytes words.now) f result.history.items result.kept.dones.items lanes.items result.lanes.items (O.written out.old) (O.written out.new) result.end) }
+    ensures over { (f : Files) × Tells (H.files host.old) f × OverBuilt (N.titles natives.now) (N.answer natives.now) (λ env. EndsOver env L.Done.genuine L.Done.job L.Done.told L.runs L.world (map string_bytes words.now) f result.history.items result.kept.dones.items lanes.items result.lanes.items (O.written out.old) (O.written out.new) result.end) }
     // Every end but Ok, SinkFault and Mem writes its error line, or the front of it if the sink failed. Mem writes nothing.
     ensures line { IfSome (O.written out.old) (λ before. IfSome (O.written out.new) (λ after. WroteLine result.end (Rose (O.faults out.old) (O.faults out.new)) before after)) }
 

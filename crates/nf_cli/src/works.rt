@@ -60,7 +60,7 @@ pub fn work_of_words<H: Host, N: Natives, L: Lane>(
     requires natives { N.keeps natives.now }
     requires some { 1 ≤ length lanes.old.items }
     requires room { All (λ l. L.runs l < 2 ^ 62) lanes.old.items }
-    ensures worked { (f : Files) × Tells (H.files host.old) f × OverBuilt (N.titles natives.now) (N.answer natives.now) (λ env. HasWorked env L.Done.genuine L.Done.job L.Done.told L.Done.number L.runs L.world (map string_bytes words.now) f result.history.items result.kept.dones.items lanes.old.items lanes.new.items result.outcome) }
+    ensures worked { (f : Files) × Tells (H.files host.old) f × OverBuilt (N.titles natives.now) (N.answer natives.now) (λ env. HasWorked env L.Done.genuine L.Done.job L.Done.told L.runs L.world (map string_bytes words.now) f result.history.items result.kept.dones.items lanes.old.items lanes.new.items result.outcome) }
     ensures idle { FmtRunsNothing (map string_bytes words.now) result.history.items result.kept.dones.items lanes.old.items lanes.new.items }
     ensures refusal { IfErr result.outcome IsRefusal }
     ensures runs { sum_by L.runs lanes.new.items ≡ sum_by L.runs lanes.old.items + starts_of result.history.items }
@@ -104,7 +104,7 @@ fn work_of_request<N: Natives, L: Lane>(
     requires natives { N.keeps natives.now }
     requires some { 1 ≤ length lanes.old.items }
     requires room { All (λ l. L.runs l < 2 ^ 62) lanes.old.items }
-    ensures done { HasDone L.Done.genuine L.Done.job L.Done.told L.Done.number L.runs L.world (outcome_of (N.titles natives.now) (N.answer natives.now) request.now) result.history.items result.kept.dones.items lanes.old.items lanes.new.items result.outcome }
+    ensures done { HasDone L.Done.genuine L.Done.job L.Done.told L.runs L.world (outcome_of (N.titles natives.now) (N.answer natives.now) request.now) result.history.items result.kept.dones.items lanes.old.items lanes.new.items result.outcome }
     ensures refusal { IfErr result.outcome IsRefusal }
     ensures no_host { IfErr result.outcome (λ e. OnHostFault e ⊥) }
     ensures runs { sum_by L.runs lanes.new.items ≡ sum_by L.runs lanes.old.items + starts_of result.history.items }
@@ -139,7 +139,7 @@ fn work_of_plan<N: Natives, L: Lane>(
     requires natives { N.keeps natives.now }
     requires some { 1 ≤ length lanes.old.items }
     requires room { All (λ l. L.runs l < 2 ^ 62) lanes.old.items }
-    ensures done { HasDone L.Done.genuine L.Done.job L.Done.told L.Done.number L.runs L.world (runs (view_plan (N.titles natives.now) (N.answer natives.now) plan.now)) result.history.items result.kept.dones.items lanes.old.items lanes.new.items result.outcome }
+    ensures done { HasDone L.Done.genuine L.Done.job L.Done.told L.runs L.world (runs (view_plan (N.titles natives.now) (N.answer natives.now) plan.now)) result.history.items result.kept.dones.items lanes.old.items lanes.new.items result.outcome }
     ensures refusal { IfErr result.outcome IsRefusal }
     ensures no_host { IfErr result.outcome (λ e. OnHostFault e ⊥) }
     ensures runs { sum_by L.runs lanes.new.items ≡ sum_by L.runs lanes.old.items + starts_of result.history.items }

@@ -9,7 +9,7 @@ untold : (world : Option World) → IfSome world (λ w. Unit {0})
 untold None = tt
 untold (Some w) = tt
 
-pub nothing_booked : {L D : Type 0} (Genuine : D → Type 0) (job_of : D → List ℕ) (report_by : D → Report) (number : D → ℕ) (runs : L → ℕ) (world : L → Option World) (form : Form) (ls : List L)
-    → 1 ≤ length ls → AreBooked Genuine job_of report_by number runs world form [] [] ls ls
-nothing_booked Genuine job_of report_by number runs world form [] some = absurd (omega (arith, some))
-nothing_booked Genuine job_of report_by number runs world form (l ∷ ls) some = (record { runs = omega arith; dones = tt; numbers = omega arith; of_world = untold (world l) }, refl)
+pub nothing_booked : {L D : Type 0} (Genuine : D → Type 0) (job_of : D → List ℕ) (report_by : D → Report) (runs : L → ℕ) (world : L → Option World) (form : Form) (ls : List L)
+    → 1 ≤ length ls → AreBooked Genuine job_of report_by runs world form [] [] ls ls
+nothing_booked Genuine job_of report_by runs world form [] some = absurd (omega (arith, some))
+nothing_booked Genuine job_of report_by runs world form (l ∷ ls) some = (record { runs = omega arith; dones = tt; of_world = untold (world l) }, refl)

@@ -98,11 +98,11 @@ RunGives form h (Err e) = RunFails form h e
 -- ---- its lanes
 
 -- the first lane ran the tasks, and gave a Done of its own for each Finish; the other lanes are unchanged
-abbrev pub AreBooked : {L D : Type 0} → (D → Type 0) → (D → List ℕ) → (D → Report) → (D → ℕ) → (L → ℕ) → (L → Option World) → Form → List Event → List D → List L → List L → Type 0
-AreBooked Genuine job_of report_by number runs world form h kept (l ∷ ls) (m ∷ ms) =
-    IsBooked Genuine job_of report_by number (rules_of form) (queue_of form) h kept (world l) (runs l) (runs m) × (ms ≡ ls)
-AreBooked Genuine job_of report_by number runs world form h kept [] ms = ⊥
-AreBooked Genuine job_of report_by number runs world form h kept (l ∷ ls) [] = ⊥
+abbrev pub AreBooked : {L D : Type 0} → (D → Type 0) → (D → List ℕ) → (D → Report) → (L → ℕ) → (L → Option World) → Form → List Event → List D → List L → List L → Type 0
+AreBooked Genuine job_of report_by runs world form h kept (l ∷ ls) (m ∷ ms) =
+    IsBooked Genuine job_of report_by (rules_of form) (queue_of form) h kept (world l) (runs l) (runs m) × (ms ≡ ls)
+AreBooked Genuine job_of report_by runs world form h kept [] ms = ⊥
+AreBooked Genuine job_of report_by runs world form h kept (l ∷ ls) [] = ⊥
 
 -- no count fell, place by place
 abbrev pub NoneFell : {L : Type 0} → (L → ℕ) → List L → List L → Type 0

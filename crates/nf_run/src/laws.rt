@@ -9,6 +9,6 @@ use nf_lane::Lane;
 /// Unchanged lanes fit the empty history of any form, and none of their counts fell.
 pub fn nothing_is_booked<L: Lane>(lanes: &[L])
     requires { 1 ≤ length lanes.now }
-    ensures booked { (form : Form) → AreBooked L.Done.genuine L.Done.job L.Done.told L.Done.number L.runs L.world form [] [] lanes.now lanes.now }
+    ensures booked { (form : Form) → AreBooked L.Done.genuine L.Done.job L.Done.told L.runs L.world form [] [] lanes.now lanes.now }
     ensures none_fell { NoneFell L.faults lanes.now lanes.now }
 {}

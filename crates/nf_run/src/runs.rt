@@ -68,7 +68,7 @@ pub fn run_plan<N: Natives, L: Lane>(
     // meaning. On `Lane` the history stops by the lane.
     ensures gives { RunGives (view_plan (N.titles natives.now) (N.answer natives.now) plan.now) result.history.items result.outcome }
     // Each Start is one run of the first lane, and each Finish has a job of its own that was run.
-    ensures booked { AreBooked L.Done.genuine L.Done.job L.Done.told L.Done.number L.runs L.world (view_plan (N.titles natives.now) (N.answer natives.now) plan.now) result.history.items result.kept.dones.items lanes.old.items lanes.new.items }
+    ensures booked { AreBooked L.Done.genuine L.Done.job L.Done.told L.runs L.world (view_plan (N.titles natives.now) (N.answer natives.now) plan.now) result.history.items result.kept.dones.items lanes.old.items lanes.new.items }
     ensures runs { sum_by L.runs lanes.new.items ≡ sum_by L.runs lanes.old.items + starts_of result.history.items }
     ensures worlds { map L.world lanes.new.items ≡ map L.world lanes.old.items }
     // If a lane stopped the run, it counted a fault.
@@ -137,7 +137,7 @@ fn run_tasks<L: Lane>(alloc: Global, spec: &ProcessSpec, items: &Vals, lanes: &m
     requires room { All (λ l. L.runs l < 2 ^ 62) lanes.old.items }
     ensures lawful { IsHistoryOf (tasks spec.now items.now) result.history.items }
     ensures gives { RunGives (tasks spec.now items.now) result.history.items result.outcome }
-    ensures booked { AreBooked L.Done.genuine L.Done.job L.Done.told L.Done.number L.runs L.world (tasks spec.now items.now) result.history.items result.kept.dones.items lanes.old.items lanes.new.items }
+    ensures booked { AreBooked L.Done.genuine L.Done.job L.Done.told L.runs L.world (tasks spec.now items.now) result.history.items result.kept.dones.items lanes.old.items lanes.new.items }
     ensures runs { sum_by L.runs lanes.new.items ≡ sum_by L.runs lanes.old.items + starts_of result.history.items }
     ensures worlds { map L.world lanes.new.items ≡ map L.world lanes.old.items }
     ensures lane_fault { IfErr result.outcome (λ e. OnLane e (OneRose L.faults lanes.old.items lanes.new.items)) }

@@ -9,7 +9,7 @@ returns-clause-over g c =
     let D = g.L.Done.Finished in
     let l = g.L.Lane in
     let work = c.work_of_words-history in
-    over D.genuine D.job D.told D.number l.runs l.world (g.N.Natives.titles c.args.natives.now) (g.N.Natives.answer c.args.natives.now) (g.H.Host.files c.args.host.now) (map string_bytes c.args.words.now) work.result.history.items work.result.kept.dones.items c.args.lanes.items work.new.lanes.items
+    over D.genuine D.job D.told l.runs l.world (g.N.Natives.titles c.args.natives.now) (g.N.Natives.answer c.args.natives.now) (g.H.Host.files c.args.host.now) (map string_bytes c.args.words.now) work.result.history.items work.result.kept.dones.items c.args.lanes.items work.new.lanes.items
     (g.O.Sink.written c.args.out.now) (g.O.Sink.written c.write-end.new.out) work.result.outcome c.write-end.result work.ensures.worked work.ensures.refusal c.write-end.ensures.ends c.write-end.ensures.output
 
 pub returns-clause-host_fault : goal.returns-clause-host_fault

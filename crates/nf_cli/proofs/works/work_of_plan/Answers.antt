@@ -10,5 +10,5 @@ returns-clause-done g c =
     let l = g.L.Lane in
     let ran = c.run_plan-history in
     let r = c.output_or_end-outcome.result in
-    run_done D.genuine D.job D.told D.number l.runs l.world (view_plan (g.N.Natives.titles c.args.natives.now) (g.N.Natives.answer c.args.natives.now) c.args.plan.now) ran.result.history.items ran.result.kept.dones.items c.args.lanes.now.items ran.new.lanes.items
+    run_done D.genuine D.job D.told l.runs l.world (view_plan (g.N.Natives.titles c.args.natives.now) (g.N.Natives.answer c.args.natives.now) c.args.plan.now) ran.result.history.items ran.result.kept.dones.items c.args.lanes.now.items ran.new.lanes.items
     ran.result.outcome r ran.ensures.lawful ran.ensures.booked ran.ensures.gives (subst (λ h. IsOutputOrEnd ran.result.outcome h r) c.deref.ensures.value c.output_or_end-outcome.ensures)

@@ -15,7 +15,7 @@ returns-in-Ok-clause-worked g c =
       (
         built.0,
         built.1,
-        request_worked D.genuine D.job D.told D.number l.runs l.world (bare (g.N.Natives.titles c.args.natives.now) (g.N.Natives.answer c.args.natives.now) built.0)
+        request_worked D.genuine D.job D.told l.runs l.world (bare (g.N.Natives.titles c.args.natives.now) (g.N.Natives.answer c.args.natives.now) built.0)
             (map string_bytes c.args.words.now) w.0 c.in-Ok.request work.result.history.items work.result.kept.dones.items c.args.lanes.now.items work.new.lanes.items work.result.outcome built.2 work.ensures.done,
       ),
     )
@@ -27,7 +27,7 @@ returns-in-Ok-clause-idle g c =
     let work = c.work_of_request in
     let w = c.in-Ok.ensures.gives in
     let built = w.2 in
-    fmt_idles D.genuine D.job D.told D.number l.runs l.world (bare (g.N.Natives.titles c.args.natives.now) (g.N.Natives.answer c.args.natives.now) built.0)
+    fmt_idles D.genuine D.job D.told l.runs l.world (bare (g.N.Natives.titles c.args.natives.now) (g.N.Natives.answer c.args.natives.now) built.0)
     (map string_bytes c.args.words.now) w.0 c.in-Ok.request work.result.history.items work.result.kept.dones.items c.args.lanes.now.items work.new.lanes.items work.result.outcome built.2 work.ensures.done
 
 pub returns-in-Err-clause-worked : goal.returns-in-Err-clause-worked
@@ -43,8 +43,8 @@ returns-in-Err-clause-worked g c =
       (
         built.0,
         built.1,
-        nothing_worked D.genuine D.job D.told D.number l.runs l.world (bare (g.N.Natives.titles c.args.natives.now) (g.N.Natives.answer c.args.natives.now) built.0)
-            (map string_bytes c.args.words.now) w.0 lanes (idle_as D.genuine D.job D.told D.number l.runs l.world lanes c.as_slice.result.now c.as_slice.ensures.value c.nothing_is_booked.ensures.booked)
+        nothing_worked D.genuine D.job D.told l.runs l.world (bare (g.N.Natives.titles c.args.natives.now) (g.N.Natives.answer c.args.natives.now) built.0)
+            (map string_bytes c.args.words.now) w.0 lanes (idle_as D.genuine D.job D.told l.runs l.world lanes c.as_slice.result.now c.as_slice.ensures.value c.nothing_is_booked.ensures.booked)
             c.in-Err.end built.2 ran.result.history.items ran.result.kept.dones.items ran.result.outcome ran.ensures.history ran.ensures.kept ran.ensures.outcome,
       ),
     )
