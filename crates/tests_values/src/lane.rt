@@ -1,6 +1,7 @@
 //! Lanes over a table, over a real shell, and over processes that fail.
 
-ghost use Rattle.std.specs.Prelude.{◌≡◌, ◌+◌, ◌<◌, ◌^◌};
+ghost use Rattle.std.specs.Prelude.{◌≡◌, ◌+◌, ◌<◌, ◌^◌, IfOk};
+ghost use Rattle.nf_lane.specs.TableLane.{runs_of};
 
 use crate::makers::job_parts;
 use nf_job::{Captured, FileRefs, Found, Job, Report, make_job};
@@ -78,57 +79,80 @@ const DIGEST: Digest = Digest([7; 32]);
 
 // The report of a job that left one file, `x.txt`.
 fn leaves_a_file(alloc: Global) -> Result<Report, Mem> {
-    let file = FileRef {
-        name: Txt::of(String::from_str(alloc, "x.txt")?),
+    let name = Txt::of(String::from_str(alloc, "x.txt")?);
+    let mut files = Vec::new(alloc);
+    files.push(FileRef {
+        name,
         digest: DIGEST,
         len: 3,
-    };
-    let files = FileRefs::of(vec![in alloc; file]?);
+    })?;
+    let mut found = Vec::new(alloc);
+    found.push(FileRefs::of(files))?;
     Ok(Report {
         exit: 0,
         captured: Captured::None,
-        found: Found::of(vec![in alloc; files]?),
+        found: Found::of(found),
     })
 }
 
-// Whether a look at the report finds its files, or misses this one.
-fn looked<L: Lane>(alloc: Global, lane: &mut L, report: &Report, name: &str) -> (bool, bool) {
+// A lane over a table in which the job has this report.
+fn lane_of(alloc: Global, known: &Job, report: &Report) -> Result<TableLane, Mem>
+    ensures { IfOk result (λ l. runs_of l ≡ 0) }
+{
+    let text = known.text().copy()?;
+    let report = report.copy()?;
+    let mut entries = Vec::new(alloc);
+    entries.push((text, report))?;
+    Ok(TableLane::new(Table::of(entries), Vec::new(alloc)))
+}
+
+// What a look at the report finds: `t` for its files, `g` where it misses this one.
+fn looked<L: Lane>(alloc: Global, lane: &mut L, report: &Report, name: &str) -> char
+    ensures { L.runs lane.new ≡ L.runs lane.old }
+{
     match lane.look(alloc, report) {
-        Ok(Look::There(seen)) => (seen.report().exit == report.exit, false),
-        Ok(Look::Gone { name: missed }) => (false, missed.as_str() == name),
-        Err(_) => (false, false),
+        Ok(Look::There(seen)) if seen.report().exit == report.exit => 't',
+        Ok(Look::Gone { name: missed }) if missed.as_str() == name => 'g',
+        _ => '?',
     }
 }
 
-const THERE: (bool, bool) = (true, false);
-
-const GONE: (bool, bool) = (false, true);
+// What looks find before a run of the job, after it, and after its file was lost and stored again.
+fn looks(
+    alloc: Global,
+    lane: &mut TableLane,
+    known: &Job,
+    report: &Report,
+) -> Result<[char; 4], Mem>
+    requires { runs_of lane.old ≡ 0 }
+{
+    let before = looked(alloc, lane, report, "x.txt");
+    outcome(alloc, lane, known);
+    let after = looked(alloc, lane, report, "x.txt");
+    lane.lose(&DIGEST);
+    let lost = looked(alloc, lane, report, "x.txt");
+    lane.store(DIGEST)?;
+    let stored = looked(alloc, lane, report, "x.txt");
+    Ok([before, after, lost, stored])
+}
 
 #[test]
 fn a_table_lane_has_files_until_they_are_lost(rt: HostRuntime) -> Result<(), Fail> {
     let alloc = rt.alloc();
-    let report = leaves_a_file(alloc)?;
     let known = job(alloc, "a", false)?;
-    let table = Table::of(vec![in alloc; (known.text().copy()?, report.copy()?)]?);
-    let mut lane = TableLane::new(table, Vec::new(alloc));
-    assert_eq!(rt; looked(alloc, &mut lane, &report, "x.txt"), GONE);
-    assert_eq!(rt; outcome(alloc, &mut lane, &known), (0, UNWANTED));
-    assert_eq!(rt; looked(alloc, &mut lane, &report, "x.txt"), THERE);
-    lane.lose(&DIGEST);
-    assert_eq!(rt; looked(alloc, &mut lane, &report, "x.txt"), GONE);
-    lane.store(DIGEST)?;
-    assert_eq!(rt; looked(alloc, &mut lane, &report, "x.txt"), THERE);
+    let report = leaves_a_file(alloc)?;
+    let mut lane = lane_of(alloc, &known, &report)?;
+    let found = looks(alloc, &mut lane, &known, &report)?;
+    assert_eq!(rt; found, ['g', 't', 'g', 't']);
     Ok(())
 }
 
 #[test]
 fn a_lane_of_children_has_no_files(rt: HostRuntime) -> Result<(), Fail> {
     let alloc = rt.alloc();
-    let mut lane = ChildLane::new(&rt);
-    let without = exits(alloc, 0);
-    assert_eq!(rt; looked(alloc, &mut lane, &without, "x.txt"), THERE);
     let report = leaves_a_file(alloc)?;
-    assert_eq!(rt; looked(alloc, &mut lane, &report, "x.txt"), GONE);
+    let mut lane = ChildLane::new(&rt);
+    assert_eq!(rt; looked(alloc, &mut lane, &report, "x.txt"), 'g');
     Ok(())
 }
 
