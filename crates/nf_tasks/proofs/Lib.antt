@@ -1,0 +1,10 @@
+pub mod Adding
+pub mod Apart
+pub mod Blanks
+pub mod Clashes
+pub mod Decided
+pub mod Lines
+pub mod Missing
+pub mod Stored
+pub mod Takings
+pub mod Walks

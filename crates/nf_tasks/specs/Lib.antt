@@ -1,0 +1,14 @@
+pub mod Judged
+pub mod Inputs
+pub mod Taking
+pub mod Clash
+pub mod Script
+pub mod Task
+pub mod Meaning
+pub mod Memory
+pub mod Prepared
+pub mod Failure
+pub mod Emission
+pub mod Publishing
+pub mod Outcome
+pub mod Attempts

@@ -1,0 +1,27 @@
+//! The tasks of any process: what each attempt runs, and what its report amounts to. (`nf_process` does this for the processes of one input
+//! that scripts may have so far; it stays until whole scripts are run.)
+#![tactic(auto)]
+
+mod clash;
+mod emission;
+mod failure;
+mod formulas;
+mod inputs;
+mod jobs;
+pub mod laws;
+mod outputs;
+mod prepared;
+mod process;
+mod publishing;
+mod script;
+mod taking;
+mod target_list;
+mod task;
+
+pub use inputs::{Bound, Input, InputPart, InputShape, bind, seen_names};
+pub use jobs::{job, parts, staged, tag};
+pub use outputs::{emit_of, targets};
+pub use process::{
+    ErrorStrategy, Output, OutputPart, OutputShape, ProcessSpec, Publish, TaskScript,
+};
+pub use target_list::{Target, Targets};
