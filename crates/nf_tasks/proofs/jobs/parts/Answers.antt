@@ -6,8 +6,8 @@ use Rattle.nf_tasks.proofs.Adding.{first_value}
 use Rattle.nf_tasks.proofs.Stored.{wants_same}
 use Rattle.nf_tasks.proofs.jobs.parts.Goals as goal
 
-pub returns : goal.returns
-returns g c =
+pub returns-clause-parts : goal.returns-clause-parts
+returns-clause-parts g c =
     let n = program (g.N.Natives.titles c.args.natives.now) (g.N.Natives.answer c.args.natives.now) in
     let p = process_of n c.args.spec.now in
     let x = c.in_ok-prepared.prepared in
@@ -16,7 +16,7 @@ returns g c =
     ∙ (λ i. Ok (record {
       process = sym c.in_ok-process.ensures i;
       script = x.script;
-      inputs = sym c.in_ok-code.ensures i;
+      inputs = sym c.in_ok-code.ensures.code i;
       stdin = x.stdin;
       staged = x.staged;
       patterns = x.patterns;
@@ -24,3 +24,6 @@ returns g c =
       n = c.args.n;
       attempt = c.args.attempt;
     }))
+
+pub returns-clause-fit : goal.returns-clause-fit
+returns-clause-fit g c = c.in_ok-code.ensures.fit
