@@ -71,3 +71,14 @@ first_value (Ok y) more x h = ap more (ok_is h)
 pub adds_refused : {A B : Type 0} (before after : List B) (part : Judged (List B)) (due : Judged A) (e : TaskRefusal) → ((f : TaskFault) → part ≡ Err f → due ≡ Err f) → Adds before part after (Err e) → Answers due (Err e)
 adds_refused before after part due (refusal.Fault f) go h = go f h
 adds_refused before after part due refusal.Mem go h = tt
+
+-- a fault of what is added is that of what was due
+pub fault_due : {A : Type 0} (before : List A) (due : Judged (List A)) (f : TaskFault) → added before due ≡ Err f → due ≡ Err f
+fault_due before (Err e) f h = cc
+fault_due before (Ok xs) f h = cc
+
+-- a call's fault is that of a call around it; want of memory is free
+pub adds_refused_by : {A B : Type 0} (before after : List B) (start now : List A) (part : Judged (List B)) (due : Judged (List A)) (e : TaskRefusal)
+    → ((f : TaskFault) → part ≡ Err f → due ≡ Err f) → Adds before part after (Err e) → Adds start due now (Err e)
+adds_refused_by before after start now part due (refusal.Fault f) go h = go f h
+adds_refused_by before after start now part due refusal.Mem go h = tt
