@@ -55,7 +55,8 @@ small_outputs (suc (suc (suc node))) inputs attempt report = Err BadStdout
 abbrev pub small_rules : Rules
 small_rules = record { answer = small_answer; job = small_job; outputs = small_outputs }
 
-small_refused : (node : ℕ) (inputs : List Plain) (n attempt : ℕ) (report : Report) (fault : TaskFault) → (small_outputs node inputs attempt report ≡ Err fault) ↔ (small_job node inputs n attempt ≡ Err fault)
+small_refused : (node : ℕ) (inputs : List Plain) (n attempt : ℕ) (report : Report) (fault : TaskFault)
+    → (small_outputs node inputs attempt report ≡ Err fault) ↔ (small_job node inputs n attempt ≡ Err fault)
 small_refused zero inputs n attempt report fault = ((λ h. cc), (λ h. cc))
 small_refused (suc zero) inputs n attempt report fault = ((λ h. cc), (λ h. cc))
 small_refused (suc (suc zero)) inputs n attempt report fault = ((λ h. absurd (cc)), (λ h. absurd (cc)))
