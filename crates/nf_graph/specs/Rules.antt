@@ -1,5 +1,5 @@
 -- What the rules of a graph answer, what their answers owe each other, and which report of a task decides.
-use Rattle.std.specs.Prelude.{◌≡◌, ◌≢◌, ◌↔◌, ℕ, suc, List, [], ◌∷◌, true, get_or, Option, Some, None, Result, Ok, Err, is_ok}
+use Rattle.std.specs.Prelude.{◌≡◌, ◌≢◌, ℕ, suc, List, [], ◌∷◌, true, get_or, Option, Some, None, Result, Ok, Err, is_ok}
 use Rattle.nf_value.specs.Plain.{Plain}
 use Rattle.nf_value.specs.declared.fault.EvalFault.{EvalFault}
 use Rattle.nf_job.specs.declared.parts.JobParts.{JobParts}
@@ -8,7 +8,7 @@ use Rattle.nf_job.specs.declared.fault.TaskFault.{TaskFault}
 use Rattle.nf_job.specs.declared.emitted.Outputs.{Outputs}
 use Rattle.nf_job.specs.declared.emitted.Outputs.TheVariants.{Emits, Ignored, Failed, Again}
 
--- what a report amounts to: outputs, or the fault of an attempt without a job
+-- what a report amounts to: outputs, or a fault, as of an attempt without a job or of an output without a value
 abbrev pub Outs : Type 0
 Outs = Result Outputs TaskFault
 
@@ -25,9 +25,11 @@ pub record Rules : Type 0 where
 abbrev pub last_attempt : ℕ
 last_attempt = 101
 
--- A report amounts to a fault exactly where its attempt has no job, and to the same fault; and the last attempt isn't tried again
+-- Where an attempt has no job, each report amounts to the same fault (a report may amount to a fault of its own too); and the last attempt
+-- isn't tried again
 pub record IsRules (R : Rules) : Type 0 where
-  pub refused : (node : ℕ) (inputs : List Plain) (n attempt : ℕ) (report : Report) (fault : TaskFault) → (R.outputs node inputs attempt report ≡ Err fault) ↔ (R.job node inputs n attempt ≡ Err fault)
+  pub refused : (node : ℕ) (inputs : List Plain) (n attempt : ℕ) (report : Report) (fault : TaskFault)
+      → R.job node inputs n attempt ≡ Err fault → R.outputs node inputs attempt report ≡ Err fault
   pub last : (node : ℕ) (inputs : List Plain) (report : Report) → R.outputs node inputs last_attempt report ≢ Ok Again
 
 -- ---- what decides an instance

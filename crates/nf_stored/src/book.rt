@@ -7,6 +7,6 @@ pub trait RuleBook {
     /// The answers as functions.
     ghost told: { Self → graph.Rules };
 
-    /// A report is refused exactly where its attempt has no job, and the last attempt isn't tried again.
+    /// Where an attempt has no job, each report of it is refused by the same fault; and the last attempt isn't tried again.
     ghost proper: { (book : Self) → graph.IsRules (told book) };
 }

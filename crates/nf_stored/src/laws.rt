@@ -9,7 +9,7 @@ ghost use Rattle.nf_stored.specs.Attempts.{Attempt, NamesJobs, IsJobOf, TellsApa
 use crate::rules::Rules;
 use nf_job::laws::instances_are_told_apart;
 
-/// A report is refused exactly where its attempt has no job, and the last attempt isn't tried again.
+/// Where an attempt has no job, each report of it is refused by the same fault; and the last attempt isn't tried again.
 pub fn are_rules<Q: Rules>(rules: &Q)
     ensures { graph.IsRules (Q.meaning rules.now) }
 {}

@@ -66,6 +66,6 @@ pub trait Rules {
         requires { keeps self.now }
         ensures { AnswersTask ((meaning self.now).outputs node inputs.now attempt report.now) result };
 
-    /// A report is refused exactly where its attempt has no job, and the last attempt isn't tried again.
+    /// Where an attempt has no job, each report of it is refused by the same fault; and the last attempt isn't tried again.
     ghost proper: { (rules : Self) → graph.IsRules (meaning rules) };
 }

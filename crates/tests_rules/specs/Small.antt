@@ -1,5 +1,5 @@
 -- The rules of a small graph: node 1 gives each item back, and node 2 is a process whose first attempt is always tried again.
-use Rattle.std.specs.Prelude.{◌≡◌, ◌≢◌, ◌↔◌, ℕ, zero, suc, List, [], ◌∷◌, codes, false, None, Some, Result, Ok, Err}
+use Rattle.std.specs.Prelude.{◌≡◌, ◌≢◌, ℕ, zero, suc, List, [], ◌∷◌, codes, false, None, Some, Result, Ok, Err}
 use Rattle.nf_value.specs.Plain.{Plain, int}
 use Rattle.nf_value.specs.declared.fault.EvalFault.{EvalFault}
 use Rattle.nf_value.specs.declared.fault.EvalKind.TheVariants.{NoMethod}
@@ -56,11 +56,11 @@ abbrev pub small_rules : Rules
 small_rules = record { answer = small_answer; job = small_job; outputs = small_outputs }
 
 small_refused : (node : ℕ) (inputs : List Plain) (n attempt : ℕ) (report : Report) (fault : TaskFault)
-    → (small_outputs node inputs attempt report ≡ Err fault) ↔ (small_job node inputs n attempt ≡ Err fault)
-small_refused zero inputs n attempt report fault = ((λ h. cc), (λ h. cc))
-small_refused (suc zero) inputs n attempt report fault = ((λ h. cc), (λ h. cc))
-small_refused (suc (suc zero)) inputs n attempt report fault = ((λ h. absurd (cc)), (λ h. absurd (cc)))
-small_refused (suc (suc (suc node))) inputs n attempt report fault = ((λ h. cc), (λ h. cc))
+    → small_job node inputs n attempt ≡ Err fault → small_outputs node inputs attempt report ≡ Err fault
+small_refused zero inputs n attempt report fault = λ h. cc
+small_refused (suc zero) inputs n attempt report fault = λ h. cc
+small_refused (suc (suc zero)) inputs n attempt report fault = λ h. absurd (cc)
+small_refused (suc (suc (suc node))) inputs n attempt report fault = λ h. cc
 
 small_last : (node : ℕ) (inputs : List Plain) (report : Report) → small_outputs node inputs 101 report ≢ Ok Again
 small_last zero inputs report = λ h. cc
