@@ -1,0 +1,4 @@
+//! What the value of an expression depends on.
+#![tactic(auto)]
+
+pub mod laws;
