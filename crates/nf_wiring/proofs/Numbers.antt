@@ -81,6 +81,26 @@ within_from i (node ∷ nodes) n l = elim (cases_Bool (nat_lt n (length node.por
       record { at = suc w.at; node = omega arith; low = omega arith; port = w.port })
 ]
 
+-- no two numbers are of one port
+apart_from : (i : ℕ) (nodes : List Node) (m n : ℕ) → m < port_count nodes → n < port_count nodes → place_after i nodes m ≡ place_after i nodes n → m ≡ n
+apart_from i [] m n l k e = absurd (omega arith)
+apart_from i (node ∷ nodes) m n l k e = elim (cases_Bool (nat_lt m (length node.ports))) [
+  | inl t ↦ elim (cases_Bool (nat_lt n (length node.ports))) [
+    | inl u ↦ (let f = rw (t, u) at e in ap (λ (p : machine.Place). p.port) f)
+    | inr v ↦ absurd (let f = rw (t, v) at e in let c = counts node nodes in let b = not_below n (length node.ports) v in
+        let w = within_from (suc i) nodes (n - length node.ports) (omega arith) in let x = w.node in let y = ap (λ (p : machine.Place). p.node) f in omega arith)
+  ]
+  | inr g ↦ elim (cases_Bool (nat_lt n (length node.ports))) [
+    | inl u ↦ absurd (let f = rw (g, u) at e in let c = counts node nodes in let b = not_below m (length node.ports) g in
+        let w = within_from (suc i) nodes (m - length node.ports) (omega arith) in let x = w.node in let y = ap (λ (p : machine.Place). p.node) f in omega arith)
+    | inr v ↦ (let f = rw (g, v) at e in let c = counts node nodes in let b = not_below m (length node.ports) g in let d = not_below n (length node.ports) v in
+        let q = apart_from (suc i) nodes (m - length node.ports) (n - length node.ports) (omega arith) (omega arith) f in omega arith)
+  ]
+]
+
+pub apart : (nodes : List Node) (m n : ℕ) → m < port_count nodes → n < port_count nodes → place_in nodes m ≡ place_in nodes n → m ≡ n
+apart nodes m n l k e = apart_from 0 nodes m n l k e
+
 pub stands : (nodes : List Node) (n : ℕ) → n < port_count nodes → StandsWithin nodes n
 stands nodes n l =
     let w = within_from 0 nodes n l in

@@ -47,6 +47,13 @@ impl Wiring {
         self.places.len() as u32
     }
 
+    /// How many nodes there are.
+    pub fn nodes(&self) -> usize
+        ensures { result ≡ nodes_of self.now }
+    {
+        self.readers.len()
+    }
+
     /// Where the port of a number stands.
     pub fn place(&self, number: u32) -> Place
         requires { number < count_of self.now }
