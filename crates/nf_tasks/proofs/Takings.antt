@@ -8,7 +8,7 @@ use Rattle.nf_value.specs.View.{plain_of}
 use Rattle.nf_value.specs.Text.{value_text}
 use Rattle.nf_tasks.specs.declared.inputs.Bound.{Bound}
 use Rattle.nf_tasks.specs.declared.inputs.Input.{Input}
-use Rattle.nf_tasks.specs.declared.inputs.InputPart.{InputPart}
+use Rattle.nf_tasks.specs.declared.input_parts.InputPart.{InputPart}
 use Rattle.nf_tasks.specs.Judged.{Judged, ◌>>=◌, wrong_kind}
 use Rattle.nf_tasks.specs.Inputs.{nothing_taken, later, and_taken, value_taken, stdin_taken, path_taken, files_in, part_takes, taken_with, parts_take, shape_takes, taken_and, bound_by, and_files, and_value, and_stdin, file_and}
 

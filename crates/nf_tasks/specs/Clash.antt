@@ -16,7 +16,8 @@ stood_before n before = list_any (λ m. bytes_eq m n) before
 -- the first name that stood before, where the task's own files and the files named in `before` did
 abbrev pub first_clash : List (List ℕ) → List FileRef → Option (List ℕ)
 first_clash before [] = None
-first_clash before (f ∷ fs) = if is_reserved f.name || stood_before f.name before then Some f.name else first_clash (f.name ∷ before) fs
+first_clash before (f ∷ fs) =
+    if is_reserved f.name || stood_before f.name before then Some f.name else first_clash (f.name ∷ before) fs
 
 abbrev pub by_clash : List FileRef → Option (List ℕ) → Judged (List FileRef)
 by_clash fs None = Ok fs

@@ -62,7 +62,10 @@ part_value g captured fs = Ok (captured_plain g.captured)
 
 abbrev pub part_values : Given → List PartMeaning → List (List FileRef) → Judged (List Plain)
 part_values g [] found = Ok []
-part_values g (x ∷ xs) found = part_value g x (first_files found) >>= λ v. part_values g xs (part_left x found) >>= λ vs. Ok (v ∷ vs)
+part_values g (x ∷ xs) found =
+    part_value g x (first_files found) >>= λ v.
+    part_values g xs (part_left x found) >>= λ vs.
+    Ok (v ∷ vs)
 
 -- a tuple is the list of its parts' values
 abbrev pub shape_value : Given → ShapeMeaning → List (List FileRef) → Judged Plain
@@ -80,4 +83,7 @@ output_value g o found = value_if (all_there (parts_in o.shape) found) (shape_va
 -- for each output its value, or nothing
 abbrev pub values_of : Given → List OutputMeaning → List (List FileRef) → Judged (List (Option Plain))
 values_of g [] found = Ok []
-values_of g (o ∷ os) found = output_value g o found >>= λ v. values_of g os (left_after (parts_in o.shape) found) >>= λ vs. Ok (v ∷ vs)
+values_of g (o ∷ os) found =
+    output_value g o found >>= λ v.
+    values_of g os (left_after (parts_in o.shape) found) >>= λ vs.
+    Ok (v ∷ vs)

@@ -56,12 +56,13 @@ abbrev pub missing_one : Bool → List ℕ → List FileRef → Option TaskFault
 missing_one optional t [] = if optional then None else Some (MissingOutput t)
 missing_one optional t (f ∷ fs) = None
 
--- The first pattern that isn't optional and has no files. The options say of each pattern whether it is optional. Lists of files past the
--- patterns have no effect
+-- The first pattern that isn't optional and has no files. The options say of each pattern whether it is optional. Lists
+-- of files past the patterns have no effect
 abbrev pub files_failure : List Bool → List (List ℕ) → List (List FileRef) → Option TaskFault
 files_failure [] ts found = None
 files_failure (o ∷ os) [] found = None
-files_failure (o ∷ os) (t ∷ ts) found = or_else (missing_one o t (first_files found)) (files_failure os ts (other_files found))
+files_failure (o ∷ os) (t ∷ ts) found =
+    or_else (missing_one o t (first_files found)) (files_failure os ts (other_files found))
 
 -- what a report is judged by: the options of the patterns, their texts, and whether the standard output is an output
 pub record Due : Type 0 where
@@ -71,7 +72,10 @@ pub record Due : Type 0 where
 
 -- why a report fails: first its exit status, then its standard output, then its files
 abbrev pub failure_of : Due → Report → Option TaskFault
-failure_of due r = or_else (exit_failure r.exit) (or_else (stdout_failure due.stdout r.captured) (files_failure due.options due.texts r.found))
+failure_of due r =
+    or_else (exit_failure r.exit) (
+    or_else (stdout_failure due.stdout r.captured)
+    (files_failure due.options due.texts r.found))
 
 -- what becomes of the task whose attempt failed
 abbrev pub outputs_at : ErrorStrategy → ℕ → TaskFault → Outputs

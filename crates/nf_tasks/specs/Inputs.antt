@@ -9,8 +9,8 @@ use Rattle.nf_tasks.specs.declared.inputs.Bound.{Bound}
 use Rattle.nf_tasks.specs.declared.inputs.Input.{Input}
 use Rattle.nf_tasks.specs.declared.inputs.InputShape.{InputShape}
 use Rattle.nf_tasks.specs.declared.inputs.InputShape.TheVariants.{One, Tuple}
-use Rattle.nf_tasks.specs.declared.inputs.InputPart.{InputPart}
-use Rattle.nf_tasks.specs.declared.inputs.InputPart.TheVariants.{Val, Path, Stdin}
+use Rattle.nf_tasks.specs.declared.input_parts.InputPart.{InputPart}
+use Rattle.nf_tasks.specs.declared.input_parts.InputPart.TheVariants.{Val, Path, Stdin}
 use Rattle.nf_tasks.specs.Judged.{Judged, ◌>>=◌, wrong_kind}
 
 abbrev pub nothing_taken : Bound
@@ -98,9 +98,10 @@ tuple_takes ps (table qs) = None
 
 abbrev pub shape_takes : InputShape → Plain → Option Bound
 shape_takes (One p) v = part_takes p v
-shape_takes (Tuple ps) v = tuple_takes ps.items v
+shape_takes (Tuple ps) v = tuple_takes ps v
 
--- ---- what all inputs take: each from the item at its place. The first without an item of its shape is at fault; items after the inputs aren't read
+-- ---- what all inputs take: each from the item at its place. The first without an item of its shape is at fault; items
+-- after the inputs aren't read
 
 abbrev pub taken_and : Place → Option Bound → Judged Bound → Judged Bound
 taken_and p None more = Err (wrong_kind p)
@@ -124,7 +125,7 @@ parts_names (p ∷ ps) = part_names p ++ parts_names ps
 
 abbrev pub shape_names : InputShape → List (List ℕ)
 shape_names (One p) = part_names p
-shape_names (Tuple ps) = parts_names ps.items
+shape_names (Tuple ps) = parts_names ps
 
 -- the names that inputs give values to, in their order
 abbrev pub names_of : List Input → List (List ℕ)

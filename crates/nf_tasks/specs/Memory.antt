@@ -52,7 +52,8 @@ abbrev pub output_of : Program → Output → OutputMeaning
 output_of n o = record { place = o.place; optional = o.optional; shape = shape_of n o.shape }
 
 abbrev pub publish_of : Program → Publish → PublishMeaning
-publish_of n x = record { place = x.place; folder = formula_of n x.folder; pattern = option_map (formula_of n) x.pattern }
+publish_of n x =
+    record { place = x.place; folder = formula_of n x.folder; pattern = option_map (formula_of n) x.pattern }
 
 abbrev pub process_of : Program → ProcessSpec → ProcessMeaning
 process_of n s = record {

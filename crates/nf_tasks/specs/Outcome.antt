@@ -23,7 +23,8 @@ done_by p x r =
     Ok (record { values = values; targets = targets })
 
 abbrev pub failure_in : ProcessMeaning → Prepared → Report → Option TaskFault
-failure_in p x r = failure_of (record { options = options_in p.outputs; texts = x.patterns; stdout = wants_stdout p.outputs }) r
+failure_in p x r =
+    failure_of (record { options = options_in p.outputs; texts = x.patterns; stdout = wants_stdout p.outputs }) r
 
 abbrev pub outputs_by : ProcessMeaning → ℕ → Judged Done → Option TaskFault → Judged Outputs
 outputs_by p attempt done (Some f) = Ok (outputs_at p.strategy attempt f)
@@ -34,9 +35,10 @@ abbrev pub targets_by : Judged Done → Option TaskFault → Judged (List Target
 targets_by done (Some f) = Ok []
 targets_by done None = done >>= λ d. Ok d.targets
 
--- what the report of an attempt amounts to; or the fault, if the attempt has no job, or an output or a directive has no value
+-- what the report of an attempt amounts to; or the fault, if the attempt has no job, or an output or directive no value
 abbrev pub outputs_of : ProcessMeaning → List Plain → ℕ → Report → Judged Outputs
-outputs_of p inputs attempt r = prepared_of p inputs attempt >>= λ x. outputs_by p attempt (done_by p x r) (failure_in p x r)
+outputs_of p inputs attempt r =
+    prepared_of p inputs attempt >>= λ x. outputs_by p attempt (done_by p x r) (failure_in p x r)
 
 -- the files that it publishes, or the fault
 abbrev pub targets_of : ProcessMeaning → List Plain → ℕ → Report → Judged (List Target)

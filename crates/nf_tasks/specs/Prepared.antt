@@ -24,7 +24,9 @@ cpus_of (Some f) seen = evaluated (f seen)
 
 -- the values that expressions see, but for that in `cpus`
 abbrev pub seen_by : ProcessMeaning → ℕ → List Plain → Judged (List Plain)
-seen_by p attempt values = cpus_of p.cpus (seen_values values (task_map p.name attempt null)) >>= λ cpus. Ok (seen_values values (task_map p.name attempt cpus))
+seen_by p attempt values =
+    cpus_of p.cpus (seen_values values (task_map p.name attempt null)) >>= λ cpus.
+    Ok (seen_values values (task_map p.name attempt cpus))
 
 -- the text of the tag, if there is one
 abbrev pub tag_of : Option Formula → List Plain → Judged (Option (List ℕ))
@@ -61,7 +63,7 @@ abbrev pub texts_of : List PatternMeaning → List Plain → Judged (List (List 
 texts_of [] seen = Ok []
 texts_of (x ∷ xs) seen = named_by x.place x.of seen >>= λ t. texts_of xs seen >>= λ ts. Ok (t ∷ ts)
 
--- once the inputs are bound and the values known that expressions see: the tag, the names of staged files, the script, the patterns
+-- once the inputs are bound and it is known what expressions see: the tag, the names of staged files, the script, the patterns
 abbrev pub prepared_with : ProcessMeaning → Bound → List Plain → Judged Prepared
 prepared_with p b seen =
     tag_of p.tag seen >>= λ tag.

@@ -32,7 +32,10 @@ pattern_by p (Some f) seen = named_by p f seen >>= λ t. Ok (Some t)
 
 -- what one directive publishes of these files: first its folder is evaluated, then its pattern
 abbrev pub published_by : PublishMeaning → List Plain → List (List FileRef) → Judged (List Target)
-published_by x seen lists = named_by x.place x.folder seen >>= λ folder. pattern_by x.place x.pattern seen >>= λ pattern. Ok (targets_in folder pattern lists)
+published_by x seen lists =
+    named_by x.place x.folder seen >>= λ folder.
+    pattern_by x.place x.pattern seen >>= λ pattern.
+    Ok (targets_in folder pattern lists)
 
 -- what all directives publish
 abbrev pub published : List PublishMeaning → List Plain → List (List FileRef) → Judged (List Target)

@@ -1,4 +1,4 @@
--- The text of a script: a template's text without a line end at its start and without the indentation that its lines share.
+-- The text of a script: a template's text without a line end at its start and without the indentation of all its lines.
 use Rattle.std.specs.Prelude.{ℕ, min, ◌==◌, ◌||◌, List, [], ◌∷◌, map, filter, drop, Bool, not, unwrap_or, if◌then◌else◌}
 use Rattle.std.specs.List.{slice_split, join_by, list_all, prefix_len, reduce}
 

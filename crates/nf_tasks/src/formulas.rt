@@ -70,7 +70,8 @@ pub(crate) fn wrong_kind(place: Place) -> TaskRefusal
 ///
 /// # Errors
 ///
-/// `Fault` exactly where the expression has no value, or one that names nothing: then WrongKind at the place. `Mem` if there is no memory for it.
+/// `Fault` exactly where the expression has no value, or one that names nothing: then WrongKind at the place. `Mem` if
+/// there is no memory for it.
 pub(crate) fn named_by<N: Natives>(
     alloc: Global,
     place: Place,

@@ -6,6 +6,7 @@ ghost use Rattle.nf_tasks.specs.Judged.{Answers};
 ghost use Rattle.nf_tasks.specs.Inputs.{bound_by, names_of, part_names, parts_names, seen_names, shape_names};
 
 use crate::formulas::wrong_kind;
+use crate::input_parts::{InputPart, InputParts};
 use crate::process::ProcessSpec;
 use crate::taking::Taking;
 use nf_job::{FileRefs, TaskRefusal};
@@ -27,18 +28,7 @@ pub enum InputShape {
     /// One part, from the item itself.
     One(InputPart),
     /// `tuple`: parts, each from the element at its place of a list of as many (own).
-    Tuple(Vec<InputPart>),
-}
-
-/// A part of an input.
-#[derive(Drop)]
-pub enum InputPart {
-    /// `val NAME`: any value.
-    Val(Txt),
-    /// `path NAME`: a file, or a list of files alone. They are put into the task's folder.
-    Path(Txt),
-    /// `stdin`: any value, whose text is the standard input.
-    Stdin,
+    Tuple(InputParts),
 }
 
 /// What the inputs of a process take from the items of one task.
@@ -100,7 +90,7 @@ fn push_names(names: &mut Vec<Txt>, shape: &InputShape) -> Result<(), Mem>
 {
     match shape {
         InputShape::One(part) => push_name(names, part),
-        InputShape::Tuple(parts) => push_all_names(names, parts),
+        InputShape::Tuple(parts) => push_all_names(names, parts.items()),
     }
 }
 

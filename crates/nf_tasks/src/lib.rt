@@ -6,6 +6,7 @@ mod clash;
 mod emission;
 mod failure;
 mod formulas;
+mod input_parts;
 mod inputs;
 mod jobs;
 pub mod laws;
@@ -18,9 +19,11 @@ mod taking;
 mod target_list;
 mod task;
 
-pub use inputs::{Bound, Input, InputPart, InputShape, bind, seen_names};
+pub use input_parts::{InputPart, InputParts};
+pub use inputs::{Bound, Input, InputShape, bind, seen_names};
 pub use jobs::{job, parts, staged, tag};
 pub use outputs::{emit_of, targets};
+pub use prepared::Prepared;
 pub use process::{
     ErrorStrategy, Output, OutputPart, OutputShape, ProcessSpec, Publish, TaskScript,
 };

@@ -23,7 +23,7 @@ use std::alloc::Global;
 
 /// All that is known of an attempt at a task once its faults are judged.
 #[derive(Drop)]
-pub(crate) struct Prepared {
+pub struct Prepared {
     /// The values that its expressions see.
     pub(crate) seen: Vals,
     pub(crate) stdin: Option<Txt>,

@@ -6,7 +6,8 @@ ghost use Rattle.nf_value.specs.Plain.{plains_of};
 ghost use Rattle.nf_value.specs.Text.{value_text};
 ghost use Rattle.nf_tasks.specs.Inputs.{Takes, TakesFiles, and_files, and_stdin, and_value, file_in, files_among, files_in, nothing_taken, part_takes, parts_take, path_taken, shape_takes, tuple_takes};
 
-use crate::inputs::{Bound, InputPart, InputShape};
+use crate::input_parts::InputPart;
+use crate::inputs::{Bound, InputShape};
 use nf_job::FileRefs;
 use nf_value::{FileRef, Mem, Txt, Vals, Value, text_of};
 use std::alloc::Global;
@@ -165,7 +166,7 @@ impl Taking {
     {
         match shape {
             InputShape::One(part) => self.take_part(alloc, part, item),
-            InputShape::Tuple(parts) => self.take_tuple(alloc, parts, item),
+            InputShape::Tuple(parts) => self.take_tuple(alloc, parts.items(), item),
         }
     }
 }
