@@ -1,9 +1,7 @@
 -- Environments that are alike, step by step.
-use Rattle.std.proofs.Common.{◌≡◌, ℕ, ◌-◌, List, [], ◌∷◌, ◌++◌, length, drop, Bool, true, false, if◌then◌else◌, Result, Ok, Err, refl, sym, ◌∙◌, ap, subst}
+use Rattle.std.proofs.Common.{◌≡◌, ℕ, ◌-◌, List, [], ◌∷◌, ◌++◌, length, drop, Bool, true, false, Ok, Err, refl, ◌∙◌, ap, subst}
 use Rattle.std.specs.Str.{bytes_eq}
 use Rattle.nf_value.specs.Plain.{Plain}
-use Rattle.nf_value.specs.declared.place.Place.{Place}
-use Rattle.nf_value.specs.declared.fault.EvalFault.{EvalFault}
 use Rattle.nf_builtins.specs.Natives.{is_among}
 use Rattle.nf_placed.specs.Placed.{Placed, ◌>>=◌}
 use Rattle.nf_placed.specs.Scope.{Env, value_in, value_of, with_names, defined, rebound, rebound_in, left_by, inside}

@@ -1,17 +1,15 @@
 -- Meanings that are the same in environments that are alike.
-use Rattle.std.proofs.Common.{◌≡◌, ℕ, ◌+◌, List, [], ◌∷◌, ◌++◌, length, Bool, true, false, if◌then◌else◌, Option, Some, None, Result, Ok, Err, refl, sym, ◌∙◌, ap, subst, pos}
-use Rattle.nf_value.specs.Plain.{Plain, null, truth, int}
-use Rattle.nf_value.specs.Truth.{truth_of}
+use Rattle.std.proofs.Common.{◌≡◌, ℕ, List, length, Option, Some, None, Ok, refl, ◌∙◌, ap}
+use Rattle.nf_value.specs.Plain.{Plain, null}
 use Rattle.nf_value.specs.declared.place.Place.{Place}
-use Rattle.nf_value.specs.declared.fault.EvalFault.{EvalFault}
 use Rattle.nf_value.specs.declared.fault.EvalKind.TheVariants.{WrongKind}
-use Rattle.nf_placed.specs.Placed.{Placed, ◌>>=◌, fault, made}
+use Rattle.nf_placed.specs.Placed.{Placed, ◌>>=◌, fault}
 use Rattle.nf_placed.specs.Scope.{Env, function_in}
-use Rattle.nf_placed.specs.Calls.{Argument, plain, block, Callee, nothing, method, function, math, no_function, called, method_call, math_call, function_call, values_in, by_values, by_function, native_call, unfit_function}
-use Rattle.nf_placed.specs.Body.{Flow, going, returned}
+use Rattle.nf_placed.specs.Calls.{Argument, plain, Callee, nothing, method, function, math, no_function, called, method_call, math_call, function_call, values_in, by_values, by_function, native_call, unfit_function}
+use Rattle.nf_placed.specs.Body.{Flow, going}
 use Rattle.nf_eval.specs.Evaluation.{Meaning, Arguments, nothing_there, expression, callable, statement}
 use Rattle.nf_relevant.specs.Reads.{AreAlike}
-use Rattle.nf_relevant.proofs.Alike.{EndAlike, FlowsAlike, bind_same, end_after}
+use Rattle.nf_relevant.proofs.Alike.{EndAlike, bind_same, end_after}
 
 module _ (among : List (List ℕ)) where
   abbrev pub Same : {A : Type 0} → (Env → A) → Type 0

@@ -1,12 +1,10 @@
 -- Each part of a script means the same in environments that are alike for its names.
-use Rattle.std.proofs.Common.{◌≡◌, ℕ, ◌+◌, List, [], ◌∷◌, ◌++◌, length, Bool, true, false, if◌then◌else◌, Option, Some, None, Result, Ok, Err, refl, sym, ◌∙◌, ap, subst, pos}
+use Rattle.std.proofs.Common.{◌≡◌, ℕ, ◌+◌, List, [], ◌∷◌, ◌++◌, Bool, true, false, if◌then◌else◌, Option, Some, None, Ok, Err, refl, ap, subst, pos}
 use Rattle.nf_value.specs.Plain.{Plain, null, truth, int, text}
 use Rattle.nf_value.specs.Truth.{truth_of}
 use Rattle.nf_value.specs.declared.place.Place.{Place}
-use Rattle.nf_value.specs.declared.fault.EvalFault.{EvalFault}
 use Rattle.nf_value.specs.declared.fault.EvalKind.TheVariants.{WrongKind}
 use Rattle.nf_builtins.specs.Natives.{is_among}
-use Rattle.nf_builtins.specs.Lists.{list_of}
 use Rattle.nf_ast.specs.declared.operators.InfixOperator.{InfixOperator}
 use Rattle.nf_ast.specs.declared.operators.InfixOperator.TheVariants as infix_operator
 use Rattle.nf_ast.specs.Tree as tree
@@ -18,13 +16,13 @@ use Rattle.nf_infix.specs.Read.{index}
 use Rattle.nf_infix.specs.Template.{hole_text}
 use Rattle.nf_placed.specs.Placed.{Placed, ◌>>=◌, fault, made}
 use Rattle.nf_placed.specs.Operators.{infix_of, prefix_of}
-use Rattle.nf_placed.specs.Scope.{Env, value_of, defined, rebound, inside}
-use Rattle.nf_placed.specs.Calls.{Argument, plain, block, Callee, method, function, math}
-use Rattle.nf_placed.specs.Body.{Flow, going, returned, value_of_body, name_in, key_text, pattern_in, is_math, names_in, bound, split, with_all}
-use Rattle.nf_eval.specs.Evaluation.{Meaning, Arguments, Closing, nothing_there, expression, callable, statement, either, both, matched, binary, closure, opening, method_of, read_safe, safe_method, left, next, chosen, meaning_of, eval_of, body_of, apply_of, branch_of, labels_of}
+use Rattle.nf_placed.specs.Scope.{Env, defined, rebound, inside}
+use Rattle.nf_placed.specs.Calls.{block, method, function, math}
+use Rattle.nf_placed.specs.Body.{Flow, going, returned, name_in, key_text, pattern_in, is_math, names_in, bound, split, with_all}
+use Rattle.nf_eval.specs.Evaluation.{Meaning, Closing, either, both, matched, binary, closure, opening, method_of, read_safe, safe_method, left, next, chosen, meaning_of, eval_of, apply_of, branch_of, labels_of}
 use Rattle.nf_relevant.specs.Reads.{Reads, AreAlike}
-use Rattle.nf_relevant.proofs.Alike.{EndAlike, FlowsAlike, bind_same, end_after, after_body, value_same, with_names_alike, defined_alike, rebound_alike, with_all_alike, left_alike, inside_alike}
-use Rattle.nf_relevant.proofs.Respects.{Same, SameEnd, Respects, after, after_end, always, called_same, respects_nothing, respects_expression, respects_callable, respects_statement}
+use Rattle.nf_relevant.proofs.Alike.{EndAlike, bind_same, after_body, value_same, defined_alike, rebound_alike, with_all_alike, left_alike, inside_alike}
+use Rattle.nf_relevant.proofs.Respects.{Same, SameEnd, Respects, after, after_end, always, respects_nothing, respects_expression, respects_callable, respects_statement}
 
 module _ (among : List (List ℕ)) where
   -- ---- choices
