@@ -1,0 +1,9 @@
+pub mod Damages
+pub mod Done
+pub mod Folder
+pub mod Outputs
+pub mod Over
+pub mod Places
+pub mod Runs
+pub mod Seen
+pub mod ShellLane
