@@ -1,0 +1,10 @@
+//! Takes in flight: the tickets that a run hands out, and what it keeps of each by its number.
+#![tactic(auto)]
+
+mod flight;
+mod flights;
+mod ticket;
+
+pub use flight::Flight;
+pub use flights::Flights;
+pub use ticket::Ticket;
