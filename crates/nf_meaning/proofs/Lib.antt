@@ -1,0 +1,17 @@
+mod Alike
+mod Decided
+mod FewItems
+mod Growth
+mod Kept
+mod Outputs
+mod Rounds
+mod SameArgs
+mod SameCalls
+mod SameNames
+mod SameParts
+mod SameScript
+mod SameTaken
+mod Sites
+mod Twins
+mod Widened
+mod Worked
