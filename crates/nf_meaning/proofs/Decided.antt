@@ -1,5 +1,5 @@
 -- The report that decides a task says what it comes to, and what is published.
-use Rattle.std.proofs.Common.{◌≡◌, ◌≢◌, ◌+◌, ℕ, suc, List, [], ◌∷◌, ◌++◌, length, true, Option, None, Some, Result, Ok, Err, is_ok, refl, ap, sym, subst, ◌∙◌, arith}
+use Rattle.std.proofs.Common.{◌≡◌, ◌≢◌, ◌+◌, ℕ, suc, List, [], ◌∷◌, ◌++◌, length, true, Option, None, Result, Ok, Err, is_ok, refl, ap, sym, subst, ◌∙◌, arith}
 use Rattle.nf_job.specs.declared.parts.JobParts.{JobParts}
 use Rattle.nf_job.specs.declared.report.Report.{Report}
 use Rattle.nf_job.specs.declared.fault.TaskFault.{TaskFault}
@@ -8,8 +8,8 @@ use Rattle.nf_tasks.specs.declared.target_list.Target.{Target}
 use Rattle.nf_tasks.specs.Judged.{Judged}
 use Rattle.nf_graph.specs.Rules.{Outs, decided_by, decided, AreTriedAgain}
 use Rattle.nf_meaning.specs.Meaning.{Instance}
-use Rattle.nf_meaning.specs.Tasks.{TaskCall, job, outs, published, targets_if, targets_from}
-use Rattle.nf_meaning.specs.Deciding.{DecidedAt, DecidesAlone}
+use Rattle.nf_meaning.specs.Tasks.{TaskCall, job, outs, published, reports_of, targets_if, targets_from, targets_in}
+use Rattle.nf_meaning.specs.Deciding.{DecidedAt, DecidesAlone, IsUndecided}
 
 -- what comes after a report that isn't tried again has no effect
 published_alone : (o : Outs) (p : Judged (List Target)) (later : List Target) → o ≢ Ok Again → targets_if o p later ≡ targets_if o p []
@@ -61,3 +61,12 @@ decides_alone c z d = record {
       ap (λ rs. targets_from (outs c.called z.inputs) (published c.called z.inputs) 1 rs) d.reports
       ∙ targets_at (outs c.called z.inputs) (published c.called z.inputs) (job c.called z.inputs z.n) 1 (1 + length d.earlier) d.earlier d.report d.later d.before refl d.not_again;
 }
+
+none_from : (outs : ℕ → Report → Outs) (published : ℕ → Report → Judged (List Target)) (jobs : ℕ → Result JobParts TaskFault) (a : ℕ) (rs : List Report) → AreTriedAgain jobs outs a rs
+    → targets_from outs published a rs ≡ []
+none_from outs published jobs a [] t = refl
+none_from outs published jobs a (r ∷ rs) t =
+    ap (λ z. targets_if z (published a r) (targets_from outs published (suc a) rs)) t.1 ∙ none_from outs published jobs (suc a) rs t.2
+
+pub none_yet : (c : TaskCall) (z : Instance) → IsUndecided c z → targets_in c z ≡ []
+none_yet c z h = none_from (outs c.called z.inputs) (published c.called z.inputs) (job c.called z.inputs z.n) 1 (reports_of c z) h

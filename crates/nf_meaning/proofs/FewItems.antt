@@ -1,5 +1,5 @@
 -- What operators and processes give to value channels is at most one item.
-use Rattle.std.proofs.Common.{◌≡◌, ℕ, zero, suc, ◌+◌, ◌<◌, ◌≤◌, List, [], ◌∷◌, ◌++◌, map, length, get_or, Bool, true, false, ◌&&◌, cond, Option, Some, None, Result, Ok, Err, refl, ap, sym, subst, ◌∙◌, arith, inl, inr, length-append, if◌then◌else◌}
+use Rattle.std.proofs.Common.{◌≡◌, ℕ, suc, ◌+◌, ◌<◌, ◌≤◌, List, [], ◌∷◌, ◌++◌, map, length, get_or, Bool, true, false, ◌&&◌, cond, Option, Some, None, Ok, Err, refl, ap, sym, subst, ◌∙◌, arith, inl, inr, length-append, if◌then◌else◌}
 use Rattle.std.specs.Prelude.{◌==◌, count_by, unwrap_or}
 use Rattle.std.specs.List.{AllByRecursion, flat_map}
 use Rattle.std.proofs.lemmas.Bool.{cases_Bool}
@@ -9,17 +9,16 @@ use Rattle.nf_value.specs.Plain.{Plain, null}
 use Rattle.nf_placed.specs.Placed.{Placed}
 use Rattle.nf_job.specs.declared.emitted.Outputs.TheVariants.{Emits, Ignored, Failed, Again}
 use Rattle.nf_bag.specs.declared.options.OpOpts.{OpOpts}
-use Rattle.nf_bag.specs.declared.options.Total.{Total}
 use Rattle.nf_bag.specs.declared.rows.Row.{Row}
 use Rattle.nf_bag.specs.declared.rows.Row.TheVariants as row
 use Rattle.nf_opstream.specs.Push.{Push}
-use Rattle.nf_opstream.specs.Operator.{Operator, to_out, oks}
+use Rattle.nf_opstream.specs.Operator.{Operator, oks}
 use Rattle.nf_opstream.specs.Fault.{Fault, not_a_number}
 use Rattle.nf_opstream.specs.Rows.{items_in}
 use Rattle.nf_opstream.proofs.Tally.{tally, one_if, passes, tally-append, tally-map, count_is_passes}
 use Rattle.nf_opclose.specs.Reduce.{refuses, taken, reduced}
-use Rattle.nf_operator.specs.Row.{operator_of, output_kind, ports_of}
-use Rattle.nf_operator.specs.Outputs.{IsOneEach, IsClosing, KeepsOne, IsOfKind}
+use Rattle.nf_operator.specs.Row.{output_kind, ports_of}
+use Rattle.nf_operator.specs.Outputs.{IsOneEach, IsOfKind}
 use Rattle.nf_operator.specs.declared.kinds.OutputKind.{OutputKind}
 use Rattle.nf_operator.specs.declared.kinds.OutputKind.TheVariants as output
 use Rattle.nf_operator.proofs.Table.{is_of_kind}

@@ -1,13 +1,14 @@
 -- What the paths of calls grow by: each path that is added belongs to a call that wasn't made before.
-use Rattle.std.proofs.Common.{◌≡◌, ℕ, List, [], ◌∷◌, ◌++◌, Bool, true, false, ◌&&◌, ◌||◌, refl, ap, sym, subst, ◌∙◌, ◌⊎◌, inl, inr}
-use Rattle.std.specs.List.{IsDistinct, AllByRecursion, list_all}
+use Rattle.std.proofs.Common.{◌≡◌, ℕ, List, [], ◌∷◌, ◌++◌, Bool, true, false, ◌&&◌, ◌||◌, refl, ap, sym, subst, ◌∙◌, inl, inr}
+use Rattle.std.specs.List.{IsDistinct, AllByRecursion}
 use Rattle.std.specs.Str.{bytes_eq}
 use Rattle.std.proofs.lemmas.Bool.{cases_Bool}
 use Rattle.std.proofs.lemmas.List.{append-nil, append_assoc, append_cancel_left}
 use Rattle.std.proofs.lemmas.Slice.Eq.{bytes_eq-Decides}
 use Rattle.nf_builtins.specs.Natives.{is_among}
-use Rattle.nf_meaning.specs.Walk.{Scope, State}
-use Rattle.nf_meaning.specs.CallPaths.{is_plain_name}
+use Rattle.nf_meaning.specs.Walk.{State}
+use Rattle.nf_meaning.specs.Meaning.{Instance}
+use Rattle.nf_meaning.specs.CallPaths.{is_plain_name, MadeBy}
 
 -- ---- the call that a path belongs to
 
@@ -117,6 +118,39 @@ both_apart body first middle last [] qs b c d e = e
 both_apart body first middle last (p ∷ ps) qs b c d e =
     (both_all (λ q. bytes_eq p q ≡ false) ps qs d.0 (one_apart body first middle last p qs b.0 c), both_apart body first middle last ps qs b.1 c d.1 e)
 
+-- ---- tasks and the paths of their calls
+
+made_still : (ps qs : List (List ℕ)) (xs ys : List Instance) → qs ≡ ps → ys ≡ xs → MadeBy ps xs → MadeBy qs ys
+made_still ps qs xs ys e f h = subst (λ z. MadeBy z ys) (sym e) (subst (λ z. MadeBy ps z) (sym f) h)
+
+or_first : (b c : Bool) → b ≡ true → (b || c) ≡ true
+or_first true c e = refl
+or_first false c e = absurd (let f : false ≡ true = e in cc)
+
+or_second : (b c : Bool) → c ≡ true → (b || c) ≡ true
+or_second true c e = refl
+or_second false c e = e
+
+or_same : (a b c : Bool) → (b ≡ true → c ≡ true) → (a || b) ≡ true → (a || c) ≡ true
+or_same true b c h e = refl
+or_same false b c h e = h e
+
+pub among_more : (n : List ℕ) (ps qs : List (List ℕ)) → is_among n ps ≡ true → is_among n (ps ++ qs) ≡ true
+among_more n [] qs e = absurd (let f : false ≡ true = e in cc)
+among_more n (p ∷ ps) qs e = or_same (bytes_eq p n) (is_among n ps) (is_among n (ps ++ qs)) (among_more n ps qs) e
+
+pub among_last : (n : List ℕ) (ps : List (List ℕ)) → is_among n (ps ++ n ∷ []) ≡ true
+among_last n [] = or_first (bytes_eq n n) false ((bytes_eq-Decides n n).1 refl)
+among_last n (p ∷ ps) = or_second (bytes_eq p n) (is_among n (ps ++ n ∷ [])) (among_last n ps)
+
+made_more : (ps qs : List (List ℕ)) (xs : List Instance) → MadeBy ps xs → MadeBy (ps ++ qs) xs
+made_more ps qs [] h = tt
+made_more ps qs (x ∷ xs) h = (among_more x.call ps qs h.0, made_more ps qs xs h.1)
+
+both_made : (ps : List (List ℕ)) (xs ys : List Instance) → MadeBy ps xs → MadeBy ps ys → MadeBy ps (xs ++ ys)
+both_made ps [] ys h k = k
+both_made ps (x ∷ xs) ys h k = (h.0, both_made ps xs ys h.1 k)
+
 -- ---- growth
 
 pub record Grows (s t : State) : Type 0 where
@@ -126,20 +160,22 @@ pub record Grows (s t : State) : Type 0 where
   pub paths : t.paths ≡ s.paths ++ added
   pub belong : AllBelong s.scope.path s.scope.called t.scope.called added
   pub apart : IsDistinct bytes_eq added
+  pub made : MadeBy s.paths s.meant.instances → MadeBy t.paths t.meant.instances
 
-pub same_calls : (s t : State) → t.scope.path ≡ s.scope.path → t.scope.called ≡ s.scope.called → t.paths ≡ s.paths → Grows s t
+pub same_calls : (s t : State) → t.scope.path ≡ s.scope.path → t.scope.called ≡ s.scope.called → t.paths ≡ s.paths → t.meant.instances ≡ s.meant.instances → Grows s t
 unfolding IsDistinct
-same_calls s t p c q = record {
+same_calls s t p c q i = record {
   path = p;
   called = λ n e. subst (λ z. is_among n z ≡ true) (sym c) e;
   added = [];
   paths = q ∙ sym (append-nil s.paths);
   belong = tt;
   apart = tt;
+  made = made_still s.paths t.paths s.meant.instances t.meant.instances q i;
 }
 
 pub grows_none : (s : State) → Grows s s
-grows_none s = same_calls s s refl refl refl
+grows_none s = same_calls s s refl refl refl refl
 
 pub grows_on : (s t u : State) → Grows s t → Grows t u → Grows s u
 grows_on s t u g h =
@@ -155,6 +191,7 @@ grows_on s t u g h =
           (all_still s.scope.path s.scope.called t.scope.called s.scope.called u.scope.called g.added (λ n e. e) h.called g.belong)
           (all_still s.scope.path t.scope.called u.scope.called s.scope.called u.scope.called h.added g.called (λ n e. e) second);
       apart = both_apart s.scope.path s.scope.called t.scope.called u.scope.called g.added h.added g.belong second g.apart h.apart;
+      made = λ k. h.made (g.made k);
     }
 
 -- ---- the call of a workflow
@@ -171,6 +208,7 @@ pub record GrowsInside (n : List ℕ) (s t : State) : Type 0 where
   pub paths : t.paths ≡ s.paths ++ added
   pub inside : AllInside s.scope.path n added
   pub apart : IsDistinct bytes_eq added
+  pub made : MadeBy s.paths s.meant.instances → MadeBy t.paths t.meant.instances
 
 inside_belong : (body n : List ℕ) (before after ps : List (List ℕ)) → is_plain_name n ≡ true → is_among n before ≡ false → is_among n after ≡ true → AllInside body n ps
     → AllBelong body before after ps
@@ -199,8 +237,8 @@ turned_apart body first middle last ps (q ∷ qs) b c d e =
 
 -- a call of a workflow: at its name, after its arguments, after its body
 pub workflow_grows : (n : List ℕ) (s r t u : State) → is_plain_name n ≡ true → is_among n s.scope.called ≡ false → r.scope.path ≡ s.scope.path
-    → r.scope.called ≡ n ∷ s.scope.called → r.paths ≡ s.paths → Grows r t → GrowsInside n t u → Grows s u
-workflow_grows n s r t u plain new path called paths g h =
+    → r.scope.called ≡ n ∷ s.scope.called → r.paths ≡ s.paths → r.meant.instances ≡ s.meant.instances → Grows r t → GrowsInside n t u → Grows s u
+workflow_grows n s r t u plain new path called paths meant g h =
     let body : t.scope.path ≡ s.scope.path = g.path ∙ path in
     let here : is_among n r.scope.called ≡ true = subst (λ z. is_among n z ≡ true) (sym called) (named_first n s.scope.called) in
     let still : Within s.scope.called r.scope.called = λ m e. subst (λ z. is_among m z ≡ true) (sym called) (still_there n m s.scope.called e) in
@@ -218,6 +256,7 @@ workflow_grows n s r t u plain new path called paths g h =
           (inside_belong s.scope.path n s.scope.called u.scope.called h.added plain new (last n (g.called n here)) inner);
       apart = turned_apart s.scope.path s.scope.called r.scope.called t.scope.called h.added g.added
           (inside_belong s.scope.path n s.scope.called r.scope.called h.added plain new here inner) args h.apart g.apart;
+      made = λ k. h.made (g.made (made_still s.paths r.paths s.meant.instances r.meant.instances paths meant k));
     }
   where
     or_true : (b : Bool) → (b || true) ≡ true
@@ -243,9 +282,9 @@ workflow_grows n s r t u plain new path called paths g h =
 
 -- the call of a process at its name
 pub process_grows : (n : List ℕ) (s t : State) → is_plain_name n ≡ true → is_among n s.scope.called ≡ false → t.scope.path ≡ s.scope.path
-    → t.scope.called ≡ n ∷ s.scope.called → t.paths ≡ s.paths ++ (s.scope.path ++ n) ∷ [] → Grows s t
+    → t.scope.called ≡ n ∷ s.scope.called → t.paths ≡ s.paths ++ (s.scope.path ++ n) ∷ [] → t.meant.instances ≡ s.meant.instances → Grows s t
 unfolding IsDistinct
-process_grows n s t plain new path called paths = record {
+process_grows n s t plain new path called paths meant = record {
   path = path;
   called = λ m e. subst (λ z. is_among m z ≡ true) (sym called) (by_second (bytes_eq n m) (is_among m s.scope.called) e);
   added = (s.scope.path ++ n) ∷ [];
@@ -263,6 +302,8 @@ process_grows n s t plain new path called paths = record {
     tt,
   );
   apart = (tt, tt);
+  made = λ k. made_still (s.paths ++ (s.scope.path ++ n) ∷ []) t.paths s.meant.instances t.meant.instances paths meant
+      (made_more s.paths ((s.scope.path ++ n) ∷ []) s.meant.instances k);
 }
   where
     by_first : (b c : Bool) → b ≡ true → (b || c) ≡ true
@@ -274,15 +315,17 @@ process_grows n s t plain new path called paths = record {
     by_second false c e = e
 
 -- a scope of its own, whose body's path ends with the name and a colon
-pub inside_grows : (n : List ℕ) (s r t u : State) → r.scope.path ≡ s.scope.path ++ n ++ (58 ∷ []) → r.paths ≡ s.paths → Grows r t
-    → u.scope.path ≡ s.scope.path → u.scope.called ≡ s.scope.called → u.paths ≡ t.paths → GrowsInside n s u
-inside_grows n s r t u path paths g path_u called_u paths_u = record {
+pub inside_grows : (n : List ℕ) (s r t u : State) → r.scope.path ≡ s.scope.path ++ n ++ (58 ∷ []) → r.paths ≡ s.paths → r.meant.instances ≡ s.meant.instances → Grows r t
+    → u.scope.path ≡ s.scope.path → u.scope.called ≡ s.scope.called → u.paths ≡ t.paths → u.meant.instances ≡ t.meant.instances → GrowsInside n s u
+inside_grows n s r t u path paths meant g path_u called_u paths_u meant_u = record {
   path = path_u;
   called = called_u;
   added = g.added;
   paths = paths_u ∙ g.paths ∙ ap (λ z. z ++ g.added) paths;
   inside = all_inside r.scope.called t.scope.called g.added (subst (λ z. AllBelong z r.scope.called t.scope.called g.added) path g.belong);
   apart = g.apart;
+  made = λ k. made_still t.paths u.paths t.meant.instances u.meant.instances paths_u meant_u
+      (g.made (made_still s.paths r.paths s.meant.instances r.meant.instances paths meant k));
 }
   where
     all_inside : (before after ps : List (List ℕ)) → AllBelong (s.scope.path ++ n ++ (58 ∷ [])) before after ps → AllInside s.scope.path n ps
@@ -294,3 +337,29 @@ inside_grows n s r t u path paths g path_u called_u paths_u = record {
       ),
       all_inside before after ps b.1,
     )
+
+-- ---- tasks of a call
+
+abbrev pub AllOf : List ℕ → List Instance → Type 0
+AllOf path [] = Unit {0}
+AllOf path (z ∷ zs) = (z.call ≡ path) × AllOf path zs
+
+of_path : (path : List ℕ) (ps : List (List ℕ)) (zs : List Instance) → is_among path ps ≡ true → AllOf path zs → MadeBy ps zs
+of_path path ps [] e h = tt
+of_path path ps (z ∷ zs) e h = (subst (λ c. is_among c ps ≡ true) (sym h.0) e, of_path path ps zs e h.1)
+
+pub tasks_grow : (path : List ℕ) (s t : State) → t.scope.path ≡ s.scope.path → t.scope.called ≡ s.scope.called → t.paths ≡ s.paths → is_among path s.paths ≡ true
+    → (zs : List Instance) → t.meant.instances ≡ s.meant.instances ++ zs → AllOf path zs → Grows s t
+unfolding IsDistinct
+tasks_grow path s t p c q there zs meant h = record {
+  path = p;
+  called = λ n e. subst (λ z. is_among n z ≡ true) (sym c) e;
+  added = [];
+  paths = q ∙ sym (append-nil s.paths);
+  belong = tt;
+  apart = tt;
+  made = λ k. made_still s.paths t.paths (s.meant.instances ++ zs) t.meant.instances q meant (both_made s.paths s.meant.instances zs k (of_path path s.paths zs there h));
+}
+
+pub later_among : (path : List ℕ) (s t : State) → Grows s t → is_among path s.paths ≡ true → is_among path t.paths ≡ true
+later_among path s t g e = subst (λ z. is_among path z ≡ true) (sym g.paths) (among_more path s.paths g.added e)

@@ -1,10 +1,10 @@
 -- Values, arguments and sources go the same way in two runs.
-use Rattle.std.proofs.Common.{◌≡◌, ◌+◌, ◌≤◌, ℕ, suc, List, [], ◌∷◌, ◌++◌, map, length, Bool, true, false, Option, Some, None, Ok, Err, refl, ap, sym, subst, ◌∙◌, if◌then◌else◌, arith, length-append}
+use Rattle.std.proofs.Common.{◌≡◌, ◌+◌, ℕ, suc, List, [], ◌∷◌, ◌++◌, map, length, Bool, true, false, Option, Some, None, Ok, Err, refl, ap, sym, subst, ◌∙◌, if◌then◌else◌, arith, length-append}
 use Rattle.std.specs.Prelude.{codes, ◌==◌}
 use Rattle.std.specs.Str.{chars, bytes_eq}
 use Rattle.std.proofs.lemmas.Bool.Decides.{nat_tests}
 use Rattle.std.proofs.lemmas.List.{length-map}
-use Rattle.nf_value.specs.Plain.{Plain, null, truth, int, text, file, list, table}
+use Rattle.nf_value.specs.Plain.{Plain, truth, text, file, list}
 use Rattle.nf_value.specs.declared.place.Place.{Place}
 use Rattle.nf_value.specs.declared.file.FileRef.{FileRef}
 use Rattle.nf_job.specs.JobText.{file_plain}
@@ -12,23 +12,22 @@ use Rattle.nf_pattern.specs.Literal.{is_literal_path}
 use Rattle.nf_ast.specs.Tree.{Tree}
 use Rattle.nf_eval.specs.Evaluation.{eval_of}
 use Rattle.nf_names_used.specs.Uses.{no_names}
-use Rattle.nf_meaning.specs.declared.fault.LowerFault.{LowerFault}
 use Rattle.nf_meaning.specs.declared.fault.LowerFault.TheVariants.{BadOption, TooManyNodes, UnknownName, WrongArity}
-use Rattle.nf_meaning.specs.Lowered.{Lowered, known, unless, fault_if}
+use Rattle.nf_meaning.specs.Lowered.{known, unless, fault_if}
 use Rattle.nf_meaning.specs.Places.{begins_at}
-use Rattle.nf_meaning.specs.Things.{Thing, a_value, a_channel, outputs, Channel, Output, value_channel, queue, only_one, widened}
-use Rattle.nf_meaning.specs.Given.{Definitions, files_at}
+use Rattle.nf_meaning.specs.Things.{Thing, a_value, a_channel, outputs, Output, value_channel, queue, only_one, widened}
+use Rattle.nf_meaning.specs.Given.{Definitions}
 use Rattle.nf_meaning.specs.Names.{before_run, unread}
 use Rattle.nf_meaning.specs.Functions.{names_fault}
-use Rattle.nf_meaning.specs.Walk.{Walk, Around, Sizes, State, ◌>>=◌, gives, refused, unless_fault, known_in, env_before_run}
+use Rattle.nf_meaning.specs.Walk.{Walk, State, ◌>>=◌, gives, refused, unless_fault, known_in, env_before_run}
 use Rattle.nf_meaning.specs.Sizes.{counted, grown, is_within_limits}
 use Rattle.nf_meaning.specs.Expressions.{value_of, only_read, value_wanted, one_channel, channel_wanted, not_tied_to_file, closure_fault, file_fault}
 use Rattle.nf_meaning.specs.Arguments.{Arg, unnamed, is_unnamed, is_closure, unless_closure, value_arg, channel_arg, unnamed_channel, channel_args, option_value, flag_in, flag_arg}
 use Rattle.nf_meaning.specs.Paths.{is_source_path, name_at, pairs_of}
-use Rattle.nf_meaning.specs.Sources.{Source, of, from_list, of_value, of_nothing, from_path, from_pairs, source_named, takes, list_wanted, is_range, one_item, items_by, item_arg, item_args, only_value, only_values, list_items, PathArgs, path_wanted, must_exist, path_arg, path_args, no_path, the_files, files_of, is_pair_path, source, source_within, source_by, source_call, first_file, file_call}
+use Rattle.nf_meaning.specs.Sources.{Source, of, from_list, of_value, of_nothing, from_path, from_pairs, source_named, takes, list_wanted, is_range, items_by, item_arg, item_args, only_value, only_values, list_items, PathArgs, path_wanted, path_arg, path_args, no_path, the_files, files_of, is_pair_path, source, source_within, source_by, source_call, first_file, file_call}
 use Rattle.nf_meaning.proofs.Widened.{Alike, holds_alike, is_list, is_text, lists_alike, texts_alike, same_text}
 use Rattle.nf_meaning.proofs.Growth.{same_calls}
-use Rattle.nf_meaning.proofs.Twins.{Channels, AllChannels, Outputs, Things, Scopes, States, Ends, Arounds, Twin, Same, on, on_same, given, given_same, refusal, settled, lifting, judged, judging, choosing, wanting_files}
+use Rattle.nf_meaning.proofs.Twins.{Channels, AllChannels, Outputs, Things, States, Ends, Twin, Same, on, on_same, given, given_same, refusal, settled, judged, judging, wanting_files}
 use Rattle.nf_meaning.proofs.SameNames.{env_alike, knowns_of, names_here}
 
 -- any two results
@@ -45,7 +44,7 @@ counting p ports = record { at = λ a b h s u e. by a.definitions s u e (is_with
     by d s u e true true i = (
       refl,
       record { scope = e.scope; sizes = ap (grown ports) e.sizes; wants = e.wants; paths = e.paths },
-      λ k. same_calls s (record s { sizes = grown ports s.sizes }) refl refl refl,
+      λ k. same_calls s (record s { sizes = grown ports s.sizes }) refl refl refl refl,
     )
     by d s u e false false i = refl
     by d s u e true false i = absurd cc
@@ -308,7 +307,7 @@ module _ (fits : List ℕ → Bool) (Q : PathArgs → Type 0) (by_path : (x : Pa
 
 -- files aren't the same
 files_here : (path : List ℕ) → Twin Any (the_files path) (the_files path)
-files_here path = record { at = λ a b h s u e. (tt, e, λ k. same_calls s s refl refl refl) }
+files_here path = record { at = λ a b h s u e. (tt, e, λ k. same_calls s s refl refl refl refl) }
 
 source_alike : (x : Source) (xs ys : List Arg) → AllArgs xs ys → takes x (unnamed xs) ≡ true → Twin Channels (source x xs) (source x ys)
 source_alike of xs ys h k = on (item_args_alike xs ys h) (λ vs ws e. given _ _ (queues vs ws))

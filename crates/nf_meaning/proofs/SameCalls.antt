@@ -1,7 +1,7 @@
 -- Calls of operators, processes and workflows go the same way in two runs.
-use Rattle.std.proofs.Common.{◌≡◌, ◌+◌, ◌≤◌, ℕ, suc, List, [], ◌∷◌, ◌++◌, map, length, Bool, true, false, ◌&&◌, Option, Some, None, Result, Ok, Err, refl, ap, sym, subst, ◌∙◌, if◌then◌else◌, arith}
-use Rattle.std.specs.Prelude.{◌==◌, ◌||◌, nat_le, codes, is_some}
-use Rattle.std.specs.List.{AllByRecursion, IsDistinct, list_all}
+use Rattle.std.proofs.Common.{◌≡◌, ◌≤◌, ℕ, suc, List, [], ◌∷◌, ◌++◌, map, length, Bool, true, false, ◌&&◌, Option, Some, None, Ok, Err, refl, ap, subst, ◌∙◌, if◌then◌else◌, arith}
+use Rattle.std.specs.Prelude.{◌==◌, ◌||◌, codes, is_some}
+use Rattle.std.specs.List.{AllByRecursion, list_all}
 use Rattle.std.specs.Str.{bytes_eq}
 use Rattle.std.proofs.lemmas.List.{append-nil}
 use Rattle.std.proofs.lemmas.Slice.Eq.{bytes_eq-Decides}
@@ -21,34 +21,33 @@ use Rattle.nf_optable.specs.declared.operator.Operator as declared_operator
 use Rattle.nf_optable.specs.declared.operator.Operator.TheVariants.{Bag, Arrival}
 use Rattle.nf_optable.specs.Operator.{operator_name}
 use Rattle.nf_optable.specs.Rows.{operator_rows, row_of}
+use Rattle.nf_graph.specs.Meaning.{numbered, same_inputs}
 use Rattle.nf_tasks.specs.Inputs.{seen_names}
 use Rattle.nf_tasks.specs.Memory.{Program}
 use Rattle.nf_meaning.specs.declared.fault.LowerFault.{LowerFault}
-use Rattle.nf_meaning.specs.declared.fault.LowerFault.TheVariants.{UnknownName, TwiceDefined, CallCycle, WrongArity, BadOption}
+use Rattle.nf_meaning.specs.declared.fault.LowerFault.TheVariants.{TwiceDefined, CallCycle, WrongArity, BadOption}
 use Rattle.nf_meaning.specs.Lowered.{Lowered, or_else, fault_if}
 use Rattle.nf_meaning.specs.Places.{begins_at}
 use Rattle.nf_meaning.specs.Things.{Thing, a_value, a_channel, outputs, Channel, Output, are_values}
 use Rattle.nf_meaning.specs.Given.{Definitions, tree_named, function_named}
 use Rattle.nf_meaning.specs.Names.{in_run, Known, Called, a_process, a_workflow, a_function, a_file, an_operator, unknown, by_word, by_operator, by_function, by_workflow, by_process, called_by}
-use Rattle.nf_meaning.specs.Functions.{names_fault}
-use Rattle.nf_meaning.specs.Walk.{Walk, Around, Scope, State, then_by, ◌>>=◌, gives, refused, at_state, lifted, unless_fault, with_scope, the_scope, begins_call, is_bound, replaced, put, assigning, calling, env_with}
+use Rattle.nf_meaning.specs.Walk.{Walk, Around, Scope, State, then_by, ◌>>=◌, refused, at_state, unless_fault, begins_call, is_bound, replaced, put, assigning, calling, env_with}
 use Rattle.nf_meaning.specs.Sizes.{counted}
-use Rattle.nf_meaning.specs.Expressions.{channel_wanted}
-use Rattle.nf_meaning.specs.Arguments.{Arg, unnamed, is_unnamed, channel_arg, channel_args}
-use Rattle.nf_meaning.specs.Sources.{file_call}
+use Rattle.nf_meaning.specs.Arguments.{Arg, unnamed, is_unnamed, channel_args}
 use Rattle.nf_meaning.specs.Taken.{Taken, nothing_taken, args_ports, takes, take_arg, take_args, ports_of as call_ports}
 use Rattle.nf_meaning.specs.Operators.{Call, call_meaning, is_value_kind, given_at, labelled, result_of, applied, set_channel, set_outputs, counted_all, named_so, set_thing, with_channel, on_thing, on_argument, operator_call}
 use Rattle.nf_meaning.specs.Operators as operators
-use Rattle.nf_meaning.specs.Tasks.{CalledProcess, TaskCall, task_meaning, outputs_from}
-use Rattle.nf_meaning.specs.Directives.{Inside, inside, seen_fault}
+use Rattle.nf_meaning.specs.Tasks.{CalledProcess, TaskCall, input_lists, instances_of, task_meaning, outputs_from}
+use Rattle.nf_meaning.specs.Meaning.{and_meant}
+use Rattle.nf_meaning.specs.Directives.{inside, seen_fault}
 use Rattle.nf_meaning.specs.Processes.{inputs_in, called_process, process_with}
 use Rattle.nf_meaning.specs.CallPaths.{is_plain_name, NamesArePlain}
 use Rattle.nf_meaning.specs.Calls.{again_fault, arity_fault, called_here, task_call, tasks_mean, process_at, process_call, workflow_fault, entered, workflow_call, Receiver, and_other, receiver_or, receiver, operator_for, operator_on, call_of, named_call, take_of, cycle_fault}
 use Rattle.nf_meaning.specs.Processes.{inputs_of}
-use Rattle.nf_meaning.proofs.Growth.{Grows, GrowsInside, same_calls, grows_on, process_grows, workflow_grows}
-use Rattle.nf_meaning.proofs.Twins.{Channels, AllChannels, OneOutput, Outputs, Things, Named, Scopes, States, Ends, Arounds, Twin, Same, EndsInside, ends_on, goes_on, on, on_same, weaker, given, given_same, refusal, settled, choosing, meaning, in_scope}
-use Rattle.nf_meaning.proofs.SameNames.{MaybeThings, found, bound_alike, env_with_alike, names_here}
-use Rattle.nf_meaning.proofs.SameArgs.{Args, AllArgs, arg, by_arg, unnamed_alike, length_alike, counting, channel_due, channel_arg_alike, channel_args_alike, file_calls}
+use Rattle.nf_meaning.proofs.Growth.{Grows, AllOf, among_last, process_grows, workflow_grows, tasks_grow, later_among}
+use Rattle.nf_meaning.proofs.Twins.{Channels, AllChannels, Outputs, Things, Named, Scopes, States, Ends, Arounds, Twin, Same, EndsInside, ends_on, goes_on_from, on, on_same, weaker, given, given_same, refusal, meaning, in_scope}
+use Rattle.nf_meaning.proofs.SameNames.{bound_alike, env_with_alike, names_here}
+use Rattle.nf_meaning.proofs.SameArgs.{Args, AllArgs, unnamed_alike, length_alike, counting, channel_due, channel_arg_alike, channel_args_alike, file_calls}
 use Rattle.nf_meaning.proofs.SameTaken.{Takens, Adds, nothing_alike, one_taken, adds_more, no_ports}
 use Rattle.nf_meaning.proofs.FewItems.{AllFew, FewPorts, call_few, tasks_few}
 
@@ -110,12 +109,12 @@ results_alike _ c d h e = h 0
 applied_alike : (p : Place) (r : Row) (t u : Taken) (cs ds : List Channel) → Takens t u → AllChannels cs ds → FewPorts (output_kind r) (length cs) (ports_of r)
     → Twin Things (applied (call p r t cs)) (applied (call p r u ds))
 applied_alike p r t u cs ds e h l =
-    on_same (meaning _ _) (λ x. given (result_of r (call p r t cs)) (result_of r (call p r u ds)) (results_alike r (call p r t cs) (call p r u ds) (given_alike p r t u cs ds h l) e.labels))
+    on_same (meaning _ _ refl) (λ x. given (result_of r (call p r t cs)) (result_of r (call p r u ds)) (results_alike r (call p r t cs) (call p r u ds) (given_alike p r t u cs ds h l) e.labels))
 
 -- ---- `set`
 
 set_channels : (p : Place) (t u : Taken) (c d : Channel) → Channels c d → Twin Channels (set_channel p t c) (set_channel p u d)
-set_channels p t u c d h = on_same (meaning _ _) (λ x. given _ _ (given_alike p row.Set t u (c ∷ []) (d ∷ []) (h, tt) (omega arith) 0))
+set_channels p t u c d h = on_same (meaning _ _ refl) (λ x. given _ _ (given_alike p row.Set t u (c ∷ []) (d ∷ []) (h, tt) (omega arith) 0))
 
 sets : (p : Place) (t u : Taken) (os qs : List Output) → Outputs os qs → Twin Outputs (set_outputs p t os) (set_outputs p u qs)
 sets p t u [] [] h = given [] [] tt
@@ -430,10 +429,6 @@ called_alike n os qs h =
     (λ x. (refl, refl)))
     (λ x. given (outputs os) (outputs qs) h)
 
-tasks_alike : (n : List ℕ) (c d : TaskCall) → c.called ≡ d.called → are_values c.channels ≡ are_values d.channels → Twin Things (tasks_mean n c) (tasks_mean n d)
-tasks_alike n c d e h =
-    on_same (meaning _ _) (λ x. called_alike n _ _ (subst (λ z. Outputs (outputs_from c 0 c.called.labels) (outputs_from d 0 z.labels)) e (outputs_alike c d h 0 c.called.labels)))
-
 abbrev seen_known : Around → Known
 seen_known a = record { things = []; everywhere = map (λ b. b.0) a.everywhere }
 
@@ -451,13 +446,35 @@ processes_alike : (a b : Around) → Arounds a b → (path : List ℕ) (t : Tree
 processes_alike a b h path (tree.process p n ds ins os task stub) = ap (λ x. process_with x path ds ins os task) (inside_alike a b h (seen_names (inputs_in ins)))
 processes_alike a b h path _ = refl
 
-process_made : (n : List ℕ) (t : Tree) (path : List ℕ) (cs ds : List Channel) → AllChannels cs ds → Twin Things (process_at n t path cs) (process_at n t path ds)
-process_made n t path cs ds h = record {
-  at = λ a b r s u e.
-      goes_on Same Things (λ c. tasks_mean n (task_call a path c cs)) (λ c. tasks_mean n (task_call b path c ds))
-      (λ x y i. tasks_alike n (task_call a path x cs) (task_call b path y ds) i (values_alike cs ds h)) a b r s _ _
-      (settled a.definitions s u (called_process a path t) (called_process b path t) (processes_alike a b r path t) e);
-}
+all_of_path : (path : List ℕ) (zs : List (List Plain × ℕ)) → AllOf path (map (λ z. record { call = path; inputs = z.0; n = z.1 }) zs)
+all_of_path path [] = tt
+all_of_path path (z ∷ zs) = (refl, all_of_path path zs)
+
+-- the tasks of a call whose path is known
+tasks_made : (n : List ℕ) (c d : TaskCall) → c.called ≡ d.called → are_values c.channels ≡ are_values d.channels → (a b : Around) → Arounds a b → (s u : State) → States s u
+    → (NamesArePlain a.definitions → is_among c.path s.paths ≡ true) → Ends Things a.definitions s (tasks_mean n c a s) (tasks_mean n d b u)
+tasks_made n c d i v a b r s u e there =
+    ends_on Things a.definitions s (record s { meant = and_meant s.meant (task_meaning c) })
+    (called_here n (outputs_from c 0 c.called.labels) a (record s { meant = and_meant s.meant (task_meaning c) }))
+    (called_here n (outputs_from d 0 d.called.labels) b (record u { meant = and_meant u.meant (task_meaning d) }))
+    (λ k. tasks_grow c.path s (record s { meant = and_meant s.meant (task_meaning c) }) refl refl refl (there k) (instances_of c) refl
+    (all_of_path c.path (numbered same_inputs (input_lists c.channels))))
+    ((called_alike n (outputs_from c 0 c.called.labels) (outputs_from d 0 d.called.labels)
+    (subst (λ z. Outputs (outputs_from c 0 c.called.labels) (outputs_from d 0 z.labels)) i (outputs_alike c d v 0 c.called.labels))).at a b r
+    (record s { meant = and_meant s.meant (task_meaning c) }) (record u { meant = and_meant u.meant (task_meaning d) })
+    (record { scope = e.scope; sizes = e.sizes; wants = e.wants; paths = e.paths }))
+
+process_made : (n : List ℕ) (t : Tree) (path : List ℕ) (cs ds : List Channel) → AllChannels cs ds → (a b : Around) → Arounds a b → (s u : State) → States s u
+    → (NamesArePlain a.definitions → is_among path s.paths ≡ true) → Ends Things a.definitions s (process_at n t path cs a s) (process_at n t path ds b u)
+process_made n t path cs ds h a b r s u e there = of_two (called_process a path t) (called_process b path t) (processes_alike a b r path t)
+  where
+    of_one : (m : Lowered CalledProcess) → Ends Things a.definitions s (then_by a (λ c. tasks_mean n (task_call a path c cs)) (at_state s m)) (then_by b (λ c. tasks_mean n (task_call b path c ds)) (at_state u m))
+    of_one (Ok c) = tasks_made n (task_call a path c cs) (task_call b path c ds) refl (values_alike cs ds h) a b r s u e there
+    of_one (Err f) = refl
+
+    of_two : (m k : Lowered CalledProcess) → m ≡ k
+        → Ends Things a.definitions s (then_by a (λ c. tasks_mean n (task_call a path c cs)) (at_state s m)) (then_by b (λ c. tasks_mean n (task_call b path c ds)) (at_state u k))
+    of_two m k i = subst (λ z. Ends Things a.definitions s (then_by a (λ c. tasks_mean n (task_call a path c cs)) (at_state s m)) (then_by b (λ c. tasks_mean n (task_call b path c ds)) (at_state u z))) i (of_one m)
 
 -- a step that goes on only without a fault
 unless_then : {A : Type 0} (P : A → A → Type 0) (d : Definitions) (s u : State) (a b : Around) (f g : Option LowerFault) (w v : Walk A) → f ≡ g
@@ -491,14 +508,20 @@ begun n ps s = record s { scope = record s.scope { called = n ∷ s.scope.called
 abbrev process_rest : Place → List ℕ → Tree → List Arg → List ℕ → Walk Thing
 process_rest p n t xs path = counted p (length xs) >>= λ _. channel_args xs >>= process_at n t path
 
-process_rests : (p : Place) (n : List ℕ) (t : Tree) (xs ys : List Arg) → AllArgs xs ys → (path : List ℕ) → Twin Things (process_rest p n t xs path) (process_rest p n t ys path)
-process_rests p n t xs ys h path =
-    subst (λ z. Twin Things (process_rest p n t xs path) (counted p z >>= λ _. channel_args ys >>= process_at n t path)) (length_alike xs ys h)
-    (on_same (counting p (length xs)) (λ x. on (channel_args_alike xs ys h) (process_made n t path)))
+process_rests : (p : Place) (n : List ℕ) (t : Tree) (xs ys : List Arg) → AllArgs xs ys → (path : List ℕ) → (a b : Around) → Arounds a b → (s u : State) → States s u
+    → (NamesArePlain a.definitions → is_among path s.paths ≡ true) → Ends Things a.definitions s (process_rest p n t xs path a s) (process_rest p n t ys path b u)
+process_rests p n t xs ys h path a b r s u e there =
+    goes_on_from Same Things a.definitions a b s (λ x. channel_args xs >>= process_at n t path) (λ x. channel_args ys >>= process_at n t path)
+    (λ x y i v w f g. goes_on_from AllChannels Things a.definitions a b v (process_at n t path) (process_at n t path)
+    (λ cs ds q z o m k. process_made n t path cs ds q a b r z o m (λ j. later_among path v z (k j) (later_among path s v (g j) (there j))))
+    (channel_args xs a v) (channel_args ys b w) ((channel_args_alike xs ys h).at a b r v w f))
+    (counted p (length xs) a s) (counted p (length ys) b u)
+    ((subst (λ z. Twin Same (counted p (length xs)) (counted p z)) (length_alike xs ys h) (counting p (length xs))).at a b r s u e)
 
-rests_alike : (p : Place) (n : List ℕ) (t : Tree) (xs ys : List Arg) → AllArgs xs ys → (one two : List ℕ) → one ≡ two
-    → Twin Things (process_rest p n t xs one) (process_rest p n t ys two)
-rests_alike p n t xs ys h one two e = subst (λ z. Twin Things (process_rest p n t xs one) (process_rest p n t ys z)) e (process_rests p n t xs ys h one)
+rests_alike : (p : Place) (n : List ℕ) (t : Tree) (xs ys : List Arg) → AllArgs xs ys → (one two : List ℕ) → one ≡ two → (a b : Around) → Arounds a b → (s u : State) → States s u
+    → (NamesArePlain a.definitions → is_among one s.paths ≡ true) → Ends Things a.definitions s (process_rest p n t xs one a s) (process_rest p n t ys two b u)
+rests_alike p n t xs ys h one two i a b r s u e there =
+    subst (λ z. Ends Things a.definitions s (process_rest p n t xs one a s) (process_rest p n t ys z b u)) i (process_rests p n t xs ys h one a b r s u e there)
 
 abbrev process_fault : Place → List ℕ → Tree → ℕ → Scope → Option LowerFault
 process_fault p n t k x = or_else (again_fault p n x) (arity_fault p k (length (inputs_of t)))
@@ -512,30 +535,31 @@ process_calls p n t xs ys h a b r plain s u e =
     ∙ ap (λ z. process_fault p n t z u.scope) (length_alike xs ys h))
     (λ none. ends_on Things a.definitions s (begun n ((s.scope.path ++ n) ∷ []) s)
     (process_rest p n t xs (s.scope.path ++ n) a (begun n ((s.scope.path ++ n) ∷ []) s)) (process_rest p n t ys (u.scope.path ++ n) b (begun n ((u.scope.path ++ n) ∷ []) u))
-    (λ k. process_grows n s (begun n ((s.scope.path ++ n) ∷ []) s) (plain k) (not_again p n s.scope (arity_fault p (length xs) (length (inputs_of t))) none) refl refl refl)
-    ((rests_alike p n t xs ys h (s.scope.path ++ n) (u.scope.path ++ n) (ap (λ z. z ++ n) e.scope.path)).at a b r (begun n ((s.scope.path ++ n) ∷ []) s) (begun n ((u.scope.path ++ n) ∷ []) u)
-    (begun_alike n s u ((s.scope.path ++ n) ∷ []) ((u.scope.path ++ n) ∷ []) (ap (λ z. (z ++ n) ∷ []) e.scope.path) e)))
+    (λ k. process_grows n s (begun n ((s.scope.path ++ n) ∷ []) s) (plain k) (not_again p n s.scope (arity_fault p (length xs) (length (inputs_of t))) none) refl refl refl refl)
+    (rests_alike p n t xs ys h (s.scope.path ++ n) (u.scope.path ++ n) (ap (λ z. z ++ n) e.scope.path) a b r (begun n ((s.scope.path ++ n) ∷ []) s) (begun n ((u.scope.path ++ n) ∷ []) u)
+    (begun_alike n s u ((s.scope.path ++ n) ∷ []) ((u.scope.path ++ n) ∷ []) (ap (λ z. (z ++ n) ∷ []) e.scope.path) e)
+    (λ k. among_last (s.scope.path ++ n) s.paths)))
 
 -- ---- calls of workflows
 
 workflow_left : (n : List ℕ) (a b : Around) → Arounds a b → (s r t : State) → (NamesArePlain a.definitions → is_plain_name n ≡ true) → is_among n s.scope.called ≡ false
-    → r.scope.path ≡ s.scope.path → r.scope.called ≡ n ∷ s.scope.called → r.paths ≡ s.paths → (NamesArePlain a.definitions → Grows r t)
+    → r.scope.path ≡ s.scope.path → r.scope.called ≡ n ∷ s.scope.called → r.paths ≡ s.paths → r.meant.instances ≡ s.meant.instances → (NamesArePlain a.definitions → Grows r t)
     → (m k : Lowered (List Output × State)) → EndsInside n a.definitions t m k → Ends Things a.definitions s (then_by a (called_here n) m) (then_by b (called_here n) k)
-workflow_left n a b h s r t plain new path called paths g (Ok x) (Ok y) e =
-    ends_on Things a.definitions s x.1 (called_here n x.0 a x.1) (called_here n y.0 b y.1) (λ k. workflow_grows n s r t x.1 (plain k) new path called paths (g k) (e.2 k)) ((called_alike n x.0 y.0 e.0).at a b h x.1 y.1 e.1)
-workflow_left n a b h s r t plain new path called paths g (Err i) (Err j) e = e
-workflow_left n a b h s r t plain new path called paths g (Ok x) (Err j) e = absurd e
-workflow_left n a b h s r t plain new path called paths g (Err i) (Ok y) e = absurd e
+workflow_left n a b h s r t plain new path called paths meant g (Ok x) (Ok y) e =
+    ends_on Things a.definitions s x.1 (called_here n x.0 a x.1) (called_here n y.0 b y.1) (λ k. workflow_grows n s r t x.1 (plain k) new path called paths meant (g k) (e.2 k)) ((called_alike n x.0 y.0 e.0).at a b h x.1 y.1 e.1)
+workflow_left n a b h s r t plain new path called paths meant g (Err i) (Err j) e = e
+workflow_left n a b h s r t plain new path called paths meant g (Ok x) (Err j) e = absurd e
+workflow_left n a b h s r t plain new path called paths meant g (Err i) (Ok y) e = absurd e
 
 workflow_entered : (p : Place) (n : List ℕ) (t : Tree) (a b : Around) → Arounds a b → (s r : State) → (NamesArePlain a.definitions → is_plain_name n ≡ true) → is_among n s.scope.called ≡ false
-    → r.scope.path ≡ s.scope.path → r.scope.called ≡ n ∷ s.scope.called → r.paths ≡ s.paths
+    → r.scope.path ≡ s.scope.path → r.scope.called ≡ n ∷ s.scope.called → r.paths ≡ s.paths → r.meant.instances ≡ s.meant.instances
     → (m k : Lowered (List Channel × State)) → Ends AllChannels a.definitions r m k
     → Ends Things a.definitions s (then_by a (called_here n) (then_by a (entered p n t) m)) (then_by b (called_here n) (then_by b (entered p n t) k))
-workflow_entered p n t a b h s r plain new path called paths (Ok x) (Ok y) e =
-    workflow_left n a b h s r x.1 plain new path called paths e.2 (a.enter p n t x.0 x.1) (b.enter p n t y.0 y.1) (h.enter p n t x.0 y.0 x.1 y.1 e.0 e.1)
-workflow_entered p n t a b h s r plain new path called paths (Err i) (Err j) e = e
-workflow_entered p n t a b h s r plain new path called paths (Ok x) (Err j) e = absurd e
-workflow_entered p n t a b h s r plain new path called paths (Err i) (Ok y) e = absurd e
+workflow_entered p n t a b h s r plain new path called paths meant (Ok x) (Ok y) e =
+    workflow_left n a b h s r x.1 plain new path called paths meant e.2 (a.enter p n t x.0 x.1) (b.enter p n t y.0 y.1) (h.enter p n t x.0 y.0 x.1 y.1 e.0 e.1)
+workflow_entered p n t a b h s r plain new path called paths meant (Err i) (Err j) e = e
+workflow_entered p n t a b h s r plain new path called paths meant (Ok x) (Err j) e = absurd e
+workflow_entered p n t a b h s r plain new path called paths meant (Err i) (Ok y) e = absurd e
 
 workflow_calls : (p : Place) (n : List ℕ) (t : Tree) (xs ys : List Arg) → AllArgs xs ys → (a b : Around) → Arounds a b → (NamesArePlain a.definitions → is_plain_name n ≡ true)
     → (s u : State) → States s u → Ends Things a.definitions s (workflow_call p n t xs a s) (workflow_call p n t ys b u)
@@ -545,7 +569,7 @@ workflow_calls p n t xs ys h a b r plain s u e =
     (ap (λ z. or_else (fault_if (is_among n z) (TwiceDefined p)) (or_else (cycle_fault p n s.scope) (arity_fault p (length xs) (length (take_of t))))) e.scope.called
     ∙ ap (λ z. or_else (again_fault p n u.scope) (or_else (fault_if (is_among n z) (CallCycle p)) (arity_fault p (length xs) (length (take_of t))))) e.scope.within
     ∙ ap (λ z. workflow_fault p n t z u.scope) (length_alike xs ys h))
-    (λ none. workflow_entered p n t a b r s (begun n [] s) plain (not_again p n s.scope (or_else (cycle_fault p n s.scope) (arity_fault p (length xs) (length (take_of t)))) none) refl refl (append-nil s.paths)
+    (λ none. workflow_entered p n t a b r s (begun n [] s) plain (not_again p n s.scope (or_else (cycle_fault p n s.scope) (arity_fault p (length xs) (length (take_of t)))) none) refl refl (append-nil s.paths) refl
     (channel_args xs a (begun n [] s)) (channel_args ys b (begun n [] u))
     ((channel_args_alike xs ys h).at a b r (begun n [] s) (begun n [] u) (begun_alike n s u [] [] refl e)))
 

@@ -1,5 +1,5 @@
 -- In two runs of a script the same names stand for what is alike, and have the same faults.
-use Rattle.std.proofs.Common.{◌≡◌, ℕ, zero, suc, List, [], ◌∷◌, ◌++◌, map, length, Bool, true, false, Option, Some, None, refl, ap, sym, subst, ◌∙◌, if◌then◌else◌}
+use Rattle.std.proofs.Common.{◌≡◌, ℕ, zero, suc, List, [], ◌∷◌, ◌++◌, map, length, Bool, true, false, Option, Some, None, refl, ap, ◌∙◌, if◌then◌else◌}
 use Rattle.std.specs.Prelude.{is_some}
 use Rattle.std.specs.Str.{bytes_eq}
 use Rattle.nf_value.specs.Plain.{Plain}
@@ -13,14 +13,13 @@ use Rattle.nf_names_used.specs.declared.uses.UseKind.{UseKind}
 use Rattle.nf_names_used.specs.declared.uses.UseKind.TheVariants as kind
 use Rattle.nf_names_used.specs.Uses.{Names}
 use Rattle.nf_tasks.specs.Memory.{Program}
-use Rattle.nf_meaning.specs.declared.fault.LowerFault.{LowerFault}
 use Rattle.nf_meaning.specs.declared.fault.LowerFault.TheVariants.{BadOption, PatternRefused, PatternTooLarge}
 use Rattle.nf_meaning.specs.Lowered.{or_else, fault_if}
-use Rattle.nf_meaning.specs.Things.{Thing, a_value, a_channel, outputs, Output, thing_named, value_before_run}
+use Rattle.nf_meaning.specs.Things.{Thing, a_value, a_channel, outputs, thing_named, value_before_run}
 use Rattle.nf_meaning.specs.Given.{Given, Definitions, function_named}
 use Rattle.nf_meaning.specs.Names.{Reading, before_run, in_run, unread, Known, value_fault, thing_fault, bound_fault, name_fault, leads_to_channels, called_by, call_fault, pattern_fault, use_fault, uses_fault}
 use Rattle.nf_meaning.specs.Functions.{Judge, no_names_known, function_fault, call_use_fault, calls_fault, reached_fault, judged_within, function_uses, names_fault, led_back}
-use Rattle.nf_meaning.specs.Walk.{Around, Scope, things_in, known_in, values_before_run, env_with, env_before_run, is_bound, replaced, put}
+use Rattle.nf_meaning.specs.Walk.{Around, Scope, things_in, known_in, values_before_run, env_with, env_before_run, is_bound}
 use Rattle.nf_meaning.specs.Expressions.{is_tied, name_leads, call_leads, Leads, leads_in, leading, is_leading}
 use Rattle.nf_meaning.proofs.Widened.{Alike, holds_alike, hidden_alike}
 use Rattle.nf_meaning.proofs.Twins.{Things, Named, Scopes, Arounds}

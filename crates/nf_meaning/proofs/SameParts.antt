@@ -1,5 +1,5 @@
 -- The parts of a body go the same way in two runs, wherever they stand.
-use Rattle.std.proofs.Common.{◌≡◌, ℕ, zero, suc, ◌+◌, ◌-◌, List, [], ◌∷◌, ◌++◌, length, drop, Bool, true, false, Option, Some, None, Ok, Err, pos, negsuc, refl, ap, sym, subst, ◌∙◌, if◌then◌else◌}
+use Rattle.std.proofs.Common.{◌≡◌, ℕ, zero, suc, ◌-◌, List, [], ◌∷◌, ◌++◌, length, drop, Bool, true, false, Option, Some, None, Ok, pos, negsuc, refl, ap, subst, if◌then◌else◌}
 use Rattle.std.specs.Prelude.{codes, slice_get, ◌==◌}
 use Rattle.std.specs.Str.{bytes_eq}
 use Rattle.nf_value.specs.Plain.{Plain, null, truth, int, text, file, list, table}
@@ -24,15 +24,13 @@ use Rattle.nf_meaning.specs.Lowered.{known}
 use Rattle.nf_meaning.specs.Places.{begins_at}
 use Rattle.nf_meaning.specs.Things.{Thing, a_value, a_channel, outputs, Channel, Output, channels_of, has_label, output_named, widened, thing_named}
 use Rattle.nf_meaning.specs.Names.{Called, a_process, a_workflow, a_function, a_file, an_operator, unknown, called_by, is_channel_word}
-use Rattle.nf_meaning.specs.Walk.{Walk, Around, Scope, State, ◌>>=◌, gives, refused, lifted, unless_fault, wanted, with_scope, the_scope, things_in, defining, assigning, entering, leaving, in_braces}
-use Rattle.nf_meaning.specs.Expressions.{is_leading, value_of, only_read, value_wanted, channel_wanted, not_tied_to_file}
+use Rattle.nf_meaning.specs.Walk.{Walk, Around, Scope, State, ◌>>=◌, gives, lifted, unless_fault, wanted, with_scope, things_in, defining, assigning, entering, leaving, in_braces}
+use Rattle.nf_meaning.specs.Expressions.{is_leading, value_of, value_wanted}
 use Rattle.nf_meaning.specs.Arguments.{Arg, unnamed}
-use Rattle.nf_meaning.specs.Sources.{source_call}
 use Rattle.nf_meaning.specs.Operators.{on_thing, operator_call}
-use Rattle.nf_meaning.specs.Calls.{named_call}
 use Rattle.nf_meaning.specs.Workflow.{Part, member_of, method_by, method_of, output_at, index_of, list_made, out_of, free_member, name_member, free_method, name_method, name_thing, head_of, name_head, by_kind, argument_of, already, done_with, expression, nothing_there, statement, of_name, of_property, of_call, of_closed, flowing, of_binary, again_fault, new_names, bind_all, define_one, define_each, chosen, logged, part_of}
 use Rattle.nf_meaning.proofs.Widened.{Alike, AllAlike, is_list, lists_alike, list_items_alike, length_alike as same_length, made_alike}
-use Rattle.nf_meaning.proofs.Twins.{Channels, AllChannels, Outputs, Things, Named, Scopes, States, Ends, Arounds, Twin, Same, on, on_same, given, given_same, refusal, lifting, judging, choosing, wanting, in_scope, scope_here}
+use Rattle.nf_meaning.proofs.Twins.{Channels, AllChannels, Outputs, Things, Named, Scopes, States, Ends, Arounds, Twin, Same, on, on_same, given, given_same, refusal, lifting, judging, choosing, in_scope, scope_here}
 use Rattle.nf_meaning.proofs.SameNames.{MaybeThings, found, all_things, leading_alike}
 use Rattle.nf_meaning.proofs.SameArgs.{Args, AllArgs, valuing, reading, value_due, channel_due, no_file_due, unnamed_alike, source_calls}
 use Rattle.nf_meaning.proofs.SameCalls.{operator_calls, row_fits, MaybeFits, things_called, assigned_alike, assigned_stays, named_calls, same_called}

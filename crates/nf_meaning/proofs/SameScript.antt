@@ -1,5 +1,5 @@
 -- A script goes the same way in two runs, and what follows from that.
-use Rattle.std.proofs.Common.{◌≡◌, ◌≤◌, ℕ, zero, suc, List, [], ◌∷◌, ◌++◌, length, Bool, true, false, Option, Some, None, Result, Ok, Err, refl, ap, sym, subst, ◌∙◌, if◌then◌else◌}
+use Rattle.std.proofs.Common.{◌≡◌, ℕ, zero, suc, List, [], ◌∷◌, ◌++◌, length, Bool, true, false, Option, Some, None, Ok, Err, refl, ap, sym, subst, ◌∙◌, if◌then◌else◌}
 use Rattle.std.specs.List.{IsDistinct}
 use Rattle.std.specs.Str.{bytes_eq}
 use Rattle.nf_value.specs.Plain.{Plain}
@@ -8,22 +8,22 @@ use Rattle.nf_builtins.specs.Natives.{is_among}
 use Rattle.nf_ast.specs.Tree as tree
 use Rattle.nf_ast.specs.Tree.{Tree, empty, cons, place_of}
 use Rattle.nf_placed.specs.Body.{name_in}
-use Rattle.nf_meaning.specs.declared.fault.LowerFault.{LowerFault}
-use Rattle.nf_meaning.specs.declared.fault.LowerFault.TheVariants.{TwiceDefined, BadOption, NoEntry}
+use Rattle.nf_meaning.specs.declared.fault.LowerFault.TheVariants.{TwiceDefined, NoEntry}
 use Rattle.nf_meaning.specs.Lowered.{Lowered, goes_on}
 use Rattle.nf_meaning.specs.Places.{begins_at, first_place}
 use Rattle.nf_meaning.specs.Things.{Thing, a_value, a_channel, outputs, Channel, Output}
 use Rattle.nf_meaning.specs.Given.{Given, Definitions, Found, Outcomes}
-use Rattle.nf_meaning.specs.Walk.{Walk, Around, Scope, State, Want, ◌>>=◌, gives, refused, unless_fault}
-use Rattle.nf_meaning.specs.Expressions.{value_of, only_read, channel_wanted, not_tied_to_file}
+use Rattle.nf_meaning.specs.Meaning.{ScriptMeaning}
+use Rattle.nf_meaning.specs.Walk.{Around, Scope, State}
+use Rattle.nf_meaning.specs.Expressions.{value_of, only_read}
 use Rattle.nf_meaning.specs.Calls.{names_taken}
-use Rattle.nf_meaning.specs.Workflow.{part_of, logged}
-use Rattle.nf_meaning.specs.Script.{emit_label, emit_value, label_fault, label_of, and_label, emitted, emits_of, taken_twice, statements_in, workflow_walk, body_in, take_in, bound, inner_scope, back_in, enter_in, around_at, definitions_of, around, opening, Read, only, new_name, new_entry, with_param, parameter, after, top_read, tops_read, entry_in, first_take, entry_walk, state_of, begun, entry_around, ending, meaning_of, wants_of, paths_of}
-use Rattle.nf_meaning.specs.Few.{HoldsFew, OutputsFew, ThingFew, NamedFew, ScopeFew, WalkFew}
-use Rattle.nf_meaning.specs.CallPaths.{NamesArePlain}
+use Rattle.nf_meaning.specs.Workflow.{logged}
+use Rattle.nf_meaning.specs.Script.{emit_label, emit_value, label_fault, label_of, and_label, emitted, emits_of, taken_twice, statements_in, workflow_walk, body_in, take_in, bound, inner_scope, back_in, enter_in, around_at, definitions_of, around, opening, Read, only, with_param, parameter, after, top_read, tops_read, entry_in, first_take, entry_walk, state_of, begun, entry_around, ending, meaning_of, wants_of, paths_of}
+use Rattle.nf_meaning.specs.Few.{OutputsFew, ThingFew, NamedFew, ScopeFew, WalkFew}
+use Rattle.nf_meaning.specs.CallPaths.{NamesArePlain, MadeBy}
 use Rattle.nf_meaning.specs.Outside.{in_run, fault_of}
-use Rattle.nf_meaning.proofs.Growth.{Grows, GrowsInside, inside_grows, grows_none}
-use Rattle.nf_meaning.proofs.Twins.{Channels, AllChannels, OneOutput, Outputs, Things, Named, Scopes, States, Ends, EndsInside, Arounds, Twin, Same, on, on_same, given, given_same, refusal, judging}
+use Rattle.nf_meaning.proofs.Growth.{Grows, inside_grows}
+use Rattle.nf_meaning.proofs.Twins.{Channels, AllChannels, Outputs, Things, Named, Scopes, States, Ends, EndsInside, Arounds, Twin, Same, on, on_same, given, refusal, judging}
 use Rattle.nf_meaning.proofs.SameNames.{both_named}
 use Rattle.nf_meaning.proofs.SameArgs.{valuing, reading, channel_due, no_file_due}
 use Rattle.nf_meaning.proofs.SameParts.{parts, logs}
@@ -72,7 +72,7 @@ back : (n : List ℕ) (d : Definitions) (s u : State) (t : Tree) (cs : List Chan
 back n d s u t cs e (Ok x) (Ok y) h = (
   h.0,
   record { scope = e.scope; sizes = h.1.sizes; wants = h.1.wants; paths = h.1.paths },
-  λ k. inside_grows n s (record s { scope = inner_scope n t cs s.scope }) x.1 (record x.1 { scope = s.scope }) refl refl (h.2 k) refl refl refl,
+  λ k. inside_grows n s (record s { scope = inner_scope n t cs s.scope }) x.1 (record x.1 { scope = s.scope }) refl refl refl (h.2 k) refl refl refl refl,
 )
 back n d s u t cs e (Err f) (Err g) h = h
 back n d s u t cs e (Ok x) (Err g) h = h
@@ -252,6 +252,17 @@ distinct_at_end g (Err f) ps h plain e = absurd cc
 
 pub paths_distinct : (g : Given) (ps : List (List ℕ)) → NamesArePlain (definitions_of g.tops) → paths_of g ≡ Ok ps → IsDistinct bytes_eq ps
 paths_distinct g ps plain e = distinct_at_end g (ending g) ps (endings g g.found g.outcomes) plain e
+
+made_at_end : (g : Given) (m : Lowered State) (n : ScriptMeaning) (ps : List (List ℕ)) → Both g g.found g.outcomes m m → NamesArePlain (definitions_of g.tops)
+    → goes_on m (λ s. Ok s.meant) ≡ Ok n → goes_on m (λ s. Ok s.paths) ≡ Ok ps → MadeBy ps n.instances
+made_at_end g (Ok s) n ps h plain e f =
+    let here : s.paths ≡ ps = cc in
+    let meant : s.meant ≡ n = cc in
+    subst (λ z. MadeBy z n.instances) here (subst (λ (z : ScriptMeaning). MadeBy s.paths z.instances) meant ((h.1 plain).made tt))
+made_at_end g (Err i) n ps h plain e f = absurd cc
+
+pub made_by_paths : (g : Given) (m : ScriptMeaning) (ps : List (List ℕ)) → NamesArePlain (definitions_of g.tops) → meaning_of g ≡ Ok m → paths_of g ≡ Ok ps → MadeBy ps m.instances
+made_by_paths g m ps plain e f = made_at_end g (ending g) m ps (endings g g.found g.outcomes) plain e f
 
 -- ---- value channels
 

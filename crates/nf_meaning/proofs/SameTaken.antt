@@ -1,6 +1,6 @@
 -- What operators take from their arguments is alike in two runs.
-use Rattle.std.proofs.Common.{◌≡◌, ◌+◌, ◌≤◌, ℕ, List, [], ◌∷◌, ◌++◌, length, Bool, true, false, Option, Some, None, Ok, Err, pos, negsuc, refl, ap, sym, subst, ◌∙◌, if◌then◌else◌, arith, length-append}
-use Rattle.std.specs.Prelude.{codes, ◌==◌}
+use Rattle.std.proofs.Common.{◌≡◌, ◌+◌, ◌≤◌, ℕ, List, [], ◌∷◌, ◌++◌, length, Bool, Option, Some, None, pos, negsuc, refl, ap, sym, subst, arith, length-append}
+use Rattle.std.specs.Prelude.{codes}
 use Rattle.std.specs.Str.{bytes_eq}
 use Rattle.nf_value.specs.Plain.{Plain, null, truth, int, text, file, list, table}
 use Rattle.nf_value.specs.declared.place.Place.{Place}
@@ -21,22 +21,21 @@ use Rattle.nf_optable.specs.declared.rows.ClosureUse.TheVariants as closure
 use Rattle.nf_optable.specs.Rows.{option_names}
 use Rattle.nf_meaning.specs.declared.fault.LowerFault.{LowerFault}
 use Rattle.nf_meaning.specs.declared.fault.LowerFault.TheVariants.{BadOption}
-use Rattle.nf_meaning.specs.Lowered.{or_else, known}
+use Rattle.nf_meaning.specs.Lowered.{known}
 use Rattle.nf_meaning.specs.Places.{begins_at}
 use Rattle.nf_meaning.specs.Things.{Thing, Channel}
 use Rattle.nf_meaning.specs.Names.{Reading, before_run, in_run, unread, pattern_fault, uses_fault}
 use Rattle.nf_meaning.specs.Functions.{names_fault}
-use Rattle.nf_meaning.specs.Walk.{Walk, Around, Scope, State, ◌>>=◌, gives, refused, unless_fault, lifted, wanted, known_in, env_in}
+use Rattle.nf_meaning.specs.Walk.{Walk, Around, Scope, State, ◌>>=◌, gives, refused, unless_fault, known_in, env_in}
 use Rattle.nf_meaning.specs.Totals.{total_of}
 use Rattle.nf_meaning.specs.Options.{allows_key, with_key, key_in, with_flag, with_value, with_option}
-use Rattle.nf_meaning.specs.Expressions.{value_of}
-use Rattle.nf_meaning.specs.Arguments.{Arg, unnamed, is_unnamed, value_arg, channel_arg, flag_in}
-use Rattle.nf_meaning.specs.Closures.{env_for, closing_in, statements_closure, has_labels, without_labels, closure_arg, label_fault, labels_fault, labels_closure, with_labels, labels_arg, labels_in, word_arg}
-use Rattle.nf_meaning.specs.Taken.{Taken, nothing_taken, args_ports, and_channel, and_start, and_closing, with_args, filtering, filling, in_place, total_arg, with_unnamed, take_arg, take_args}
+use Rattle.nf_meaning.specs.Arguments.{Arg, is_unnamed}
+use Rattle.nf_meaning.specs.Closures.{env_for, closing_in, statements_closure, has_labels, without_labels, closure_arg, labels_fault, labels_closure, labels_arg, labels_in, word_arg}
+use Rattle.nf_meaning.specs.Taken.{Taken, nothing_taken, args_ports, and_channel, and_start, and_closing, with_args, filtering, filling, in_place, total_arg, with_unnamed, take_arg}
 use Rattle.nf_meaning.proofs.Widened.{Alike}
 use Rattle.nf_meaning.proofs.Twins.{Channels, AllChannels, Things, Scopes, States, Ends, Arounds, Twin, Same, on, on_same, given, given_same, refusal, lifting, judged, judging, choosing, wanting}
 use Rattle.nf_meaning.proofs.SameNames.{env_alike, knowns_of, names_here, uses_here, givens_of, pattern_fault_alike}
-use Rattle.nf_meaning.proofs.SameArgs.{Any, Args, AllArgs, arg, by_arg, unnamed_alike, option_values, value_args, channel_arg_alike, flags_in}
+use Rattle.nf_meaning.proofs.SameArgs.{Any, Args, arg, by_arg, option_values, value_args, channel_arg_alike, flags_in}
 
 -- ---- options
 

@@ -1,15 +1,14 @@
 -- Two walks through the same text, in two runs: they end with the same fault, or with what is alike.
-use Rattle.std.proofs.Common.{◌≡◌, ◌+◌, ◌≤◌, ℕ, List, [], ◌∷◌, ◌++◌, map, Bool, true, false, Option, Some, None, Result, Ok, Err, refl, ap, sym, subst, ◌∙◌, if◌then◌else◌}
-use Rattle.nf_value.specs.Plain.{Plain}
+use Rattle.std.proofs.Common.{◌≡◌, ℕ, List, [], ◌∷◌, ◌++◌, Bool, true, false, Option, Some, None, Ok, Err, refl, ap, subst, ◌∙◌, if◌then◌else◌}
+use Rattle.std.proofs.lemmas.List.{append-nil}
 use Rattle.nf_value.specs.declared.place.Place.{Place}
-use Rattle.nf_builtins.specs.Natives.{is_among}
 use Rattle.nf_ast.specs.Tree.{Tree}
 use Rattle.nf_meaning.specs.declared.fault.LowerFault.{LowerFault}
 use Rattle.nf_meaning.specs.Lowered.{Lowered}
 use Rattle.nf_meaning.specs.Things.{Thing, a_value, a_channel, outputs, Channel, Output}
-use Rattle.nf_meaning.specs.Given.{Given, Definitions}
+use Rattle.nf_meaning.specs.Given.{Definitions}
 use Rattle.nf_meaning.specs.Meaning.{ScriptMeaning, and_meant}
-use Rattle.nf_meaning.specs.Walk.{Walk, Step, Around, Scope, State, Want, then_by, ◌>>=◌, gives, refused, at_state, lifted, unless_fault, wanted, means, wants, with_scope, the_scope}
+use Rattle.nf_meaning.specs.Walk.{Walk, Around, Scope, State, Want, then_by, ◌>>=◌, gives, refused, at_state, lifted, unless_fault, wanted, means, wants, with_scope, the_scope}
 use Rattle.nf_meaning.specs.Few.{HoldsFew}
 use Rattle.nf_meaning.specs.CallPaths.{NamesArePlain}
 use Rattle.nf_meaning.proofs.Widened.{Alike}
@@ -117,6 +116,15 @@ goes_on P Q f g k a b h s (Err i) (Err j) e = e
 goes_on P Q f g k a b h s (Ok x) (Err j) e = absurd e
 goes_on P Q f g k a b h s (Err i) (Ok y) e = absurd e
 
+-- the same, where what comes next may look at the state
+pub goes_on_from : {A B : Type 0} (P : A → A → Type 0) (Q : B → B → Type 0) (d : Definitions) (a b : Around) (s : State) (f g : A → Walk B)
+    → ((x y : A) → P x y → (t u : State) → States t u → (NamesArePlain d → Grows s t) → Ends Q d t (f x a t) (g y b u))
+    → (m n : Lowered (A × State)) → Ends P d s m n → Ends Q d s (then_by a f m) (then_by b g n)
+goes_on_from P Q d a b s f g k (Ok x) (Ok y) e = ends_on Q d s x.1 (f x.0 a x.1) (g y.0 b y.1) e.2 (k x.0 y.0 e.0 x.1 y.1 e.1 e.2)
+goes_on_from P Q d a b s f g k (Err i) (Err j) e = e
+goes_on_from P Q d a b s f g k (Ok x) (Err j) e = absurd e
+goes_on_from P Q d a b s f g k (Err i) (Ok y) e = absurd e
+
 pub on : {A B : Type 0} {P : A → A → Type 0} {Q : B → B → Type 0} {w v : Walk A} {f g : A → Walk B} → Twin P w v → ((x y : A) → P x y → Twin Q (f x) (g y))
     → Twin Q (w >>= f) (v >>= g)
 on {P = P} {Q = Q} {w = w} {v = v} {f = f} {g = g} t k = record { at = λ a b h s u e. goes_on P Q f g k a b h s (w a s) (v b u) (t.at a b h s u e) }
@@ -172,12 +180,12 @@ pub choosing : {A : Type 0} {P : A → A → Type 0} {w v x y : Walk A} (c : Boo
 choosing true t k = t
 choosing false t k = k
 
-pub meaning : (m n : ScriptMeaning) → Twin Same (means m) (means n)
-meaning m n = record {
+pub meaning : (m n : ScriptMeaning) → m.instances ≡ [] → Twin Same (means m) (means n)
+meaning m n i = record {
   at = λ a b h s u e. (
     refl,
     record { scope = e.scope; sizes = e.sizes; wants = e.wants; paths = e.paths },
-    λ k. same_calls s (record s { meant = and_meant s.meant m }) refl refl refl,
+    λ k. same_calls s (record s { meant = and_meant s.meant m }) refl refl refl (ap (λ z. s.meant.instances ++ z) i ∙ append-nil s.meant.instances),
   );
 }
 
@@ -186,7 +194,7 @@ wanting_files x = record {
   at = λ a b h s u e. (
     refl,
     record { scope = e.scope; sizes = e.sizes; wants = ap (λ z. z ++ x ∷ []) e.wants; paths = e.paths },
-    λ k. same_calls s (record s { wants = s.wants ++ x ∷ [] }) refl refl refl,
+    λ k. same_calls s (record s { wants = s.wants ++ x ∷ [] }) refl refl refl refl,
   );
 }
 
@@ -196,7 +204,7 @@ in_scope f g k c = record {
   at = λ a b h s u e. (
     refl,
     record { scope = k s.scope u.scope e.scope; sizes = e.sizes; wants = e.wants; paths = e.paths },
-    λ k. same_calls s (record s { scope = f s.scope }) (c s.scope).0 (c s.scope).1 refl,
+    λ k. same_calls s (record s { scope = f s.scope }) (c s.scope).0 (c s.scope).1 refl refl,
   );
 }
 

@@ -15,6 +15,10 @@ pub record DecidedAt (c : TaskCall) (z : Instance) : Type 0 where
   pub before : AreTriedAgain (job c.called z.inputs z.n) (outs c.called z.inputs) 1 earlier
   pub not_again : outs c.called z.inputs (1 + length earlier) report ≢ Ok Again
 
+-- all its reports so far are of attempts that are tried again
+abbrev pub IsUndecided : TaskCall → Instance → Type 0
+IsUndecided c z = AreTriedAgain (job c.called z.inputs z.n) (outs c.called z.inputs) 1 (reports_of c z)
+
 -- it alone says what the task comes to, and what is published
 pub record DecidesAlone (c : TaskCall) (z : Instance) (attempt : ℕ) (r : Report) : Type 0 where
   pub decided : decided_in c z ≡ decided_by (job c.called z.inputs z.n attempt) (outs c.called z.inputs attempt r) None

@@ -1,6 +1,6 @@
 //! Laws of the meaning of scripts, each a contract over the definitions alone.
 
-ghost use Rattle.std.specs.Prelude.{◌≡◌, ◌+◌, ◌++◌, List, ℕ, length, Option, Ok};
+ghost use Rattle.std.specs.Prelude.{◌≡◌, ◌+◌, [], ◌++◌, List, ℕ, length, Option, Ok};
 ghost use Rattle.std.specs.List.{IsDistinct};
 ghost use Rattle.std.specs.Str.{bytes_eq};
 ghost use Rattle.nf_value.specs.Plain.{Plain};
@@ -18,13 +18,13 @@ ghost use Rattle.nf_meaning.specs.Given.{Given, Found};
 ghost use Rattle.nf_meaning.specs.Walk.{State};
 ghost use Rattle.nf_meaning.specs.Script.{around, around_at, definitions_of, meaning_of, paths_of, wants_of, workflow_walk};
 ghost use Rattle.nf_meaning.specs.Few.{ScopeFew, WalkFew};
-ghost use Rattle.nf_meaning.specs.CallPaths.{NamesArePlain};
+ghost use Rattle.nf_meaning.specs.CallPaths.{NamesArePlain, MadeBy};
 ghost use Rattle.nf_meaning.specs.Outside.{fault_of, in_run};
 ghost use Rattle.nf_meaning.specs.Operators as operators;
 ghost use Rattle.nf_meaning.specs.Operators.{Call};
 ghost use Rattle.nf_meaning.specs.Tasks as tasks;
-ghost use Rattle.nf_meaning.specs.Tasks.{TaskCall};
-ghost use Rattle.nf_meaning.specs.Deciding.{DecidedAt, DecidesAlone};
+ghost use Rattle.nf_meaning.specs.Tasks.{TaskCall, targets_in};
+ghost use Rattle.nf_meaning.specs.Deciding.{DecidedAt, DecidesAlone, IsUndecided};
 ghost use Rattle.nf_meaning.specs.Nodes.{Site, IsCallSite, MeansCall, IsTaskSite, MeansTasks, IsCallNode, IsTaskNode, port_to};
 ghost use Rattle.nf_meaning.specs.Report.{report_of, charge_of, AreSameBags, ShowsSame};
 
@@ -85,17 +85,21 @@ pub fn functions_in_order()
     ensures whole { (ds : List Definition) → NoneLeftOut (names_of ds) (in_order ds) ds }
 {}
 
-/// The first report of a task that isn't tried again alone says what the task comes to, and what is published. So what
-/// is published is what the report publishes that decides.
+/// The first report of a task that isn't tried again alone says what the task comes to, and what is published. As long
+/// as there is none nothing is published.
 pub fn first_to_decide()
-    ensures { (c : TaskCall) → (z : Instance) → (d : DecidedAt c z) → DecidesAlone c z (1 + length d.earlier) d.report }
+    ensures decided { (c : TaskCall) → (z : Instance) → (d : DecidedAt c z)
+        → DecidesAlone c z (1 + length d.earlier) d.report }
+    ensures waiting { (c : TaskCall) → (z : Instance) → IsUndecided c z → targets_in c z ≡ [] }
 {}
 
-/// The calls of processes in a script have different paths, whatever workflows they stand in. So no two tasks of
-/// different calls are one instance.
+/// The calls of processes in a script have different paths, whatever workflows they stand in, and each task is of one
+/// of them. So no two tasks of different calls are one instance.
 pub fn calls_are_apart()
-    ensures { (g : Given) → (paths : List (List ℕ)) → NamesArePlain (definitions_of g.tops) → paths_of g ≡ Ok paths
-        → IsDistinct bytes_eq paths }
+    ensures apart { (g : Given) → (paths : List (List ℕ)) → NamesArePlain (definitions_of g.tops)
+        → paths_of g ≡ Ok paths → IsDistinct bytes_eq paths }
+    ensures tasks { (g : Given) → (m : ScriptMeaning) → (paths : List (List ℕ)) → NamesArePlain (definitions_of g.tops)
+        → meaning_of g ≡ Ok m → paths_of g ≡ Ok paths → MadeBy paths m.instances }
 {}
 
 /// The fault of a script, the paths whose files it reads and the paths of its calls are the same in all its runs: they

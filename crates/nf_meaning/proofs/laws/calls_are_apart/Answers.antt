@@ -1,5 +1,8 @@
-use Rattle.nf_meaning.proofs.SameScript.{paths_distinct}
+use Rattle.nf_meaning.proofs.SameScript.{paths_distinct, made_by_paths}
 use Rattle.nf_meaning.proofs.laws.calls_are_apart.Goals as goal
 
-pub returns : goal.returns
-returns c g paths plain e = paths_distinct g paths plain e
+pub returns-clause-apart : goal.returns-clause-apart
+returns-clause-apart c g paths plain e = paths_distinct g paths plain e
+
+pub returns-clause-tasks : goal.returns-clause-tasks
+returns-clause-tasks c g m paths plain e f = made_by_paths g m paths plain e f
