@@ -49,6 +49,7 @@ module _ (among : List (List ℕ)) where
     where
       native : native_call p n one.titles one.answer vs ≡ native_call p n other.titles other.answer vs
       native = ap (λ t. native_call p n t one.answer vs) e.titles ∙ ap (λ a. native_call p n other.titles a vs) e.answer
+
       by_found : (f g : Option _) → f ≡ g → by_function f p n one vs ≡ by_function g p n other vs
       by_found None g h = native ∙ ap (λ o. by_function o p n other vs) h
       by_found (Some f) g h = ap (λ o. by_function o p n other vs) h
