@@ -1,2 +1,3 @@
 pub mod Ticket
 pub mod Flights
+pub mod Inputs

@@ -3,8 +3,10 @@
 
 mod flight;
 mod flights;
+mod inputs;
 mod ticket;
 
 pub use flight::Flight;
 pub use flights::Flights;
+pub use inputs::KeptInputs;
 pub use ticket::Ticket;
