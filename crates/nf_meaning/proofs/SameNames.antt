@@ -17,7 +17,7 @@ use Rattle.nf_meaning.specs.declared.fault.LowerFault.TheVariants.{BadOption, Pa
 use Rattle.nf_meaning.specs.Lowered.{or_else, fault_if}
 use Rattle.nf_meaning.specs.Things.{Thing, a_value, a_channel, outputs, thing_named, value_before_run}
 use Rattle.nf_meaning.specs.Given.{Given, Definitions, function_named}
-use Rattle.nf_meaning.specs.Names.{Reading, before_run, in_run, unread, Known, value_fault, thing_fault, bound_fault, name_fault, leads_to_channels, called_by, call_fault, pattern_fault, use_fault, uses_fault}
+use Rattle.nf_meaning.specs.Names.{Reading, before_run, in_run, unread, Known, value_fault, thing_fault, bound_fault, is_no_value, name_fault, leads_to_channels, called_by, call_fault, pattern_fault, use_fault, uses_fault}
 use Rattle.nf_meaning.specs.Functions.{Judge, no_names_known, function_fault, call_use_fault, calls_fault, reached_fault, judged_within, function_uses, names_fault, led_back}
 use Rattle.nf_meaning.specs.Walk.{Around, Scope, things_in, known_in, values_before_run, env_with, env_before_run, is_bound}
 use Rattle.nf_meaning.specs.Expressions.{is_tied, name_leads, call_leads, Leads, leads_in, leading, is_leading}
@@ -171,10 +171,11 @@ bound_fault_alike (Some t) (Some u) c leads r p h = thing_fault_alike r p t u h
 bound_fault_alike None (Some u) c leads r p h = absurd h
 bound_fault_alike (Some t) None c leads r p h = absurd h
 
-name_fault_alike : (d : Definitions) (k l : Known) (r : Reading) (p : Place) (n : List ℕ) → Knowns k l → name_fault d k r p n ≡ name_fault d l r p n
-name_fault_alike d k l r p n h =
-    bound_fault_alike (thing_named n k.things) (thing_named n l.things) (is_among n k.everywhere) (leads_to_channels d n) r p (found n k.things l.things h.things)
-    ∙ ap (λ z. bound_fault (thing_named n l.things) (is_among n z) (leads_to_channels d n) r p) h.everywhere
+pub name_fault_alike : (d : Definitions) (titles : List (List ℕ)) (k l : Known) (r : Reading) (p : Place) (n : List ℕ) → Knowns k l
+    → name_fault d titles k r p n ≡ name_fault d titles l r p n
+name_fault_alike d titles k l r p n h =
+    bound_fault_alike (thing_named n k.things) (thing_named n l.things) (is_among n k.everywhere) (is_no_value d titles n) r p (found n k.things l.things h.things)
+    ∙ ap (λ z. bound_fault (thing_named n l.things) (is_among n z) (is_no_value d titles n) r p) h.everywhere
 
 pub pattern_fault_alike : (g h : Given) (p : Place) (s : List ℕ) → Givens g h → pattern_fault g p s ≡ pattern_fault h p s
 pattern_fault_alike g h p s e =
@@ -183,7 +184,8 @@ pattern_fault_alike g h p s e =
 
 use_alike : (g h : Given) (d : Definitions) (k l : Known) (r : Reading) (u : UseKind) (p : Place) (n : List ℕ) → Givens g h → Knowns k l
     → use_fault g d k r u p n ≡ use_fault h d l r u p n
-use_alike g h d k l r kind.Name p n e f = name_fault_alike d k l r p n f
+use_alike g h d k l r kind.Name p n e f =
+    name_fault_alike d g.program.titles k l r p n f ∙ ap (λ (z : Program). name_fault d z.titles l r p n) e.program
 use_alike g h d k l r kind.Assigned p n e f = refl
 use_alike g h d k l r kind.Again p n e f = refl
 use_alike g h d k l r kind.Function p n e f = ap (λ (z : Program). call_fault (called_by d z.titles n) p) e.program
@@ -252,3 +254,10 @@ pub uses_here : (a b : Around) → Arounds a b → (k l : Known) → Knowns k l 
     → uses_fault a.given a.definitions k r us ≡ uses_fault b.given b.definitions l r us
 uses_here a b h k l f r us =
     uses_alike a.given b.given a.definitions k l r us (givens_of a b h) f ∙ ap (λ d. uses_fault b.given d l r us) h.definitions
+
+pub name_here : (a b : Around) → Arounds a b → (x y : Scope) → Scopes x y → (r : Reading) (p : Place) (n : List ℕ)
+    → name_fault a.definitions a.given.program.titles (known_in a x) r p n ≡ name_fault b.definitions b.given.program.titles (known_in b y) r p n
+name_here a b h x y e r p n =
+    name_fault_alike a.definitions a.given.program.titles (known_in a x) (known_in b y) r p n (knowns_of a b h x y e)
+    ∙ ap (λ d. name_fault d a.given.program.titles (known_in b y) r p n) h.definitions
+    ∙ ap (λ (z : Program). name_fault b.definitions z.titles (known_in b y) r p n) h.program

@@ -30,11 +30,11 @@ use Rattle.nf_meaning.specs.Walk.{Walk, Around, Scope, State, ◌>>=◌, gives, 
 use Rattle.nf_meaning.specs.Totals.{total_of}
 use Rattle.nf_meaning.specs.Options.{allows_key, with_key, key_in, with_flag, with_value, with_option}
 use Rattle.nf_meaning.specs.Arguments.{Arg, is_unnamed}
-use Rattle.nf_meaning.specs.Closures.{env_for, closing_in, statements_closure, has_labels, without_labels, closure_arg, labels_fault, labels_closure, labels_arg, labels_in, word_arg}
-use Rattle.nf_meaning.specs.Taken.{Taken, nothing_taken, args_ports, and_channel, and_start, and_closing, with_args, filtering, filling, in_place, total_arg, with_unnamed, take_arg}
+use Rattle.nf_meaning.specs.Closures.{env_for, closing_in, bare_fault, no_closure, statements_closure, has_labels, without_labels, closure_arg, labels_fault, labels_closure, labels_arg, labels_in, word_arg}
+use Rattle.nf_meaning.specs.Taken.{Taken, nothing_taken, args_ports, and_channel, and_start, and_closing, with_args, filtering, filling, in_place, total_wanted, total_arg, with_unnamed, take_arg}
 use Rattle.nf_meaning.proofs.Widened.{Alike}
 use Rattle.nf_meaning.proofs.Twins.{Channels, AllChannels, Things, Scopes, States, Ends, Arounds, Twin, Same, on, on_same, given, given_same, refusal, lifting, judged, judging, choosing, wanting}
-use Rattle.nf_meaning.proofs.SameNames.{env_alike, knowns_of, names_here, uses_here, givens_of, pattern_fault_alike}
+use Rattle.nf_meaning.proofs.SameNames.{name_here, env_alike, knowns_of, names_here, uses_here, givens_of, pattern_fault_alike}
 use Rattle.nf_meaning.proofs.SameArgs.{Any, Args, arg, by_arg, option_values, value_args, channel_arg_alike, flags_in}
 
 -- ---- options
@@ -96,9 +96,21 @@ statements r p ps body = record {
 pub no_labels : (r : Reading) (p : Place) (ps b : Tree) → Twin (Closings r) (without_labels r p ps b) (without_labels r p ps b)
 no_labels r p ps b = choosing (has_labels b) (refusal (BadOption p)) (statements r p ps b)
 
+bare_alike : (a b : Around) → Arounds a b → (x y : Scope) → Scopes x y → (t : Tree) → bare_fault a x t ≡ bare_fault b y t
+bare_alike a b h x y e (tree.name p n) = name_here a b h x y e unread p n
+bare_alike a b h x y e _ = refl
+
+-- where there is no closure
+none_here : {A : Type 0} (P : A → A → Type 0) (t : Tree) → Twin P (no_closure t) (no_closure t)
+none_here P t = record {
+  at = λ a b h s u e.
+      judged_then P s u a b (bare_fault a s.scope t) (bare_fault b u.scope t) (bare_alike a b h s.scope u.scope e.scope t) h e
+      (refused (BadOption (begins_at t))) (refused (BadOption (begins_at t))) (refusal (BadOption (begins_at t)));
+}
+
 closure_args : (r : Reading) (t : Tree) → Twin (Closings r) (closure_arg r t) (closure_arg r t)
 closure_args r (tree.closure p ps b) = no_labels r p ps b
-closure_args r _ = refusal (BadOption _)
+closure_args r t = none_here (Closings r) t
 
 labels_alike : (i j : Tree → Option LowerFault) → ((t : Tree) → i t ≡ j t) → (before : List (List ℕ)) (t : Tree) → labels_fault i before t ≡ labels_fault j before t
 labels_alike i j h before t = ap (λ f. labels_fault f before t) (λ k z. h z k)
@@ -128,11 +140,16 @@ labels_step p ps body = record {
 
 labels_args : (t : Tree) → Twin (Closings in_run) (labels_arg t) (labels_arg t)
 labels_args (tree.closure p ps b) = choosing (has_labels b) (labels_step p ps b) (refusal (BadOption p))
-labels_args _ = refusal (BadOption _)
+labels_args t = none_here (Closings in_run) t
 
 words_here : (t : Tree) → Twin Same (word_arg t) (word_arg t)
 words_here (tree.closure p empty (cons (tree.name q n) empty)) = given_same n
-words_here _ = refusal (BadOption _)
+words_here (tree.closure p ps b) = refusal (BadOption p)
+words_here t = none_here Same t
+
+totals_here : (t : Tree) → Twin Same (total_wanted t) (total_wanted t)
+totals_here (tree.closure p ps b) = wanting (total_of (tree.closure p ps b)) (BadOption p)
+totals_here t = none_here Same t
 
 -- ---- what is taken
 
@@ -208,7 +225,7 @@ options_taken n t u h o q = taken_so n t u h (record t { options = o }) (record 
 
 totals_taken : (n : ℕ) (x y : Arg) → Args x y → (t u : Taken) → Takens t u → Twin (Adds t n) (total_arg x t) (total_arg y u)
 totals_taken n x y h t u e = by_arg (λ x y. Twin (Adds t n) (total_arg x t) (total_arg y u)) (λ l i w v k.
-    on_same (wanting (total_of i) (BadOption (begins_at i))) (λ z. options_taken n t u e (record t.options { total = z }) (record u.options { total = z }))) x y h
+    on_same (totals_here i) (λ z. options_taken n t u e (record t.options { total = z }) (record u.options { total = z }))) x y h
 
 labels_taken : (n : ℕ) (t u : Taken) → Takens t u → (c d : Closing) → c.body ≡ d.body
     → Twin (Adds t n) (gives (record t { closing = Some c; labels = labels_in c.body; options = record t.options { outs = length (labels_in c.body) } }))

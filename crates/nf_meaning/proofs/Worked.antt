@@ -1436,3 +1436,43 @@ pairs_past_ascii_script = cons (tree.workflow (at 1 1) empty (cons (tree.call (a
 pairs_past_ascii : prints (record (alone pairs_past_ascii_script) { found = record { path = codes "d/" ++ 195 ∷ 169 ∷ codes "*_{1,2}.fq"; files = a_file (195 ∷ 169 ∷ codes "7_1.fq") ∷ a_file (195 ∷ 169 ∷ codes "7_2.fq") ∷ [] } ∷ [] }) ≡ Ok ((codes "[7, [" ++ 195 ∷ 169 ∷ codes "7_1.fq, " ++ 195 ∷ 169 ∷ codes "7_2.fq]]") ∷ [])
 unfolding digits chars encode
 pairs_past_ascii = refl
+
+-- def twice(x) { x * 2 }
+-- workflow { channel.of(twice) }
+abbrev function_as_a_value_script : Tree
+function_as_a_value_script = cons (tree.function (at 1 1) (tree.name (at 1 5) (codes "twice")) (cons (tree.name (at 1 11) (codes "x")) empty) (cons (tree.binary (at 1 18) mark.Times (tree.name (at 1 16) (codes "x")) (tree.number (at 1 20) (pos 2))) empty)) (cons (tree.workflow (at 2 1) empty (cons (tree.call (at 2 22) (tree.property (tree.name (at 2 12) (codes "channel")) (tree.name (at 2 20) (codes "of"))) (cons (tree.name (at 2 23) (codes "twice")) empty)) empty)) empty)
+
+function_as_a_value : prints (alone function_as_a_value_script) ≡ Err (BadOption (at 2 23))
+unfolding digits
+function_as_a_value = refl
+
+-- workflow { channel.of(1).map(nope) }
+abbrev unknown_name_for_a_closure_script : Tree
+unknown_name_for_a_closure_script = cons (tree.workflow (at 1 1) empty (cons (tree.call (at 1 29) (tree.property (tree.call (at 1 22) (tree.property (tree.name (at 1 12) (codes "channel")) (tree.name (at 1 20) (codes "of"))) (cons (tree.number (at 1 23) (pos 1)) empty)) (tree.name (at 1 26) (codes "map"))) (cons (tree.name (at 1 30) (codes "nope")) empty)) empty)) empty
+
+unknown_name_for_a_closure : prints (alone unknown_name_for_a_closure_script) ≡ Err (UnknownName (at 1 30))
+unfolding digits
+unknown_name_for_a_closure = refl
+
+-- workflow { x = 1
+-- channel.of(1).map(x) }
+abbrev value_for_a_closure_script : Tree
+value_for_a_closure_script = cons (tree.workflow (at 1 1) empty (cons (tree.assign (tree.name (at 1 12) (codes "x")) (tree.number (at 1 16) (pos 1))) (cons (tree.call (at 2 18) (tree.property (tree.call (at 2 11) (tree.property (tree.name (at 2 1) (codes "channel")) (tree.name (at 2 9) (codes "of"))) (cons (tree.number (at 2 12) (pos 1)) empty)) (tree.name (at 2 15) (codes "map"))) (cons (tree.name (at 2 19) (codes "x")) empty)) empty))) empty
+
+value_for_a_closure : prints (alone value_for_a_closure_script) ≡ Err (BadOption (at 2 19))
+unfolding digits
+value_for_a_closure = refl
+
+-- process P {
+-- output:
+-- val { 1 }
+-- script:
+-- "true"
+-- }
+-- workflow { P() }
+abbrev closure_as_an_output_script : Tree
+closure_as_an_output_script = cons (tree.process (at 1 1) (tree.name (at 1 9) (codes "P")) empty empty (tree.section (at 2 1) (cons (tree.output (tree.val (at 3 1) (tree.closure (at 3 5) empty (cons (tree.number (at 3 7) (pos 1)) empty))) empty) empty)) (tree.section (at 4 1) (cons (tree.template (at 5 1) template_kind.Double (cons (tree.piece (at 5 1) (codes "true")) empty)) empty)) empty) (cons (tree.workflow (at 7 1) empty (cons (tree.call (at 7 13) (tree.name (at 7 12) (codes "P")) empty) empty)) empty)
+
+closure_as_an_output : prints (alone closure_as_an_output_script) ≡ Err (BadOption (at 3 5))
+unfolding digits
+closure_as_an_output = refl

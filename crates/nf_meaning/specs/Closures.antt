@@ -12,7 +12,7 @@ use Rattle.nf_meaning.specs.declared.fault.LowerFault.{LowerFault}
 use Rattle.nf_meaning.specs.declared.fault.LowerFault.TheVariants.{TwiceDefined, BadOption}
 use Rattle.nf_meaning.specs.Lowered.{or_else, fault_if}
 use Rattle.nf_meaning.specs.Places.{begins_at}
-use Rattle.nf_meaning.specs.Names.{Reading, before_run, in_run, unread, uses_fault}
+use Rattle.nf_meaning.specs.Names.{Reading, before_run, in_run, unread, name_fault, uses_fault}
 use Rattle.nf_meaning.specs.Functions.{names_fault}
 use Rattle.nf_meaning.specs.Walk.{Walk, Around, Scope, ◌>>=◌, gives, refused, unless_fault, known_in, env_in, env_before_run}
 
@@ -46,10 +46,18 @@ statements_closure r p ps b a s =
 abbrev pub without_labels : Reading → Place → Tree → Tree → Walk Closing
 without_labels r p ps b = if has_labels b then refused (BadOption p) else statements_closure r p ps b
 
+-- where a closure is wanted and there is none; a name that nothing binds is at fault first
+abbrev pub bare_fault : Around → Scope → Tree → Option LowerFault
+bare_fault a x (tree.name p n) = name_fault a.definitions a.given.program.titles (known_in a x) unread p n
+bare_fault a x _ = None
+
+abbrev pub no_closure : {A : Type 0} → Tree → Walk A
+no_closure e a s = (unless_fault (bare_fault a s.scope e) >>= λ _. refused (BadOption (begins_at e))) a s
+
 -- the closure that an argument is
 abbrev pub closure_arg : Reading → Tree → Walk Closing
 closure_arg r (tree.closure p ps b) = without_labels r p ps b
-closure_arg r e = refused (BadOption (begins_at e))
+closure_arg r e = no_closure e
 
 -- the parameters of a closure of labels, then each label and its expression
 abbrev pub label_fault : List (List ℕ) → Tree → Option LowerFault
@@ -77,9 +85,10 @@ with_labels p ps b = if has_labels b then labels_closure p ps b else refused (Ba
 -- the closure of labels that an argument is
 abbrev pub labels_arg : Tree → Walk Closing
 labels_arg (tree.closure p ps b) = with_labels p ps b
-labels_arg e = refused (BadOption (begins_at e))
+labels_arg e = no_closure e
 
 -- the closure that is just a name
 abbrev pub word_arg : Tree → Walk (List ℕ)
 word_arg (tree.closure p empty (cons (tree.name q n) empty)) = gives n
-word_arg e = refused (BadOption (begins_at e))
+word_arg (tree.closure p ps b) = refused (BadOption p)
+word_arg e = no_closure e

@@ -123,7 +123,7 @@ folder_in p (e ∷ f ∷ more) = Err (BadOption p)
 -- one more argument: only the folder and `pattern` have an effect
 abbrev pub with_option : Inside → Place → List ℕ → Tree → PublishMeaning → Lowered PublishMeaning
 with_option x p n e d =
-    if bytes_eq n (codes "pattern") then (expression x e >>= λ f. Ok (record d { pattern = Some f }))
+    if bytes_eq n (codes "pattern") then (expression_wanted p e >>= expression x >>= λ f. Ok (record d { pattern = Some f }))
     else if is_among n (codes "mode" ∷ codes "overwrite" ∷ []) then Ok d
     else Err (BadOption p)
 

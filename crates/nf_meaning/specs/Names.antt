@@ -46,11 +46,15 @@ abbrev pub by_process : Option Tree → Called → Called
 by_process (Some t) c = a_process t
 by_process None c = c
 
+-- a function of the script or of the program
+abbrev pub is_function : Definitions → List (List ℕ) → List ℕ → Bool
+is_function d titles n = is_some (function_named n d.functions) || is_among n titles
+
 -- the script's own names come before the language's
 abbrev pub called_by : Definitions → List (List ℕ) → List ℕ → Called
 called_by d titles n =
     by_process (tree_named n d.processes) (by_workflow (tree_named n d.workflows)
-    (by_function (is_some (function_named n d.functions) || is_among n titles) (by_word n)))
+    (by_function (is_function d titles n) (by_word n)))
 
 -- `channel` or `Channel`
 abbrev pub is_channel_word : List ℕ → Bool
@@ -102,8 +106,12 @@ abbrev pub bound_fault : Option Thing → Bool → Bool → Reading → Place �
 bound_fault (Some t) everywhere leads r p = thing_fault r p t
 bound_fault None everywhere leads r p = unbound_fault everywhere leads r p
 
-abbrev pub name_fault : Definitions → Known → Reading → Place → List ℕ → Option LowerFault
-name_fault d k r p n = bound_fault (thing_named n k.things) (is_among n k.everywhere) (leads_to_channels d n) r p
+-- a name that stands for something, but for no value
+abbrev pub is_no_value : Definitions → List (List ℕ) → List ℕ → Bool
+is_no_value d titles n = leads_to_channels d n || is_function d titles n
+
+abbrev pub name_fault : Definitions → List (List ℕ) → Known → Reading → Place → List ℕ → Option LowerFault
+name_fault d titles k r p n = bound_fault (thing_named n k.things) (is_among n k.everywhere) (is_no_value d titles n) r p
 
 -- an expression calls functions alone
 abbrev pub call_fault : Called → Place → Option LowerFault
@@ -121,7 +129,7 @@ pattern_fault g p s =
     else Some (PatternRefused p)
 
 abbrev pub use_fault : Given → Definitions → Known → Reading → UseKind → Place → List ℕ → Option LowerFault
-use_fault g d k r kind.Name p n = name_fault d k r p n
+use_fault g d k r kind.Name p n = name_fault d g.program.titles k r p n
 use_fault g d k r kind.Assigned p n = Some (UnknownName p)
 use_fault g d k r kind.Again p n = Some (TwiceDefined p)
 use_fault g d k r kind.Function p n = call_fault (called_by d g.program.titles n) p

@@ -18,7 +18,7 @@ use Rattle.nf_meaning.specs.Lowered.{Lowered, ◌>>=◌, unless, or_else, fault_
 use Rattle.nf_meaning.specs.Places.{begins_at, is_before}
 use Rattle.nf_meaning.specs.Walk.{Around}
 use Rattle.nf_meaning.specs.Tasks.{CalledProcess}
-use Rattle.nf_meaning.specs.Directives.{Inside, inside, formula, expression, no_directives, strategy_of, directives_in}
+use Rattle.nf_meaning.specs.Directives.{Inside, inside, formula, expression, expression_wanted, no_directives, strategy_of, directives_in}
 
 -- ---- inputs
 
@@ -67,8 +67,8 @@ twice_named inputs = (and_names inputs (record { names = []; fault = None })).fa
 -- ---- outputs
 
 abbrev pub output_part : Inside → Tree → Lowered PartMeaning
-output_part x (tree.val p e) = expression x e >>= λ f. Ok (value f)
-output_part x (tree.path p e) = expression x e >>= λ f. Ok (files f)
+output_part x (tree.val p e) = expression_wanted (begins_at e) e >>= expression x >>= λ f. Ok (value f)
+output_part x (tree.path p e) = expression_wanted (begins_at e) e >>= expression x >>= λ f. Ok (files f)
 output_part x _ = Ok captured
 
 abbrev pub output_parts : Inside → Tree → Lowered (List PartMeaning)

@@ -6,6 +6,7 @@ use Rattle.nf_ast.specs.Tree as tree
 use Rattle.nf_ast.specs.Tree.{Tree}
 use Rattle.nf_eval.specs.Evaluation.{Closing, apply_of}
 use Rattle.nf_bag.specs.declared.options.OpOpts.{OpOpts}
+use Rattle.nf_bag.specs.declared.options.Total.{Total}
 use Rattle.nf_bag.specs.declared.rows.Row.{Row}
 use Rattle.nf_bag.specs.declared.rows.Row.TheVariants as row
 use Rattle.nf_optable.specs.declared.rows.OpRow.{OpRow}
@@ -22,7 +23,7 @@ use Rattle.nf_meaning.specs.Walk.{Walk, ◌>>=◌, gives, refused, lifted, unles
 use Rattle.nf_meaning.specs.Totals.{total_of}
 use Rattle.nf_meaning.specs.Options.{no_options, with_option}
 use Rattle.nf_meaning.specs.Arguments.{Arg, unnamed, value_arg, channel_arg}
-use Rattle.nf_meaning.specs.Closures.{closure_arg, without_labels, labels_arg, labels_in, word_arg}
+use Rattle.nf_meaning.specs.Closures.{no_closure, closure_arg, without_labels, labels_arg, labels_in, word_arg}
 
 -- ---- how many arguments without a name an operator takes, its closure among them
 
@@ -145,9 +146,14 @@ abbrev pub in_place : Row → Arg → Taken → Walk Taken
 in_place row.IfEmpty x t = filling x.tree x t
 in_place r x t = filtering x.tree x t
 
+-- the total that a closure stands for
+abbrev pub total_wanted : Tree → Walk Total
+total_wanted (tree.closure p ps b) = wanted (total_of (tree.closure p ps b)) (BadOption p)
+total_wanted e = no_closure e
+
 abbrev pub total_arg : Arg → Taken → Walk Taken
 total_arg x t =
-    wanted (total_of x.tree) (BadOption (begins_at x.tree)) >>= λ k.
+    total_wanted x.tree >>= λ k.
     gives (record t { options = record t.options { total = k } })
 
 -- an argument without a name, which may be the last one
