@@ -1,0 +1,4 @@
+pub mod Clashing
+pub mod Copied
+pub mod Names
+pub mod Tests

@@ -1,0 +1,14 @@
+//! What a run publishes: the report of a run that ended well, and the copies of its published files.
+#![tactic(auto)]
+
+mod clash;
+mod copies;
+mod fault;
+mod lines;
+mod reports;
+mod store;
+
+pub use copies::copy_out;
+pub use fault::{Clash, CopyRefusal, PublishFault};
+pub use reports::report;
+pub use store::stored_path;
