@@ -1,0 +1,4 @@
+pub mod Results
+pub mod Closures
+pub mod Operators
+pub mod Calls
