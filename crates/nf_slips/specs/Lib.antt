@@ -1,0 +1,5 @@
+pub mod Forms
+pub mod Closures
+pub mod Slips
+pub mod Definitions
+pub mod Memory
