@@ -24,7 +24,7 @@ read_of f n = []
 abbrev pub task_read : Tree → List ℕ → List Broken
 task_read e n = read_of (form_of e) n
 
--- what a part of a process breaks. `println` and `log` aren't evaluated, and no stub is run
+-- what a part of a process breaks, wherever it stands but in the stub, which isn't run
 abbrev pub slips : Tree → List Broken
 slips (cons a more) = slips a ++ slips more
 slips (tree.template p k xs) = slips xs
@@ -50,6 +50,8 @@ slips (tree.assign n e) = slips e
 slips (tree.return_ p e) = slips e
 slips (tree.choice p c b last) = slips c ++ (slips b ++ slips last)
 slips (tree.statements b) = slips b
+slips (tree.println p e) = slips e
+slips (tree.log p n e) = slips e
 slips (tree.process p n ds is os t s) = slips ds ++ (slips os ++ slips t)
 slips (tree.directive n xs) = slips xs
 slips (tree.section p xs) = slips xs

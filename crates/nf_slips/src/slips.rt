@@ -1,8 +1,8 @@
 //! Finds what a process shares with others: names that its closures assign to, and what `task` tells of the run.
 
-ghost use Rattle.std.specs.Prelude.{◌≡◌, ◌++◌, map, option_map, OnOk};
+ghost use Rattle.std.specs.Prelude.{◌≡◌, ◌++◌, map, OnOk};
 ghost use Rattle.nf_ast.specs.Tops.{maybe, view_directive, view_output, view_output_part, view_output_value, view_outputs, view_process, view_task};
-ghost use Rattle.nf_ast.specs.View.{view, views, view_arg, view_arm, view_body, view_branch, view_closure, view_label, view_operand, view_pair, view_piece, view_postfix, view_stmt, view_stmts, last_arm, trees};
+ghost use Rattle.nf_ast.specs.View.{view, views, view_arg, view_arm, view_body, view_branch, view_closure, view_label, view_operand, view_pair, view_piece, view_postfix, view_stmt, view_stmts, trees};
 ghost use Rattle.nf_names_used.specs.Uses.{uses, no_names};
 ghost use Rattle.nf_slips.specs.Closures.{shared_by};
 ghost use Rattle.nf_slips.specs.Memory.{view_form};
@@ -271,7 +271,7 @@ pub fn add_shared_in(alloc: Global, expr: &Expr, out: &mut Vec<Broken>) -> Resul
     add_assigned(&uses, out)
 }
 
-fn add_assigned(uses: &[Use], out: &mut Vec<Broken>) -> Result<(), Mem>
+pub(crate) fn add_assigned(uses: &[Use], out: &mut Vec<Broken>) -> Result<(), Mem>
     ensures { OnOk result (out.new.items ≡ out.old.items ++ shared_by uses.now) }
 {
     for one in uses {
@@ -315,12 +315,16 @@ fn add_stmt(alloc: Global, stmt: &Stmt, out: &mut Vec<Broken>) -> Result<(), Mem
         | Stmt::DefineAll(_, _, expr)
         | Stmt::Assign(_, _, expr)
         | Stmt::Return(_, expr)
+        | Stmt::Println(_, expr)
+        | Stmt::Log(_, _, _, expr)
         | Stmt::Expr(expr) => add_expr(alloc, expr, out),
-        Stmt::Choice(arms, last) => {
-            add_arms(alloc, arms, out)?;
-            add_last(alloc, last, out)
-        }
-        Stmt::Println(_, _) | Stmt::Log(_, _, _, _) => Ok(()),
+        Stmt::Choice(arms, last) => match last {
+            None => add_arms(alloc, arms, out),
+            Some(stmts) => {
+                add_arms(alloc, arms, out)?;
+                add_stmts(alloc, stmts, out)
+            }
+        },
     }
 }
 
@@ -333,14 +337,4 @@ fn add_arms(alloc: Global, arms: &[Arm], out: &mut Vec<Broken>) -> Result<(), Me
         add_stmts(alloc, &arm.body, out)?;
     }
     Ok(())
-}
-
-#[cycle(slips)]
-fn add_last(alloc: Global, last: &Option<Vec<Stmt>>, out: &mut Vec<Broken>) -> Result<(), Mem>
-    ensures { OnOk result (out.new.items ≡ out.old.items ++ spec.slips (last_arm (option_map (λ v. map view_stmt v.items) last.now))) }
-{
-    match last {
-        Some(stmts) => add_stmts(alloc, stmts, out),
-        None => Ok(()),
-    }
 }

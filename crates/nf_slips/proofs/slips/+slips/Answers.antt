@@ -1,5 +1,6 @@
 use Rattle.std.proofs.Common.{◌≡◌, ◌+◌, [], ◌++◌, map, drop, refl, sym, ap, ◌∙◌, rules}
 use Rattle.std.specs.Prelude.{Some, None, OnOk, option_map}
+use Rattle.std.proofs.lemmas.List.{append-nil}
 use Rattle.std.proofs.lemmas.Result.{on_ok_weaker}
 use Rattle.nf_ast.specs.declared.expr.Expr.{the_lemmas}
 use Rattle.nf_ast.specs.Tree as tree
@@ -70,12 +71,25 @@ add_args-loop-arg-preserved t c =
     let one : c.add_expr.new.out.items ≡ c.loop-arg.out.items ++ slips (view x.value) = search rules in
     step (λ ys. slips (trees (map view_arg ys))) c.args.args.now c.loop-arg.arg-index x c.loop-arg.out.items c.add_expr.new.out.items (slips (view x.value)) _ c.loop-arg-test.true c.arg-item.is (ap (λ v. v ++ slips rest) (ap slips is ∙ named_broken x.name (view x.value))) one c.loop-arg.invariant
 
-pub add_stmt-returns-in_ok-add_arms : goal.add_stmt-returns-in_ok-add_arms
-add_stmt-returns-in_ok-add_arms t c =
+pub add_stmt-returns-in-None : goal.add_stmt-returns-in-None
+add_stmt-returns-in-None t c =
+    let e = view_stmt c.args.stmt.now in
+    let xs = map view_arm c.in-Choice.arms.items in
+    let last = c.in-Choice.last in
+    let is : e ≡ choice xs (last_arm (option_map (λ v. map view_stmt v.items) last)) = search (rules, the_lemmas) in
+    let none : last ≡ None = search rules in
+    let due : slips e ≡ arms_slips xs = ap slips (is ∙ ap (λ v. choice xs (last_arm (option_map (λ v. map view_stmt v.items) v))) none) ∙ arms_broken xs tree.empty ∙ append-nil (arms_slips xs) in
+    alike c.add_arms.result c.args.out.now.items c.add_arms.new.out.items (arms_slips xs) (slips e) (sym due) (search rules)
+
+pub add_stmt-returns-in_ok-add_arms-in-Some : goal.add_stmt-returns-in_ok-add_arms-in-Some
+add_stmt-returns-in_ok-add_arms-in-Some t c =
     let e = view_stmt c.args.stmt.now in
     let o = c.args.out.now.items in
     let xs = map view_arm c.in-Choice.arms.items in
-    let last = last_arm (option_map (λ v. map view_stmt v.items) c.in-Choice.last) in
-    let is : e ≡ choice xs last = search (rules, the_lemmas) in
-    let p : c.add_arms.new.out.items ≡ o ++ arms_slips xs = search rules in
-    on_ok_weaker c.add_last.result (joined o c.add_arms.new.out.items c.add_last.new.out.items (arms_slips xs) (slips last) (slips e) p (ap slips is ∙ arms_broken xs last)) (search rules)
+    let b = view_stmts c.in-Some.stmts.items in
+    let last = c.in-Choice.last in
+    let is : e ≡ choice xs (last_arm (option_map (λ v. map view_stmt v.items) last)) = search (rules, the_lemmas) in
+    let some : last ≡ Some c.in-Some.stmts = search rules in
+    let due : slips e ≡ arms_slips xs ++ slips b = ap slips (is ∙ ap (λ v. choice xs (last_arm (option_map (λ v. map view_stmt v.items) v))) some) ∙ arms_broken xs (tree.statements b) in
+    let p : c.add_arms-in-Some.new.out.items ≡ o ++ arms_slips xs = search rules in
+    on_ok_weaker c.add_stmts.result (joined o c.add_arms-in-Some.new.out.items c.add_stmts.new.out.items (arms_slips xs) (slips b) (slips e) p due) (search rules)
