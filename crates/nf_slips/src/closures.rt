@@ -14,8 +14,9 @@ use nf_names_used::{Use, UseKind, closure_uses};
 use nf_value::{Mem, Txt};
 use std::alloc::Global;
 
-/// What a closure may be: a plain value, or unknown where it uses an unknown name. `unknown` has the names that a table has and the script doesn't define:
-/// no function can be called by them. Adds the rules that it breaks by what it assigns to: none where it is unknown.
+/// What a closure in a workflow's body may be (own): a plain value, or unknown where it uses an unknown name. `unknown` has the names that a table has and
+/// the script doesn't define: no function can be called by them. Adds the rule that it breaks by each assignment to a name that isn't its own, and none
+/// where it is unknown.
 ///
 /// # Errors
 ///

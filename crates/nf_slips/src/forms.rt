@@ -161,7 +161,7 @@ fn called<'a>(before: Form<'a>, pair: Form<'a>) -> Form<'a>
     }
 }
 
-/// What a closure is to an operator.
+/// What a closure is to an operator: its labels, the name that it is, and whether `reduce` takes it (own).
 ///
 /// # Errors
 ///
@@ -265,6 +265,10 @@ fn name_alone(params: &Option<Vec<(Place, Txt)>>, sole: Form<'_>) -> Result<Opti
 }
 
 /// The name that an expression is.
+///
+/// # Errors
+///
+/// `Mem` where there is no memory for it.
 pub fn name_of(form: Form<'_>) -> Result<Option<Txt>, Mem>
     ensures { IfOk result (λ n. n ≡ spec.name_of (view_form form.entry)) }
 {

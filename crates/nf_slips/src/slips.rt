@@ -20,7 +20,12 @@ use std::alloc::Global;
 
 // ---- processes
 
-/// Adds what a process breaks. Its stub isn't looked at.
+/// Adds what a process breaks: each assignment in a closure to a name that isn't the closure's own, and each read of `task.index`, `task.hash` and
+/// `task.workDir` (own). All its text counts but its stub, which isn't run.
+///
+/// # Errors
+///
+/// `Mem` where there is no memory for it.
 pub fn add_process(alloc: Global, process: &Process, out: &mut Vec<Broken>) -> Result<(), Mem>
     ensures { OnOk result (out.new.items ≡ out.old.items ++ spec.slips (view_process process.now)) }
 {
@@ -255,7 +260,11 @@ fn add_closure(alloc: Global, closure: &ClosureExpr, out: &mut Vec<Broken>) -> R
     }
 }
 
-/// Adds each assignment of a closure to a name that isn't its own.
+/// Adds each assignment of a closure to a name that isn't its own (own).
+///
+/// # Errors
+///
+/// `Mem` where there is no memory for it.
 pub fn add_shared(alloc: Global, closure: &ClosureExpr, out: &mut Vec<Broken>) -> Result<(), Mem>
     ensures { OnOk result (out.new.items ≡ out.old.items ++ shared_by (uses (view_closure closure.now) no_names)) }
 {
@@ -263,7 +272,11 @@ pub fn add_shared(alloc: Global, closure: &ClosureExpr, out: &mut Vec<Broken>) -
     add_assigned(&uses, out)
 }
 
-/// Adds each assignment of an expression's closures to a name that isn't their own.
+/// Adds each assignment of an expression's closures to a name that isn't their own (own).
+///
+/// # Errors
+///
+/// `Mem` where there is no memory for it.
 pub fn add_shared_in(alloc: Global, expr: &Expr, out: &mut Vec<Broken>) -> Result<(), Mem>
     ensures { OnOk result (out.new.items ≡ out.old.items ++ shared_by (uses (view expr.now) no_names)) }
 {
