@@ -1,11 +1,9 @@
 -- The forms of arguments, and of the bodies of closures.
-use Rattle.std.proofs.Common.{◌≡◌, ℕ, ◌+◌, ◌<◌, Bool, true, false, List, [], ◌∷◌, length, get_or, map, refl, sym, ap, ◌∙◌, subst, arith}
+use Rattle.std.proofs.Common.{◌≡◌, ℕ, ◌<◌, Bool, true, false, List, [], ◌∷◌, length, get_or, map, refl, sym, ap, ◌∙◌, subst, arith}
 use Rattle.nf_value.specs.declared.place.Place.{Place}
 use Rattle.nf_ast.specs.declared.expr.Arg.{Arg}
 use Rattle.nf_ast.specs.declared.expr.Label.{Label}
 use Rattle.nf_ast.specs.declared.expr.Stmt.{Stmt}
-use Rattle.nf_ast.specs.Tree as tree
-use Rattle.nf_ast.specs.Tree.{Tree}
 use Rattle.nf_ast.specs.View.{names, trees, view_arg, view_label, view_stmt}
 use Rattle.nf_placed.specs.Body.{names_in}
 use Rattle.nf_slips.specs.declared.forms.Form.{Form}

@@ -1,18 +1,14 @@
 -- The forms of chains, statements and labels.
-use Rattle.std.proofs.Common.{◌≡◌, Bool, true, false, List, [], ◌∷◌, Option, Some, None, map, refl, sym, ap, ◌∙◌}
+use Rattle.std.proofs.Common.{◌≡◌, Bool, List, [], ◌∷◌, Option, Some, None, map, refl, sym, ap, ◌∙◌}
 use Rattle.std.specs.Prelude.{if◌then◌else◌}
-use Rattle.nf_value.specs.declared.place.Place.{Place}
-use Rattle.nf_ast.specs.declared.expr.Label.{Label}
 use Rattle.nf_ast.specs.declared.expr.Prefix.{Prefix}
 use Rattle.nf_ast.specs.declared.expr.Postfix.{Postfix}
 use Rattle.nf_ast.specs.declared.expr.Branch.{Branch}
 use Rattle.nf_ast.specs.declared.expr.ClosureBody.TheOpen as o
-use Rattle.nf_ast.specs.declared.operators.BranchOperator.{BranchOperator}
-use Rattle.nf_ast.specs.declared.operators.BranchOperator.TheVariants.{Then, Else, Elvis}
 use Rattle.nf_ast.specs.Tree as tree
 use Rattle.nf_ast.specs.Tree.{Tree}
-use Rattle.nf_ast.specs.View.{BranchTree, ArmTree, Frame, asked, answered, preferred, ended, turned, framed, conditional, operands, prefixes, postfix, applied, choice, last_arm, trees, view_branch, view_postfix, view_label, postfix_step}
-use Rattle.nf_slips.specs.Forms.{FormTree, other, form_of, of_two, adds_up, sole_of}
+use Rattle.nf_ast.specs.View.{BranchTree, ArmTree, Frame, asked, answered, preferred, ended, conditional, operands, prefixes, postfix, applied, choice, last_arm, view_branch, view_postfix, postfix_step}
+use Rattle.nf_slips.specs.Forms.{FormTree, other, form_of}
 use Rattle.nf_slips.specs.Memory.{is_nil, operand_forms, part_form, part_forms}
 use Rattle.nf_slips.proofs.Layers.{Layer, of_part}
 use Rattle.nf_slips.proofs.Expressions.{framed_some}

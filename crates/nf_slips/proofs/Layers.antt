@@ -1,5 +1,5 @@
 -- Parts after an expression, with the trees of what is in them.
-use Rattle.std.proofs.Common.{◌≡◌, sym, subst}
+use Rattle.std.proofs.Common.{sym, subst}
 use Rattle.nf_ast.specs.Tree.{Tree}
 use Rattle.nf_ast.specs.declared.expr.Postfix.{Postfix}
 use Rattle.nf_ast.specs.declared.expr.Operand.{Operand}

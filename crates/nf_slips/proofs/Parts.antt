@@ -9,7 +9,7 @@ use Rattle.nf_ast.specs.declared.expr.Postfix.{Postfix}
 use Rattle.nf_ast.specs.declared.expr.ClosureBody.TheOpen as o
 use Rattle.nf_ast.specs.View.{applied, postfix, trees, view_postfix, postfix_step}
 use Rattle.nf_placed.specs.Body.{name_in}
-use Rattle.nf_slips.specs.Forms.{FormTree, name, extreme, total, row, other, form_of, of_two, member_form, pair_form, called_form}
+use Rattle.nf_slips.specs.Forms.{FormTree, name, extreme, row, other, form_of, of_two, member_form, pair_form, called_form}
 use Rattle.nf_slips.specs.Slips.{slips, read_of, part_slips_of, parts_slips}
 use Rattle.nf_slips.proofs.Layers.{Layer, of_part}
 

@@ -1,5 +1,5 @@
 -- What the code holds: forms and definitions.
-use Rattle.std.specs.Prelude.{◌≡◌, ℕ, suc, ◌+◌, ◌≤◌, max, Bool, true, false, List, [], ◌∷◌, ◌++◌, map, Option, Some, None, if◌then◌else◌}
+use Rattle.std.specs.Prelude.{◌≡◌, ℕ, suc, ◌+◌, ◌≤◌, max, Bool, true, false, List, [], ◌∷◌, ◌++◌, Option, Some, None, if◌then◌else◌}
 use Rattle.std.specs.Borrow.{Bor}
 use Rattle.nf_value.specs.declared.place.Place.{Place}
 use Rattle.nf_builtins.specs.Natives.{is_among}
@@ -14,8 +14,8 @@ use Rattle.nf_ast.specs.declared.tops.WorkflowBody.{WorkflowBody}
 use Rattle.nf_ast.specs.declared.tops.WorkflowBody.TheVariants as body
 use Rattle.nf_ast.specs.Tree as tree
 use Rattle.nf_ast.specs.Tree.{Tree}
-use Rattle.nf_ast.specs.View.{view_closure, trees}
-use Rattle.nf_ast.specs.Tops.{maybe, view_outputs, view_workflow_body, view_top}
+use Rattle.nf_ast.specs.View.{view_closure}
+use Rattle.nf_ast.specs.Tops.{maybe, view_outputs, view_workflow_body}
 use Rattle.nf_slips.specs.declared.definitions.Definition.{Definition}
 use Rattle.nf_slips.specs.declared.definitions.Definition.TheVariants as d
 use Rattle.nf_slips.specs.Definitions as definition

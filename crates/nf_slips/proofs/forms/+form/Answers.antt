@@ -1,8 +1,8 @@
-use Rattle.std.proofs.Common.{◌≡◌, ◌+◌, length, ◌∷◌, [], true, map, drop, refl, sym, ap, ◌∙◌, rules, arith}
+use Rattle.std.proofs.Common.{◌≡◌, ◌+◌, length, ◌∷◌, [], true, map, drop, sym, ap, ◌∙◌, rules, arith}
 use Rattle.std.proofs.lemmas.Bool.{ltb-true, ltb-false}
 use Rattle.nf_ast.specs.declared.expr.Expr.{the_lemmas}
 use Rattle.nf_ast.specs.Tree as tree
-use Rattle.nf_ast.specs.View.{view, view_operand, view_branch, view_postfix, view_arg, prefixes, operands, conditional, postfix}
+use Rattle.nf_ast.specs.View.{view, view_operand, view_branch, view_postfix, prefixes, operands, conditional, postfix}
 use Rattle.nf_slips.specs.Forms.{form_of, of_two, adds_up, is_expression}
 use Rattle.nf_slips.specs.Memory.{is_nil, view_form, operand_forms, part_form, part_forms}
 use Rattle.nf_slips.proofs.Expressions.{prefixes_expression, operands_expression, branches_expression, parts_expression}

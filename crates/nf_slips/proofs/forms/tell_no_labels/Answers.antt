@@ -1,4 +1,4 @@
-use Rattle.std.proofs.Common.{arith, rules}
+use Rattle.std.proofs.Common.{arith}
 use Rattle.nf_slips.proofs.Bodies.{none_labelled}
 use Rattle.nf_slips.proofs.forms.tell_no_labels.Goals as goal
 

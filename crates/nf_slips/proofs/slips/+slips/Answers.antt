@@ -1,13 +1,13 @@
-use Rattle.std.proofs.Common.{◌≡◌, ◌+◌, [], ◌++◌, map, drop, refl, sym, ap, ◌∙◌, rules}
-use Rattle.std.specs.Prelude.{Some, None, OnOk, option_map}
+use Rattle.std.proofs.Common.{◌≡◌, ◌+◌, [], ◌++◌, map, drop, sym, ap, ◌∙◌, rules}
+use Rattle.std.specs.Prelude.{Some, None, option_map}
 use Rattle.std.proofs.lemmas.List.{append-nil}
 use Rattle.std.proofs.lemmas.Result.{on_ok_weaker}
 use Rattle.nf_ast.specs.declared.expr.Expr.{the_lemmas}
 use Rattle.nf_ast.specs.Tree as tree
 use Rattle.nf_ast.specs.Tree.{cons}
-use Rattle.nf_ast.specs.View.{view, views, view_operand, view_branch, view_postfix, view_piece, view_pair, view_arg, view_stmt, view_stmts, view_arm, key_tree, trees, with_name, prefixes, operands, conditional, postfix, choice, last_arm}
+use Rattle.nf_ast.specs.View.{view, view_operand, view_branch, view_postfix, view_pair, view_arg, view_stmt, view_stmts, view_arm, key_tree, trees, with_name, prefixes, operands, conditional, postfix, choice, last_arm}
 use Rattle.nf_slips.specs.Forms.{form_of}
-use Rattle.nf_slips.specs.Slips.{slips, operands_slips, branches_slips, parts_slips, part_slips_of, arms_slips}
+use Rattle.nf_slips.specs.Slips.{slips, operands_slips, branches_slips, parts_slips, arms_slips}
 use Rattle.nf_slips.specs.Memory.{view_form}
 use Rattle.nf_slips.proofs.Chains.{named_broken, prefixes_broken, operands_broken, branches_broken, arms_broken}
 use Rattle.nf_slips.proofs.Parts.{parts_broken}
