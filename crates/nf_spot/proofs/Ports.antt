@@ -14,7 +14,7 @@ use Rattle.nf_graph.specs.declared.node.Node.{Node}
 use Rattle.nf_graph.specs.Rules.{Outs, emit_at}
 use Rattle.nf_graph.specs.Meaning.{put}
 use Rattle.nf_graph.proofs.Lists.{put_same, put_other}
-use Rattle.nf_machine.specs.State.{Spot}
+use Rattle.nf_machine.specs.State.{Ended, Spot}
 use Rattle.nf_spot.specs.Numbers.{has, limit_of}
 use Rattle.nf_spot.specs.Heads.{no_inlet}
 use Rattle.nf_spot.specs.Spot.{IsKept, IsNode, waits_on, leaves_on, emits_on, emits_all_on, outs_on, waiting_at, passed_at, emitted_at}
@@ -152,6 +152,23 @@ pub outs_emitted : (node : Node) (sp : Spot) (c d : NodeState) (outs : Outs) →
     → ((o : ℕ) → o < length c.outlets.items → get_or d.outlets.items o [] ≡ get_or c.outlets.items o [] ++ emit_at outs o) → IsNode node (outs_on sp outs) d
 outs_emitted node sp c d outs h ins fi ke len each =
     emitted_changed node sp c d (λ o. sp.emitted o ++ emit_at outs o) h ins fi ke len (λ o l. each o (let e = h.outs in omega arith) ∙ ap (λ xs. xs ++ emit_at outs o) (h.emits o l))
+
+-- a task that emits nothing
+pub none_emitted : (node : Node) (sp : Spot) (c : NodeState) (outs : Outs) → IsNode node sp c → ((o : ℕ) → emit_at outs o ≡ []) → IsNode node (outs_on sp outs) c
+none_emitted node sp c outs h none =
+    emitted_changed node sp c c (λ o. sp.emitted o ++ emit_at outs o) h refl refl refl refl (λ o l. h.emits o l ∙ sym (append-nil (sp.emitted o)) ∙ ap (λ xs. sp.emitted o ++ xs) (sym (none o)))
+
+-- what came back isn't kept
+pub ended_changed : (node : Node) (sp : Spot) (c : NodeState) (es : List Ended) → IsNode node sp c → IsNode node (record sp { ended = es }) c
+ended_changed node sp c es h = record {
+  outs = h.outs;
+  emits = h.emits;
+  ports = h.ports;
+  inlet = h.inlet;
+  limit = h.limit;
+  fills = h.fills;
+  keeps = kept_same node.kind sp (record sp { ended = es }) c.kept refl refl refl h.keeps;
+}
 
 -- ---- values in their order
 
