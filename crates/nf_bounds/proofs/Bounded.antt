@@ -1,5 +1,5 @@
 -- The numbers of each state that a lawful history reaches are small.
-use Rattle.std.proofs.Common.{◌≡◌, ℕ, zero, suc, ◌+◌, ◌*◌, ◌<◌, ◌≤◌, List, [], ◌∷◌, length, Bool, true, false, cond, ◌&&◌, refl, ap, sym, ◌∙◌, subst, arith, inl, inr}
+use Rattle.std.proofs.Common.{◌≡◌, ℕ, zero, suc, ◌+◌, ◌*◌, ◌<◌, ◌≤◌, List, [], ◌∷◌, length, take, Bool, true, false, cond, ◌&&◌, refl, ap, sym, ◌∙◌, subst, arith, inl, inr}
 use Rattle.std.specs.Prelude.{◌==◌, nat_lt, count_by, Ok}
 use Rattle.std.proofs.lemmas.Bool.{cases_Bool, cases_eq}
 use Rattle.std.proofs.lemmas.Bool.Decides.{nat_tests}
@@ -7,12 +7,14 @@ use Rattle.std.proofs.lemmas.List.{get_or_past}
 use Rattle.nf_value.specs.Plain.{Plain}
 use Rattle.nf_job.specs.declared.report.Report.{Report}
 use Rattle.nf_job.specs.declared.emitted.Outputs.TheVariants.{Again}
-use Rattle.nf_opstream.proofs.Tally.{passes, tally_same, one_if, count_is_passes}
+use Rattle.nf_opstream.proofs.Tally.{tally, passes, tally_same, one_if, count_is_passes}
+use Rattle.nf_graph.specs.declared.port.Port.{Port}
 use Rattle.nf_graph.specs.Rules.{Rules, IsRules, AreTriedAgain}
-use Rattle.nf_graph.specs.Node.{Kind, source, operator, process, PlainNode, no_node, node_at, IsGraph}
+use Rattle.nf_graph.specs.Node.{Kind, source, operator, process, PlainNode, port_in, no_node, node_at, IsGraph}
+use Rattle.nf_graph.specs.Meaning.{cost}
 use Rattle.nf_graph.proofs.Lists.{put_all}
 use Rattle.nf_machine.specs.Event.{PlainEvent, pass, taking, give, start, finish, reuse, close, abort, halt}
-use Rattle.nf_machine.specs.State.{Take, Ticket, Spot, State, none, opened, opening}
+use Rattle.nf_machine.specs.State.{Take, Ticket, Spot, State, feed, none, opened, opening}
 use Rattle.nf_machine.specs.Step.{take_at, left_at, step, replay}
 use Rattle.nf_machine.specs.Legal.{MayTake, TakeIsLegal, IsLegal}
 use Rattle.nf_machine.specs.History.{IsLawful, after, IsHistory}
@@ -23,7 +25,9 @@ use Rattle.nf_machine.proofs.Gives.{open_ticket}
 use Rattle.nf_machine.proofs.Limit.{ChargeOk, step_limit, replay_limit, opening_limit}
 use Rattle.nf_machine.proofs.Measure.{take_less}
 use Rattle.nf_machine.proofs.Tickets.{found_each}
+use Rattle.nf_machine.proofs.Charge.{Charged, spent, spent_to, node_within}
 use Rattle.nf_machine.proofs.Ends.{history_good}
+use Rattle.nf_machine.proofs.Final.{reached}
 use Rattle.nf_bounds.specs.Bounds.{IsBounded}
 use Rattle.nf_bounds.proofs.Calm.{Calm, step_calm}
 
@@ -111,6 +115,38 @@ few_told R rules i inputs n a (r ∷ told) l h = elim (cases_eq a 101) [
   | inr ne ↦ (let m : suc a ≤ 101 = grind arith in let b = few_told R rules i inputs n (suc a) told m h.2 in omega arith)
 ]
 
+-- ---- passes
+
+ones_at_most : {A : Type 0} (f : A → ℕ) → ((x : A) → 1 ≤ f x) → (n : ℕ) (xs : List A) → n ≤ length xs → n ≤ tally f (take n xs)
+ones_at_most f one zero xs l = omega arith
+ones_at_most f one (suc n) [] l = absurd (omega arith)
+ones_at_most f one (suc n) (x ∷ xs) l = let a = ones_at_most f one n xs (omega arith) in let b = one x in omega arith
+
+costs_one : (x : Plain) → 1 ≤ cost x
+costs_one x = omega arith
+
+-- what passed to one port is charged among what passed to all of them
+port_spent : (E : ℕ → Spot) (passed : ℕ → ℕ) (k : ℕ) (ps : List Port) (j m : ℕ) → k + j ≡ m → j < length ps → passed m ≤ length (feed E (port_in ps j)) → passed m ≤ spent E passed k ps
+port_spent E passed k [] j m e l h = absurd (omega arith)
+port_spent E passed k (p ∷ ps) zero m e l h =
+    let z : m ≡ k = omega arith in
+    let a : passed k ≤ length (feed E p) = subst (λ n. passed n ≤ length (feed E p)) z h in
+    let b = ones_at_most cost costs_one (passed k) (feed E p) a in
+    let c = ap passed z in omega (arith, a, b, c)
+port_spent E passed k (p ∷ ps) (suc j) m e l h = let a = port_spent E passed (suc k) ps j m (omega arith) (omega arith) h in omega (arith, a)
+
+node_spent : (E : ℕ → Spot) (g : List PlainNode) (i n : ℕ) → i < n → spent E (E i).passed 0 (node_at g i).ports ≤ spent_to E g n
+node_spent E g i zero l = absurd (omega arith)
+node_spent E g i (suc j) l = elim (cases_eq i j) [
+  | inl e ↦ (let a = ap (λ m. spent E (E m).passed 0 (node_at g m).ports) e in omega (arith, a))
+  | inr ne ↦ (let o : i < j = grind arith in let a = node_spent E g i j o in omega (arith, a))
+]
+
+few_passed : (g : List PlainNode) (R : Rules) (s : State) → Good g R s → Charged g s → (i k : ℕ) → k < length (node_at g i).ports → (s.spots i).passed k ≤ s.charge
+few_passed g R s good charged i k l =
+    let a = port_spent s.spots (s.spots i).passed 0 (node_at g i).ports k k (omega arith) l ((good.spots i).ports.fits k) in
+    let b = node_spent s.spots g i (length g) (node_within g i k l) in omega (arith, a, b, charged)
+
 -- ---- the whole
 
 all_pass : {A : Type 0} (xs : List A) → passes (λ x. true) xs ≡ length xs
@@ -133,6 +169,7 @@ bounded g R h ok few rules lawful =
           let a = all_pass (s.spots i).pushed in let b = all_pass (s.spots i).taken in let c = in_flight i s.tickets in omega (arith, m, a, b, c));
       passed = λ i. (good.spots i).ports.fits;
       charge = limited.low;
+      few = λ run i k l. (let a = few_passed g R s good (reached g R ok h lawful).charged i k l in let b = limited.low run in omega arith);
       attempt = λ t k e. (let o = found_each (TicketOk g R s.spots) t s.tickets k e good.tickets in let f = few_told R rules k.node k.take.inputs k.take.n 1 k.told (omega arith) o.again in omega arith);
       still = λ t k e. open_ticket g R s t k good e;
     }

@@ -15,5 +15,7 @@ pub record IsBounded (g : List PlainNode) (s : State) : Type 0 where
   -- no more passes than was emitted
   pub passed : (i k : ℕ) → (s.spots i).passed k ≤ length (feed s.spots (port_at (node_at g i) k))
   pub charge : s.stop ≡ None → s.charge ≤ limit
+  -- each pass is charged
+  pub few : s.stop ≡ None → (i k : ℕ) → k < length (node_at g i).ports → (s.spots i).passed k ≤ limit
   pub attempt : (t : ℕ) (k : Ticket) → ticket_at t s.tickets ≡ Some k → attempt_of k ≤ last_attempt
   pub still : (t : ℕ) (k : Ticket) → ticket_at t s.tickets ≡ Some k → (s.spots k.node).closed ≡ false
