@@ -1,0 +1,5 @@
+//! Tests of what order rules stand on.
+#![tactic(auto)]
+
+#[cfg(test)]
+mod slips;
