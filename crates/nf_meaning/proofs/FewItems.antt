@@ -84,7 +84,7 @@ lists_one cs h = subst (λ z. length (if is_lacking cs then [] else map (input_l
     by true = omega arith
     by false = omega arith
 
-abbrev instance_at : TaskCall → List Plain × ℕ → Instance
+abbrev pub instance_at : TaskCall → List Plain × ℕ → Instance
 instance_at c z = record { call = c.path; inputs = z.0; n = z.1 }
 
 pub tasks_few : (c : TaskCall) (k : ℕ) → HoldsFew (tasks.given_at c k)
@@ -117,7 +117,7 @@ all_short : (cs : List Channel) → AllFew cs → are_values cs ≡ true → All
 all_short [] f h = tt
 all_short (c ∷ cs) f h = (f.0 (all_values c cs h).0, all_short cs f.1 (all_values c cs h).1)
 
-tally_zero : {A : Type 0} (xs : List A) → tally (λ x. cond false 1 0) xs ≡ 0
+pub tally_zero : {A : Type 0} (xs : List A) → tally (λ x. cond false 1 0) xs ≡ 0
 tally_zero [] = refl
 tally_zero (x ∷ xs) = omega (arith, tally_zero xs)
 

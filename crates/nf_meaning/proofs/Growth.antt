@@ -1,5 +1,6 @@
 -- What the paths of calls grow by: each path that is added belongs to a call that wasn't made before.
-use Rattle.std.proofs.Common.{◌≡◌, ℕ, List, [], ◌∷◌, ◌++◌, Bool, true, false, ◌&&◌, ◌||◌, refl, ap, sym, subst, ◌∙◌, inl, inr}
+use Rattle.std.proofs.Common.{◌≡◌, ℕ, List, [], ◌∷◌, ◌++◌, Bool, true, false, ◌&&◌, ◌||◌, refl, ap, sym, subst, ◌∙◌, inl, inr, ◌≤◌, ◌+◌, arith}
+use Rattle.std.specs.Prelude.{◌==◌}
 use Rattle.std.specs.List.{IsDistinct, AllByRecursion}
 use Rattle.std.specs.Str.{bytes_eq}
 use Rattle.std.proofs.lemmas.Bool.{cases_Bool}
@@ -8,7 +9,9 @@ use Rattle.std.proofs.lemmas.Slice.Eq.{bytes_eq-Decides}
 use Rattle.nf_builtins.specs.Natives.{is_among}
 use Rattle.nf_meaning.specs.Walk.{State}
 use Rattle.nf_meaning.specs.Meaning.{Instance}
-use Rattle.nf_meaning.specs.CallPaths.{is_plain_name, MadeBy}
+use Rattle.nf_graph.specs.Meaning.{same_inputs}
+use Rattle.nf_opstream.proofs.Tally.{one_if, passes, tally-append}
+use Rattle.nf_meaning.specs.CallPaths.{is_plain_name, MadeBy, is_same_task}
 
 -- ---- the call that a path belongs to
 
@@ -120,7 +123,7 @@ both_apart body first middle last (p ∷ ps) qs b c d e =
 
 -- ---- tasks and the paths of their calls
 
-made_still : (ps qs : List (List ℕ)) (xs ys : List Instance) → qs ≡ ps → ys ≡ xs → MadeBy ps xs → MadeBy qs ys
+pub made_still : (ps qs : List (List ℕ)) (xs ys : List Instance) → qs ≡ ps → ys ≡ xs → MadeBy ps xs → MadeBy qs ys
 made_still ps qs xs ys e f h = subst (λ z. MadeBy z ys) (sym e) (subst (λ z. MadeBy ps z) (sym f) h)
 
 or_first : (b c : Bool) → b ≡ true → (b || c) ≡ true
@@ -135,13 +138,9 @@ or_same : (a b c : Bool) → (b ≡ true → c ≡ true) → (a || b) ≡ true �
 or_same true b c h e = refl
 or_same false b c h e = h e
 
-pub among_more : (n : List ℕ) (ps qs : List (List ℕ)) → is_among n ps ≡ true → is_among n (ps ++ qs) ≡ true
+among_more : (n : List ℕ) (ps qs : List (List ℕ)) → is_among n ps ≡ true → is_among n (ps ++ qs) ≡ true
 among_more n [] qs e = absurd (let f : false ≡ true = e in cc)
 among_more n (p ∷ ps) qs e = or_same (bytes_eq p n) (is_among n ps) (is_among n (ps ++ qs)) (among_more n ps qs) e
-
-pub among_last : (n : List ℕ) (ps : List (List ℕ)) → is_among n (ps ++ n ∷ []) ≡ true
-among_last n [] = or_first (bytes_eq n n) false ((bytes_eq-Decides n n).1 refl)
-among_last n (p ∷ ps) = or_second (bytes_eq p n) (is_among n (ps ++ n ∷ [])) (among_last n ps)
 
 made_more : (ps qs : List (List ℕ)) (xs : List Instance) → MadeBy ps xs → MadeBy (ps ++ qs) xs
 made_more ps qs [] h = tt
@@ -150,6 +149,79 @@ made_more ps qs (x ∷ xs) h = (among_more x.call ps qs h.0, made_more ps qs xs 
 both_made : (ps : List (List ℕ)) (xs ys : List Instance) → MadeBy ps xs → MadeBy ps ys → MadeBy ps (xs ++ ys)
 both_made ps [] ys h k = k
 both_made ps (x ∷ xs) ys h k = (h.0, both_made ps xs ys h.1 k)
+
+among_after : (n : List ℕ) (ps qs : List (List ℕ)) → is_among n qs ≡ true → is_among n (ps ++ qs) ≡ true
+among_after n [] qs e = e
+among_after n (p ∷ ps) qs e = or_second (bytes_eq p n) (is_among n (ps ++ qs)) (among_after n ps qs e)
+
+made_after : (ps qs : List (List ℕ)) (xs : List Instance) → MadeBy qs xs → MadeBy (ps ++ qs) xs
+made_after ps qs [] h = tt
+made_after ps qs (x ∷ xs) h = (among_after x.call ps qs h.0, made_after ps qs xs h.1)
+
+-- ---- tasks that are made once
+
+abbrev pub Once : List Instance → Type 0
+Once zs = (z : Instance) → passes (is_same_task z) zs ≤ 1
+
+-- no path of the one is a path of the other
+abbrev pub Disjoint : List (List ℕ) → List (List ℕ) → Type 0
+Disjoint ps qs = (c : List ℕ) → is_among c ps ≡ true → is_among c qs ≡ true → ⊥
+
+not_true : (b : Bool) → (b ≡ true → ⊥) → b ≡ false
+not_true true h = absurd (h refl)
+not_true false h = refl
+
+-- of another path
+none_of : (ps : List (List ℕ)) (zs : List Instance) (z : Instance) → MadeBy ps zs → is_among z.call ps ≡ false → passes (is_same_task z) zs ≡ 0
+none_of ps [] z h e = refl
+none_of ps (w ∷ zs) z h e =
+    let more : passes (is_same_task z) zs ≡ 0 = none_of ps zs z h.1 e in
+    elim (cases_Bool (bytes_eq z.call w.call)) [
+      | inl t ↦ absurd (let f : true ≡ false = sym h.0 ∙ ap (λ c. is_among c ps) (sym ((bytes_eq-Decides z.call w.call).0 t)) ∙ e in cc)
+      | inr f ↦ subst (λ b. one_if (b && (same_inputs z.inputs w.inputs && (z.n == w.n))) + passes (is_same_task z) zs ≡ 0) (sym f) (omega (arith, more))
+    ]
+
+once_both : (ps qs : List (List ℕ)) (xs ys : List Instance) → Disjoint ps qs → MadeBy ps xs → MadeBy qs ys → Once xs → Once ys → Once (xs ++ ys)
+once_both ps qs xs ys d h k o q z =
+    let sum = tally-append (λ (w : Instance). one_if (is_same_task z w)) xs ys in
+    elim (cases_Bool (is_among z.call qs)) [
+      | inl t ↦ (let zero : passes (is_same_task z) xs ≡ 0 = none_of ps xs z h (not_true (is_among z.call ps) (λ i. d z.call i t)) in omega (arith, sum, zero, q z))
+      | inr f ↦ (let zero : passes (is_same_task z) ys ≡ 0 = none_of qs ys z k f in omega (arith, sum, zero, o z))
+    ]
+
+-- the tasks that are added between two states, which are of these paths
+pub record NewTasks (s t : State) (added : List (List ℕ)) : Type 0 where
+  pub tasks : List Instance
+  pub meant : t.meant.instances ≡ s.meant.instances ++ tasks
+  pub of : MadeBy added tasks
+  pub once : Once tasks
+
+no_new : (s t : State) (added : List (List ℕ)) → t.meant.instances ≡ s.meant.instances → NewTasks s t added
+no_new s t added i = record { tasks = []; meant = i ∙ sym (append-nil s.meant.instances); of = tt; once = λ z. omega arith }
+
+both_new : (s t u : State) (ps qs : List (List ℕ)) → Disjoint ps qs → NewTasks s t ps → NewTasks t u qs → NewTasks s u (ps ++ qs)
+both_new s t u ps qs d g h = record {
+  tasks = g.tasks ++ h.tasks;
+  meant = h.meant ∙ ap (λ z. z ++ h.tasks) g.meant ∙ append_assoc s.meant.instances g.tasks h.tasks;
+  of = both_made (ps ++ qs) g.tasks h.tasks (made_more ps qs g.tasks g.of) (made_after ps qs h.tasks h.of);
+  once = once_both ps qs g.tasks h.tasks d g.of h.of g.once h.once;
+}
+
+new_between : (s r t u : State) (ps : List (List ℕ)) → r.meant.instances ≡ s.meant.instances → u.meant.instances ≡ t.meant.instances → NewTasks r t ps → NewTasks s u ps
+new_between s r t u ps i k g = record { tasks = g.tasks; meant = k ∙ g.meant ∙ ap (λ z. z ++ g.tasks) i; of = g.of; once = g.once }
+
+belongs_of : (body : List ℕ) (before after : List (List ℕ)) (c : List ℕ) (ps : List (List ℕ)) → AllBelong body before after ps → is_among c ps ≡ true → Belongs body before after c
+belongs_of body before after c [] b e = absurd (let f : false ≡ true = e in cc)
+belongs_of body before after c (p ∷ ps) b e = elim (cases_Bool (bytes_eq p c)) [
+  | inl t ↦ subst (λ z. Belongs body before after z) ((bytes_eq-Decides p c).0 t) b.0
+  | inr f ↦ belongs_of body before after c ps b.1 (subst (λ z. (z || is_among c ps) ≡ true) f e)
+]
+
+disjoint : (body : List ℕ) (first middle last ps qs : List (List ℕ)) → AllBelong body first middle ps → AllBelong body middle last qs → Disjoint ps qs
+disjoint body first middle last ps qs b c n i j =
+    let f : true ≡ false = sym ((bytes_eq-Decides n n).1 refl)
+    ∙ told_apart body first middle last n n (belongs_of body first middle n ps b i) (belongs_of body middle last n qs c j) in
+    absurd cc
 
 -- ---- growth
 
@@ -160,7 +232,7 @@ pub record Grows (s t : State) : Type 0 where
   pub paths : t.paths ≡ s.paths ++ added
   pub belong : AllBelong s.scope.path s.scope.called t.scope.called added
   pub apart : IsDistinct bytes_eq added
-  pub made : MadeBy s.paths s.meant.instances → MadeBy t.paths t.meant.instances
+  pub new : NewTasks s t added
 
 pub same_calls : (s t : State) → t.scope.path ≡ s.scope.path → t.scope.called ≡ s.scope.called → t.paths ≡ s.paths → t.meant.instances ≡ s.meant.instances → Grows s t
 unfolding IsDistinct
@@ -171,7 +243,7 @@ same_calls s t p c q i = record {
   paths = q ∙ sym (append-nil s.paths);
   belong = tt;
   apart = tt;
-  made = made_still s.paths t.paths s.meant.instances t.meant.instances q i;
+  new = no_new s t [] i;
 }
 
 pub grows_none : (s : State) → Grows s s
@@ -191,7 +263,7 @@ grows_on s t u g h =
           (all_still s.scope.path s.scope.called t.scope.called s.scope.called u.scope.called g.added (λ n e. e) h.called g.belong)
           (all_still s.scope.path t.scope.called u.scope.called s.scope.called u.scope.called h.added g.called (λ n e. e) second);
       apart = both_apart s.scope.path s.scope.called t.scope.called u.scope.called g.added h.added g.belong second g.apart h.apart;
-      made = λ k. h.made (g.made k);
+      new = both_new s t u g.added h.added (disjoint s.scope.path s.scope.called t.scope.called u.scope.called g.added h.added g.belong second) g.new h.new;
     }
 
 -- ---- the call of a workflow
@@ -208,7 +280,7 @@ pub record GrowsInside (n : List ℕ) (s t : State) : Type 0 where
   pub paths : t.paths ≡ s.paths ++ added
   pub inside : AllInside s.scope.path n added
   pub apart : IsDistinct bytes_eq added
-  pub made : MadeBy s.paths s.meant.instances → MadeBy t.paths t.meant.instances
+  pub new : NewTasks s t added
 
 inside_belong : (body n : List ℕ) (before after ps : List (List ℕ)) → is_plain_name n ≡ true → is_among n before ≡ false → is_among n after ≡ true → AllInside body n ps
     → AllBelong body before after ps
@@ -256,7 +328,10 @@ workflow_grows n s r t u plain new path called paths meant g h =
           (inside_belong s.scope.path n s.scope.called u.scope.called h.added plain new (last n (g.called n here)) inner);
       apart = turned_apart s.scope.path s.scope.called r.scope.called t.scope.called h.added g.added
           (inside_belong s.scope.path n s.scope.called r.scope.called h.added plain new here inner) args h.apart g.apart;
-      made = λ k. h.made (g.made (made_still s.paths r.paths s.meant.instances r.meant.instances paths meant k));
+      new = both_new s t u g.added h.added
+          (λ c i j. disjoint s.scope.path s.scope.called r.scope.called t.scope.called h.added g.added
+          (inside_belong s.scope.path n s.scope.called r.scope.called h.added plain new here inner) args c j i)
+          (new_between s r t t g.added meant refl g.new) h.new;
     }
   where
     or_true : (b : Bool) → (b || true) ≡ true
@@ -280,40 +355,6 @@ workflow_grows n s r t u plain new path called paths meant g h =
     still_there : (n m : List ℕ) (ms : List (List ℕ)) → is_among m ms ≡ true → is_among m (n ∷ ms) ≡ true
     still_there n m ms e = by_second (bytes_eq n m) (is_among m ms) e
 
--- the call of a process at its name
-pub process_grows : (n : List ℕ) (s t : State) → is_plain_name n ≡ true → is_among n s.scope.called ≡ false → t.scope.path ≡ s.scope.path
-    → t.scope.called ≡ n ∷ s.scope.called → t.paths ≡ s.paths ++ (s.scope.path ++ n) ∷ [] → t.meant.instances ≡ s.meant.instances → Grows s t
-unfolding IsDistinct
-process_grows n s t plain new path called paths meant = record {
-  path = path;
-  called = λ m e. subst (λ z. is_among m z ≡ true) (sym called) (by_second (bytes_eq n m) (is_among m s.scope.called) e);
-  added = (s.scope.path ++ n) ∷ [];
-  paths = paths;
-  belong = (
-    record {
-      name = n;
-      rest = [];
-      is = ap (λ z. s.scope.path ++ z) (sym (append-nil n));
-      plain = plain;
-      ends = tt;
-      new = new;
-      now = subst (λ z. is_among n z ≡ true) (sym called) (by_first (bytes_eq n n) (is_among n s.scope.called) ((bytes_eq-Decides n n).1 refl));
-    },
-    tt,
-  );
-  apart = (tt, tt);
-  made = λ k. made_still (s.paths ++ (s.scope.path ++ n) ∷ []) t.paths s.meant.instances t.meant.instances paths meant
-      (made_more s.paths ((s.scope.path ++ n) ∷ []) s.meant.instances k);
-}
-  where
-    by_first : (b c : Bool) → b ≡ true → (b || c) ≡ true
-    by_first true c e = refl
-    by_first false c e = absurd (let f : false ≡ true = e in cc)
-
-    by_second : (b c : Bool) → c ≡ true → (b || c) ≡ true
-    by_second true c e = refl
-    by_second false c e = e
-
 -- a scope of its own, whose body's path ends with the name and a colon
 pub inside_grows : (n : List ℕ) (s r t u : State) → r.scope.path ≡ s.scope.path ++ n ++ (58 ∷ []) → r.paths ≡ s.paths → r.meant.instances ≡ s.meant.instances → Grows r t
     → u.scope.path ≡ s.scope.path → u.scope.called ≡ s.scope.called → u.paths ≡ t.paths → u.meant.instances ≡ t.meant.instances → GrowsInside n s u
@@ -324,8 +365,7 @@ inside_grows n s r t u path paths meant g path_u called_u paths_u meant_u = reco
   paths = paths_u ∙ g.paths ∙ ap (λ z. z ++ g.added) paths;
   inside = all_inside r.scope.called t.scope.called g.added (subst (λ z. AllBelong z r.scope.called t.scope.called g.added) path g.belong);
   apart = g.apart;
-  made = λ k. made_still t.paths u.paths t.meant.instances u.meant.instances paths_u meant_u
-      (g.made (made_still s.paths r.paths s.meant.instances r.meant.instances paths meant k));
+  new = new_between s r t u g.added meant meant_u g.new;
 }
   where
     all_inside : (before after ps : List (List ℕ)) → AllBelong (s.scope.path ++ n ++ (58 ∷ [])) before after ps → AllInside s.scope.path n ps
@@ -348,18 +388,54 @@ of_path : (path : List ℕ) (ps : List (List ℕ)) (zs : List Instance) → is_a
 of_path path ps [] e h = tt
 of_path path ps (z ∷ zs) e h = (subst (λ c. is_among c ps ≡ true) (sym h.0) e, of_path path ps zs e h.1)
 
-pub tasks_grow : (path : List ℕ) (s t : State) → t.scope.path ≡ s.scope.path → t.scope.called ≡ s.scope.called → t.paths ≡ s.paths → is_among path s.paths ≡ true
-    → (zs : List Instance) → t.meant.instances ≡ s.meant.instances ++ zs → AllOf path zs → Grows s t
-unfolding IsDistinct
-tasks_grow path s t p c q there zs meant h = record {
-  path = p;
-  called = λ n e. subst (λ z. is_among n z ≡ true) (sym c) e;
-  added = [];
-  paths = q ∙ sym (append-nil s.paths);
-  belong = tt;
-  apart = tt;
-  made = λ k. made_still s.paths t.paths (s.meant.instances ++ zs) t.meant.instances q meant (both_made s.paths s.meant.instances zs k (of_path path s.paths zs there h));
+-- the path of the call itself
+own_path : (n : List ℕ) (s : State) → is_plain_name n ≡ true → is_among n s.scope.called ≡ false → (after : List (List ℕ)) → is_among n after ≡ true
+    → Belongs s.scope.path s.scope.called after (s.scope.path ++ n)
+own_path n s plain fresh after now = record {
+  name = n;
+  rest = [];
+  is = ap (λ z. s.scope.path ++ z) (sym (append-nil n));
+  plain = plain;
+  ends = tt;
+  new = fresh;
+  now = now;
 }
 
-pub later_among : (path : List ℕ) (s t : State) → Grows s t → is_among path s.paths ≡ true → is_among path t.paths ≡ true
-later_among path s t g e = subst (λ z. is_among path z ≡ true) (sym g.paths) (among_more path s.paths g.added e)
+-- a call of a process: at its name, after its arguments, and with its tasks
+pub process_grows : (n : List ℕ) (s r t u : State) → is_plain_name n ≡ true → is_among n s.scope.called ≡ false → r.scope.path ≡ s.scope.path
+    → r.scope.called ≡ n ∷ s.scope.called → r.paths ≡ s.paths ++ (s.scope.path ++ n) ∷ [] → r.meant.instances ≡ s.meant.instances → Grows r t
+    → u.scope.path ≡ t.scope.path → u.scope.called ≡ t.scope.called → u.paths ≡ t.paths → (zs : List Instance) → u.meant.instances ≡ t.meant.instances ++ zs
+    → AllOf (s.scope.path ++ n) zs → Once zs → Grows s u
+unfolding IsDistinct
+process_grows n s r t u plain fresh path called paths meant g path_u called_u paths_u zs meant_u of_zs once_zs =
+    let here : is_among n r.scope.called ≡ true = subst (λ z. is_among n z ≡ true) (sym called) (or_first (bytes_eq n n) (is_among n s.scope.called) ((bytes_eq-Decides n n).1 refl)) in
+    let still : Within s.scope.called r.scope.called = λ m e. subst (λ z. is_among m z ≡ true) (sym called) (or_second (bytes_eq n m) (is_among m s.scope.called) e) in
+    let last : Within t.scope.called u.scope.called = λ m e. subst (λ z. is_among m z ≡ true) (sym called_u) e in
+    let args : AllBelong s.scope.path r.scope.called t.scope.called g.added = subst (λ z. AllBelong z r.scope.called t.scope.called g.added) path g.belong in
+    let one : is_among (s.scope.path ++ n) ((s.scope.path ++ n) ∷ g.added) ≡ true =
+    or_first (bytes_eq (s.scope.path ++ n) (s.scope.path ++ n)) (is_among (s.scope.path ++ n) g.added) ((bytes_eq-Decides (s.scope.path ++ n) (s.scope.path ++ n)).1 refl) in
+    let alone : is_among (s.scope.path ++ n) ((s.scope.path ++ n) ∷ []) ≡ true =
+    or_first (bytes_eq (s.scope.path ++ n) (s.scope.path ++ n)) false ((bytes_eq-Decides (s.scope.path ++ n) (s.scope.path ++ n)).1 refl) in
+    record {
+      path = path_u ∙ g.path ∙ path;
+      called = λ m e. last m (g.called m (still m e));
+      added = (s.scope.path ++ n) ∷ g.added;
+      paths = paths_u ∙ g.paths ∙ ap (λ z. z ++ g.added) paths ∙ append_assoc s.paths ((s.scope.path ++ n) ∷ []) g.added;
+      belong = (
+        own_path n s plain fresh u.scope.called (last n (g.called n here)),
+        all_still s.scope.path r.scope.called t.scope.called s.scope.called u.scope.called g.added still last args,
+      );
+      apart = (
+        one_apart s.scope.path s.scope.called r.scope.called t.scope.called (s.scope.path ++ n) g.added (own_path n s plain fresh r.scope.called here) args,
+        g.apart,
+      );
+      new = record {
+        tasks = g.new.tasks ++ zs;
+        meant = meant_u ∙ ap (λ z. z ++ zs) (g.new.meant ∙ ap (λ z. z ++ g.new.tasks) meant) ∙ append_assoc s.meant.instances g.new.tasks zs;
+        of = both_made ((s.scope.path ++ n) ∷ g.added) g.new.tasks zs (made_after ((s.scope.path ++ n) ∷ []) g.added g.new.tasks g.new.of)
+            (of_path (s.scope.path ++ n) ((s.scope.path ++ n) ∷ g.added) zs one of_zs);
+        once = once_both g.added ((s.scope.path ++ n) ∷ []) g.new.tasks zs
+            (λ c i j. disjoint s.scope.path s.scope.called r.scope.called t.scope.called ((s.scope.path ++ n) ∷ []) g.added (own_path n s plain fresh r.scope.called here, tt) args c j i)
+            g.new.of (of_path (s.scope.path ++ n) ((s.scope.path ++ n) ∷ []) zs alone of_zs) g.new.once once_zs;
+      };
+    }

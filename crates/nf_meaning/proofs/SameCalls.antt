@@ -1,5 +1,5 @@
 -- Calls of operators, processes and workflows go the same way in two runs.
-use Rattle.std.proofs.Common.{◌≡◌, ◌≤◌, ℕ, suc, List, [], ◌∷◌, ◌++◌, map, length, Bool, true, false, ◌&&◌, Option, Some, None, Ok, Err, refl, ap, subst, ◌∙◌, if◌then◌else◌, arith}
+use Rattle.std.proofs.Common.{◌≡◌, ◌≤◌, ℕ, suc, List, [], ◌∷◌, ◌++◌, map, length, Bool, true, false, ◌&&◌, Option, Some, None, Ok, Err, refl, ap, sym, subst, ◌∙◌, if◌then◌else◌, arith}
 use Rattle.std.specs.Prelude.{◌==◌, ◌||◌, codes, is_some}
 use Rattle.std.specs.List.{AllByRecursion, list_all}
 use Rattle.std.specs.Str.{bytes_eq}
@@ -22,6 +22,9 @@ use Rattle.nf_optable.specs.declared.operator.Operator.TheVariants.{Bag, Arrival
 use Rattle.nf_optable.specs.Operator.{operator_name}
 use Rattle.nf_optable.specs.Rows.{operator_rows, row_of}
 use Rattle.nf_graph.specs.Meaning.{numbered, same_inputs}
+use Rattle.nf_graph.proofs.Lists.{inputs_law}
+use Rattle.nf_graph.proofs.Bags.{numbered_once}
+use Rattle.nf_opstream.proofs.Tally.{one_if, tally, tally-map}
 use Rattle.nf_tasks.specs.Inputs.{seen_names}
 use Rattle.nf_tasks.specs.Memory.{Program}
 use Rattle.nf_meaning.specs.declared.fault.LowerFault.{LowerFault}
@@ -38,18 +41,18 @@ use Rattle.nf_meaning.specs.Taken.{Taken, nothing_taken, args_ports, takes, take
 use Rattle.nf_meaning.specs.Operators.{Call, call_meaning, is_value_kind, given_at, labelled, result_of, applied, set_channel, set_outputs, counted_all, named_so, set_thing, with_channel, on_thing, on_argument, operator_call}
 use Rattle.nf_meaning.specs.Operators as operators
 use Rattle.nf_meaning.specs.Tasks.{CalledProcess, TaskCall, input_lists, instances_of, task_meaning, outputs_from}
-use Rattle.nf_meaning.specs.Meaning.{and_meant}
+use Rattle.nf_meaning.specs.Meaning.{Instance, and_meant}
 use Rattle.nf_meaning.specs.Directives.{inside, seen_fault}
 use Rattle.nf_meaning.specs.Processes.{inputs_in, called_process, process_with}
-use Rattle.nf_meaning.specs.CallPaths.{is_plain_name, NamesArePlain}
+use Rattle.nf_meaning.specs.CallPaths.{is_plain_name, NamesArePlain, is_same_task}
 use Rattle.nf_meaning.specs.Calls.{again_fault, arity_fault, called_here, task_call, tasks_mean, process_at, process_call, workflow_fault, entered, workflow_call, Receiver, and_other, receiver_or, receiver, operator_for, operator_on, call_of, named_call, take_of, cycle_fault}
 use Rattle.nf_meaning.specs.Processes.{inputs_of}
-use Rattle.nf_meaning.proofs.Growth.{Grows, AllOf, among_last, process_grows, workflow_grows, tasks_grow, later_among}
-use Rattle.nf_meaning.proofs.Twins.{Channels, AllChannels, Outputs, Things, Named, Scopes, States, Ends, Arounds, Twin, Same, EndsInside, ends_on, goes_on_from, on, on_same, weaker, given, given_same, refusal, meaning, in_scope}
+use Rattle.nf_meaning.proofs.Growth.{Grows, AllOf, Once, process_grows, workflow_grows}
+use Rattle.nf_meaning.proofs.Twins.{Channels, AllChannels, Outputs, Things, Named, Scopes, States, Ends, Arounds, Twin, Same, EndsInside, ends_on, on, on_same, weaker, given, given_same, refusal, meaning, in_scope}
 use Rattle.nf_meaning.proofs.SameNames.{bound_alike, env_with_alike, names_here}
 use Rattle.nf_meaning.proofs.SameArgs.{Args, AllArgs, unnamed_alike, length_alike, counting, channel_due, channel_arg_alike, channel_args_alike, file_calls}
 use Rattle.nf_meaning.proofs.SameTaken.{Takens, Adds, nothing_alike, one_taken, adds_more, no_ports}
-use Rattle.nf_meaning.proofs.FewItems.{AllFew, FewPorts, call_few, tasks_few}
+use Rattle.nf_meaning.proofs.FewItems.{AllFew, FewPorts, call_few, tasks_few, tally_zero, instance_at}
 
 -- ---- all arguments of an operator
 
@@ -450,31 +453,59 @@ all_of_path : (path : List ℕ) (zs : List (List Plain × ℕ)) → AllOf path (
 all_of_path path [] = tt
 all_of_path path (z ∷ zs) = (refl, all_of_path path zs)
 
--- the tasks of a call whose path is known
-tasks_made : (n : List ℕ) (c d : TaskCall) → c.called ≡ d.called → are_values c.channels ≡ are_values d.channels → (a b : Around) → Arounds a b → (s u : State) → States s u
-    → (NamesArePlain a.definitions → is_among c.path s.paths ≡ true) → Ends Things a.definitions s (tasks_mean n c a s) (tasks_mean n d b u)
-tasks_made n c d i v a b r s u e there =
-    ends_on Things a.definitions s (record s { meant = and_meant s.meant (task_meaning c) })
-    (called_here n (outputs_from c 0 c.called.labels) a (record s { meant = and_meant s.meant (task_meaning c) }))
+-- no task of a call is made twice
+tasks_once : (c : TaskCall) → Once (instances_of c)
+tasks_once c z = subst (λ k. k ≤ 1) (sym (tally-map (λ (w : Instance). one_if (is_same_task z w)) (instance_at c) (numbered same_inputs (input_lists c.channels)))) (by (bytes_eq z.call c.path))
+  where
+    by : (b : Bool) → tally (λ (y : List Plain × ℕ). one_if (b && (same_inputs z.inputs y.0 && (z.n == y.1)))) (numbered same_inputs (input_lists c.channels)) ≤ 1
+    by true = numbered_once same_inputs inputs_law z.inputs z.n (input_lists c.channels)
+    by false = omega (arith, tally_zero (numbered same_inputs (input_lists c.channels)))
+
+-- what is known of the state after the tasks of a call of this path
+abbrev Grown : Definitions → State → State → List ℕ → Type 0
+Grown d s w path = (c : TaskCall) → c.path ≡ path → NamesArePlain d → Grows s (record w { meant = and_meant w.meant (task_meaning c) })
+
+tasks_left : (n : List ℕ) (c d : TaskCall) → c.called ≡ d.called → are_values c.channels ≡ are_values d.channels → (a b : Around) → Arounds a b → (s w u : State) → States w u
+    → (NamesArePlain a.definitions → Grows s (record w { meant = and_meant w.meant (task_meaning c) })) → Ends Things a.definitions s (tasks_mean n c a w) (tasks_mean n d b u)
+tasks_left n c d i v a b r s w u e grow =
+    ends_on Things a.definitions s (record w { meant = and_meant w.meant (task_meaning c) })
+    (called_here n (outputs_from c 0 c.called.labels) a (record w { meant = and_meant w.meant (task_meaning c) }))
     (called_here n (outputs_from d 0 d.called.labels) b (record u { meant = and_meant u.meant (task_meaning d) }))
-    (λ k. tasks_grow c.path s (record s { meant = and_meant s.meant (task_meaning c) }) refl refl refl (there k) (instances_of c) refl
-    (all_of_path c.path (numbered same_inputs (input_lists c.channels))))
+    grow
     ((called_alike n (outputs_from c 0 c.called.labels) (outputs_from d 0 d.called.labels)
     (subst (λ z. Outputs (outputs_from c 0 c.called.labels) (outputs_from d 0 z.labels)) i (outputs_alike c d v 0 c.called.labels))).at a b r
-    (record s { meant = and_meant s.meant (task_meaning c) }) (record u { meant = and_meant u.meant (task_meaning d) })
+    (record w { meant = and_meant w.meant (task_meaning c) }) (record u { meant = and_meant u.meant (task_meaning d) })
     (record { scope = e.scope; sizes = e.sizes; wants = e.wants; paths = e.paths }))
 
-process_made : (n : List ℕ) (t : Tree) (path : List ℕ) (cs ds : List Channel) → AllChannels cs ds → (a b : Around) → Arounds a b → (s u : State) → States s u
-    → (NamesArePlain a.definitions → is_among path s.paths ≡ true) → Ends Things a.definitions s (process_at n t path cs a s) (process_at n t path ds b u)
-process_made n t path cs ds h a b r s u e there = of_two (called_process a path t) (called_process b path t) (processes_alike a b r path t)
+process_left : (n : List ℕ) (t : Tree) (path : List ℕ) (cs ds : List Channel) → AllChannels cs ds → (a b : Around) → Arounds a b → (s w u : State) → States w u
+    → Grown a.definitions s w path → Ends Things a.definitions s (process_at n t path cs a w) (process_at n t path ds b u)
+process_left n t path cs ds h a b r s w u e grow = of_two (called_process a path t) (called_process b path t) (processes_alike a b r path t)
   where
-    of_one : (m : Lowered CalledProcess) → Ends Things a.definitions s (then_by a (λ c. tasks_mean n (task_call a path c cs)) (at_state s m)) (then_by b (λ c. tasks_mean n (task_call b path c ds)) (at_state u m))
-    of_one (Ok c) = tasks_made n (task_call a path c cs) (task_call b path c ds) refl (values_alike cs ds h) a b r s u e there
+    of_one : (m : Lowered CalledProcess) → Ends Things a.definitions s (then_by a (λ c. tasks_mean n (task_call a path c cs)) (at_state w m)) (then_by b (λ c. tasks_mean n (task_call b path c ds)) (at_state u m))
+    of_one (Ok c) = tasks_left n (task_call a path c cs) (task_call b path c ds) refl (values_alike cs ds h) a b r s w u e (grow (task_call a path c cs) refl)
     of_one (Err f) = refl
 
     of_two : (m k : Lowered CalledProcess) → m ≡ k
-        → Ends Things a.definitions s (then_by a (λ c. tasks_mean n (task_call a path c cs)) (at_state s m)) (then_by b (λ c. tasks_mean n (task_call b path c ds)) (at_state u k))
-    of_two m k i = subst (λ z. Ends Things a.definitions s (then_by a (λ c. tasks_mean n (task_call a path c cs)) (at_state s m)) (then_by b (λ c. tasks_mean n (task_call b path c ds)) (at_state u z))) i (of_one m)
+        → Ends Things a.definitions s (then_by a (λ c. tasks_mean n (task_call a path c cs)) (at_state w m)) (then_by b (λ c. tasks_mean n (task_call b path c ds)) (at_state u k))
+    of_two m k i = subst (λ z. Ends Things a.definitions s (then_by a (λ c. tasks_mean n (task_call a path c cs)) (at_state w m)) (then_by b (λ c. tasks_mean n (task_call b path c ds)) (at_state u z))) i (of_one m)
+
+process_entered : (n : List ℕ) (t : Tree) (path : List ℕ) (a b : Around) → Arounds a b → (s r : State) → ((w : State) → (NamesArePlain a.definitions → Grows r w) → Grown a.definitions s w path)
+    → (m k : Lowered (List Channel × State)) → Ends AllChannels a.definitions r m k → Ends Things a.definitions s (then_by a (process_at n t path) m) (then_by b (process_at n t path) k)
+process_entered n t path a b h s r grow (Ok x) (Ok y) e = process_left n t path x.0 y.0 e.0 a b h s x.1 y.1 e.1 (grow x.1 e.2)
+process_entered n t path a b h s r grow (Err i) (Err j) e = e
+process_entered n t path a b h s r grow (Ok x) (Err j) e = absurd e
+process_entered n t path a b h s r grow (Err i) (Ok y) e = absurd e
+
+counted_left : (n : List ℕ) (t : Tree) (path : List ℕ) (xs ys : List Arg) → AllArgs xs ys → (a b : Around) → Arounds a b → (s r : State)
+    → ((w : State) → (NamesArePlain a.definitions → Grows r w) → Grown a.definitions s w path)
+    → (m k : Lowered (Unit {0} × State)) → Ends Same a.definitions r m k
+    → Ends Things a.definitions s (then_by a (λ x. channel_args xs >>= process_at n t path) m) (then_by b (λ x. channel_args ys >>= process_at n t path) k)
+counted_left n t path xs ys h a b i s r grow (Ok x) (Ok y) e =
+    process_entered n t path a b i s r grow (channel_args xs a x.1) (channel_args ys b y.1)
+    (ends_on AllChannels a.definitions r x.1 (channel_args xs a x.1) (channel_args ys b y.1) e.2 ((channel_args_alike xs ys h).at a b i x.1 y.1 e.1))
+counted_left n t path xs ys h a b i s r grow (Err f) (Err g) e = e
+counted_left n t path xs ys h a b i s r grow (Ok x) (Err g) e = absurd e
+counted_left n t path xs ys h a b i s r grow (Err f) (Ok y) e = absurd e
 
 -- a step that goes on only without a fault
 unless_then : {A : Type 0} (P : A → A → Type 0) (d : Definitions) (s u : State) (a b : Around) (f g : Option LowerFault) (w v : Walk A) → f ≡ g
@@ -508,20 +539,23 @@ begun n ps s = record s { scope = record s.scope { called = n ∷ s.scope.called
 abbrev process_rest : Place → List ℕ → Tree → List Arg → List ℕ → Walk Thing
 process_rest p n t xs path = counted p (length xs) >>= λ _. channel_args xs >>= process_at n t path
 
-process_rests : (p : Place) (n : List ℕ) (t : Tree) (xs ys : List Arg) → AllArgs xs ys → (path : List ℕ) → (a b : Around) → Arounds a b → (s u : State) → States s u
-    → (NamesArePlain a.definitions → is_among path s.paths ≡ true) → Ends Things a.definitions s (process_rest p n t xs path a s) (process_rest p n t ys path b u)
-process_rests p n t xs ys h path a b r s u e there =
-    goes_on_from Same Things a.definitions a b s (λ x. channel_args xs >>= process_at n t path) (λ x. channel_args ys >>= process_at n t path)
-    (λ x y i v w f g. goes_on_from AllChannels Things a.definitions a b v (process_at n t path) (process_at n t path)
-    (λ cs ds q z o m k. process_made n t path cs ds q a b r z o m (λ j. later_among path v z (k j) (later_among path s v (g j) (there j))))
-    (channel_args xs a v) (channel_args ys b w) ((channel_args_alike xs ys h).at a b r v w f))
-    (counted p (length xs) a s) (counted p (length ys) b u)
-    ((subst (λ z. Twin Same (counted p (length xs)) (counted p z)) (length_alike xs ys h) (counting p (length xs))).at a b r s u e)
+process_rests : (p : Place) (n : List ℕ) (t : Tree) (xs ys : List Arg) → AllArgs xs ys → (path : List ℕ) → (a b : Around) → Arounds a b → (s r u : State) → States r u
+    → ((w : State) → (NamesArePlain a.definitions → Grows r w) → Grown a.definitions s w path) → Ends Things a.definitions s (process_rest p n t xs path a r) (process_rest p n t ys path b u)
+process_rests p n t xs ys h path a b i s r u e grow =
+    counted_left n t path xs ys h a b i s r grow (counted p (length xs) a r) (counted p (length ys) b u)
+    ((subst (λ z. Twin Same (counted p (length xs)) (counted p z)) (length_alike xs ys h) (counting p (length xs))).at a b i r u e)
 
-rests_alike : (p : Place) (n : List ℕ) (t : Tree) (xs ys : List Arg) → AllArgs xs ys → (one two : List ℕ) → one ≡ two → (a b : Around) → Arounds a b → (s u : State) → States s u
-    → (NamesArePlain a.definitions → is_among one s.paths ≡ true) → Ends Things a.definitions s (process_rest p n t xs one a s) (process_rest p n t ys two b u)
-rests_alike p n t xs ys h one two i a b r s u e there =
-    subst (λ z. Ends Things a.definitions s (process_rest p n t xs one a s) (process_rest p n t ys z b u)) i (process_rests p n t xs ys h one a b r s u e there)
+rests_alike : (p : Place) (n : List ℕ) (t : Tree) (xs ys : List Arg) → AllArgs xs ys → (one two : List ℕ) → one ≡ two → (a b : Around) → Arounds a b → (s r u : State) → States r u
+    → ((w : State) → (NamesArePlain a.definitions → Grows r w) → Grown a.definitions s w one) → Ends Things a.definitions s (process_rest p n t xs one a r) (process_rest p n t ys two b u)
+rests_alike p n t xs ys h one two j a b i s r u e grow =
+    subst (λ z. Ends Things a.definitions s (process_rest p n t xs one a r) (process_rest p n t ys z b u)) j (process_rests p n t xs ys h one a b i s r u e grow)
+
+-- the state after a call of a process
+call_grown : (n : List ℕ) (d : Definitions) (s : State) → (NamesArePlain d → is_plain_name n ≡ true) → is_among n s.scope.called ≡ false
+    → (w : State) → (NamesArePlain d → Grows (begun n ((s.scope.path ++ n) ∷ []) s) w) → Grown d s w (s.scope.path ++ n)
+call_grown n d s plain fresh w g c path k =
+    process_grows n s (begun n ((s.scope.path ++ n) ∷ []) s) w (record w { meant = and_meant w.meant (task_meaning c) }) (plain k) fresh refl refl refl refl (g k) refl refl refl (instances_of c) refl
+    (subst (λ z. AllOf z (instances_of c)) path (all_of_path c.path (numbered same_inputs (input_lists c.channels)))) (tasks_once c)
 
 abbrev process_fault : Place → List ℕ → Tree → ℕ → Scope → Option LowerFault
 process_fault p n t k x = or_else (again_fault p n x) (arity_fault p k (length (inputs_of t)))
@@ -533,12 +567,9 @@ process_calls p n t xs ys h a b r plain s u e =
     (begins_call n ((s.scope.path ++ n) ∷ []) >>= λ _. process_rest p n t xs (s.scope.path ++ n)) (begins_call n ((u.scope.path ++ n) ∷ []) >>= λ _. process_rest p n t ys (u.scope.path ++ n))
     (ap (λ z. or_else (fault_if (is_among n z) (TwiceDefined p)) (arity_fault p (length xs) (length (inputs_of t)))) e.scope.called
     ∙ ap (λ z. process_fault p n t z u.scope) (length_alike xs ys h))
-    (λ none. ends_on Things a.definitions s (begun n ((s.scope.path ++ n) ∷ []) s)
-    (process_rest p n t xs (s.scope.path ++ n) a (begun n ((s.scope.path ++ n) ∷ []) s)) (process_rest p n t ys (u.scope.path ++ n) b (begun n ((u.scope.path ++ n) ∷ []) u))
-    (λ k. process_grows n s (begun n ((s.scope.path ++ n) ∷ []) s) (plain k) (not_again p n s.scope (arity_fault p (length xs) (length (inputs_of t))) none) refl refl refl refl)
-    (rests_alike p n t xs ys h (s.scope.path ++ n) (u.scope.path ++ n) (ap (λ z. z ++ n) e.scope.path) a b r (begun n ((s.scope.path ++ n) ∷ []) s) (begun n ((u.scope.path ++ n) ∷ []) u)
+    (λ none. rests_alike p n t xs ys h (s.scope.path ++ n) (u.scope.path ++ n) (ap (λ z. z ++ n) e.scope.path) a b r s (begun n ((s.scope.path ++ n) ∷ []) s) (begun n ((u.scope.path ++ n) ∷ []) u)
     (begun_alike n s u ((s.scope.path ++ n) ∷ []) ((u.scope.path ++ n) ∷ []) (ap (λ z. (z ++ n) ∷ []) e.scope.path) e)
-    (λ k. among_last (s.scope.path ++ n) s.paths)))
+    (call_grown n a.definitions s plain (not_again p n s.scope (arity_fault p (length xs) (length (inputs_of t))) none)))
 
 -- ---- calls of workflows
 

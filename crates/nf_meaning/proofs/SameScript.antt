@@ -1,5 +1,6 @@
 -- A script goes the same way in two runs, and what follows from that.
-use Rattle.std.proofs.Common.{◌≡◌, ℕ, zero, suc, List, [], ◌∷◌, ◌++◌, length, Bool, true, false, Option, Some, None, Ok, Err, refl, ap, sym, subst, ◌∙◌, if◌then◌else◌}
+use Rattle.std.proofs.Common.{◌≡◌, ℕ, zero, suc, List, [], ◌∷◌, ◌++◌, length, Bool, true, false, Option, Some, None, Ok, Err, refl, ap, sym, subst, ◌∙◌, if◌then◌else◌, ◌≤◌, arith}
+use Rattle.std.specs.Prelude.{count_by}
 use Rattle.std.specs.List.{IsDistinct}
 use Rattle.std.specs.Str.{bytes_eq}
 use Rattle.nf_value.specs.Plain.{Plain}
@@ -20,9 +21,10 @@ use Rattle.nf_meaning.specs.Calls.{names_taken}
 use Rattle.nf_meaning.specs.Workflow.{logged}
 use Rattle.nf_meaning.specs.Script.{emit_label, emit_value, label_fault, label_of, and_label, emitted, emits_of, taken_twice, statements_in, workflow_walk, body_in, take_in, bound, inner_scope, back_in, enter_in, around_at, definitions_of, around, opening, Read, only, with_param, parameter, after, top_read, tops_read, entry_in, first_take, entry_walk, state_of, begun, entry_around, ending, meaning_of, wants_of, paths_of}
 use Rattle.nf_meaning.specs.Few.{OutputsFew, ThingFew, NamedFew, ScopeFew, WalkFew}
-use Rattle.nf_meaning.specs.CallPaths.{NamesArePlain, MadeBy}
+use Rattle.nf_opstream.proofs.Tally.{passes, count_is_passes}
+use Rattle.nf_meaning.specs.CallPaths.{NamesArePlain, MadeBy, is_same_task, EachOnce}
 use Rattle.nf_meaning.specs.Outside.{in_run, fault_of}
-use Rattle.nf_meaning.proofs.Growth.{Grows, inside_grows}
+use Rattle.nf_meaning.proofs.Growth.{Grows, inside_grows, made_still}
 use Rattle.nf_meaning.proofs.Twins.{Channels, AllChannels, Outputs, Things, Named, Scopes, States, Ends, EndsInside, Arounds, Twin, Same, on, on_same, given, refusal, judging}
 use Rattle.nf_meaning.proofs.SameNames.{both_named}
 use Rattle.nf_meaning.proofs.SameArgs.{valuing, reading, channel_due, no_file_due}
@@ -258,11 +260,23 @@ made_at_end : (g : Given) (m : Lowered State) (n : ScriptMeaning) (ps : List (Li
 made_at_end g (Ok s) n ps h plain e f =
     let here : s.paths ≡ ps = cc in
     let meant : s.meant ≡ n = cc in
-    subst (λ z. MadeBy z n.instances) here (subst (λ (z : ScriptMeaning). MadeBy s.paths z.instances) meant ((h.1 plain).made tt))
+    subst (λ z. MadeBy z n.instances) here (subst (λ (z : ScriptMeaning). MadeBy s.paths z.instances) meant
+    (made_still (h.1 plain).added s.paths (h.1 plain).new.tasks s.meant.instances (h.1 plain).paths (h.1 plain).new.meant (h.1 plain).new.of))
 made_at_end g (Err i) n ps h plain e f = absurd cc
 
 pub made_by_paths : (g : Given) (m : ScriptMeaning) (ps : List (List ℕ)) → NamesArePlain (definitions_of g.tops) → meaning_of g ≡ Ok m → paths_of g ≡ Ok ps → MadeBy ps m.instances
 made_by_paths g m ps plain e f = made_at_end g (ending g) m ps (endings g g.found g.outcomes) plain e f
+
+once_at_end : (g : Given) (m : Lowered State) (n : ScriptMeaning) → Both g g.found g.outcomes m m → NamesArePlain (definitions_of g.tops)
+    → goes_on m (λ s. Ok s.meant) ≡ Ok n → EachOnce n.instances
+once_at_end g (Ok s) n h plain e z =
+    let meant : s.meant ≡ n = cc in
+    let counted : passes (is_same_task z) s.meant.instances ≤ 1 = subst (λ zs. passes (is_same_task z) zs ≤ 1) (sym (h.1 plain).new.meant) ((h.1 plain).new.once z) in
+    subst (λ (x : ScriptMeaning). count_by (is_same_task z) x.instances ≤ 1) meant (omega (arith, count_is_passes (is_same_task z) s.meant.instances, counted))
+once_at_end g (Err i) n h plain e z = absurd cc
+
+pub each_once : (g : Given) (m : ScriptMeaning) → NamesArePlain (definitions_of g.tops) → meaning_of g ≡ Ok m → EachOnce m.instances
+each_once g m plain e = once_at_end g (ending g) m (endings g g.found g.outcomes) plain e
 
 -- ---- value channels
 

@@ -116,15 +116,6 @@ goes_on P Q f g k a b h s (Err i) (Err j) e = e
 goes_on P Q f g k a b h s (Ok x) (Err j) e = absurd e
 goes_on P Q f g k a b h s (Err i) (Ok y) e = absurd e
 
--- the same, where what comes next may look at the state
-pub goes_on_from : {A B : Type 0} (P : A → A → Type 0) (Q : B → B → Type 0) (d : Definitions) (a b : Around) (s : State) (f g : A → Walk B)
-    → ((x y : A) → P x y → (t u : State) → States t u → (NamesArePlain d → Grows s t) → Ends Q d t (f x a t) (g y b u))
-    → (m n : Lowered (A × State)) → Ends P d s m n → Ends Q d s (then_by a f m) (then_by b g n)
-goes_on_from P Q d a b s f g k (Ok x) (Ok y) e = ends_on Q d s x.1 (f x.0 a x.1) (g y.0 b y.1) e.2 (k x.0 y.0 e.0 x.1 y.1 e.1 e.2)
-goes_on_from P Q d a b s f g k (Err i) (Err j) e = e
-goes_on_from P Q d a b s f g k (Ok x) (Err j) e = absurd e
-goes_on_from P Q d a b s f g k (Err i) (Ok y) e = absurd e
-
 pub on : {A B : Type 0} {P : A → A → Type 0} {Q : B → B → Type 0} {w v : Walk A} {f g : A → Walk B} → Twin P w v → ((x y : A) → P x y → Twin Q (f x) (g y))
     → Twin Q (w >>= f) (v >>= g)
 on {P = P} {Q = Q} {w = w} {v = v} {f = f} {g = g} t k = record { at = λ a b h s u e. goes_on P Q f g k a b h s (w a s) (v b u) (t.at a b h s u e) }

@@ -18,7 +18,7 @@ ghost use Rattle.nf_meaning.specs.Given.{Given, Found};
 ghost use Rattle.nf_meaning.specs.Walk.{State};
 ghost use Rattle.nf_meaning.specs.Script.{around, around_at, definitions_of, meaning_of, paths_of, wants_of, workflow_walk};
 ghost use Rattle.nf_meaning.specs.Few.{ScopeFew, WalkFew};
-ghost use Rattle.nf_meaning.specs.CallPaths.{NamesArePlain, MadeBy};
+ghost use Rattle.nf_meaning.specs.CallPaths.{NamesArePlain, MadeBy, EachOnce};
 ghost use Rattle.nf_meaning.specs.Outside.{fault_of, in_run};
 ghost use Rattle.nf_meaning.specs.Operators as operators;
 ghost use Rattle.nf_meaning.specs.Operators.{Call};
@@ -93,13 +93,15 @@ pub fn first_to_decide()
     ensures waiting { (c : TaskCall) → (z : Instance) → IsUndecided c z → targets_in c z ≡ [] }
 {}
 
-/// The calls of processes in a script have different paths, whatever workflows they stand in, and each task is of one
-/// of them. So no two tasks of different calls are one instance.
+/// The calls of processes in a script have different paths, whatever workflows they stand in, each task is of one of
+/// them, and no task stands twice in the meaning.
 pub fn calls_are_apart()
     ensures apart { (g : Given) → (paths : List (List ℕ)) → NamesArePlain (definitions_of g.tops)
         → paths_of g ≡ Ok paths → IsDistinct bytes_eq paths }
     ensures tasks { (g : Given) → (m : ScriptMeaning) → (paths : List (List ℕ)) → NamesArePlain (definitions_of g.tops)
         → meaning_of g ≡ Ok m → paths_of g ≡ Ok paths → MadeBy paths m.instances }
+    ensures once { (g : Given) → (m : ScriptMeaning) → NamesArePlain (definitions_of g.tops) → meaning_of g ≡ Ok m
+        → EachOnce m.instances }
 {}
 
 /// The fault of a script, the paths whose files it reads and the paths of its calls are the same in all its runs: they
