@@ -79,8 +79,8 @@ impl Flights {
         requires number { next_of self.old < 2 ^ 32 }
         ensures nodes { nodes_of self.new ≡ nodes_of self.old }
         ensures number { IfOk result (λ number. number ≡ next_of self.old) }
-        ensures after { (next : ℕ) (tickets : List Ticket) (k : Ticket) → IsFlights next tickets self.old → k.number ≡ next
-            → k.node ≡ node → k.told ≡ [] → k.started ≡ false
+        ensures after { (next : ℕ) (tickets : List Ticket) (k : Ticket) → IsFlights next tickets self.old
+            → k.number ≡ next → k.node ≡ node → k.told ≡ [] → k.started ≡ false
             → OnOk result (IsFlights (suc next) (with_ticket k tickets) self.new) }
         ensures unchanged { (next : ℕ) (tickets : List Ticket) → IsFlights next tickets self.old
             → OnErr result (IsFlights next tickets self.new) }
@@ -100,7 +100,8 @@ impl Flights {
     pub fn start(&mut self, number: u32)
         requires { IsFlying self.old number }
         ensures nodes { nodes_of self.new ≡ nodes_of self.old }
-        ensures after { (next : ℕ) (tickets : List Ticket) (k : Ticket) → IsFlights next tickets self.old → ticket_at number tickets ≡ Some k
+        ensures after { (next : ℕ) (tickets : List Ticket) (k : Ticket) → IsFlights next tickets self.old
+            → ticket_at number tickets ≡ Some k
             → IsFlights next (with_ticket (record k { started = true }) (without number tickets)) self.new }
     {
         let place = (number - 1) as usize;
@@ -121,7 +122,8 @@ impl Flights {
         ensures nodes { nodes_of self.new ≡ nodes_of self.old }
         ensures after { (next : ℕ) (tickets : List Ticket) (k : Ticket) (r : Report) → IsFlights next tickets self.old
             → ticket_at number tickets ≡ Some k
-            → IsFlights next (with_ticket (record k { told = k.told ++ r ∷ []; started = false }) (without number tickets)) self.new }
+            → IsFlights next
+            (with_ticket (record k { told = k.told ++ r ∷ []; started = false }) (without number tickets)) self.new }
     {
         let place = (number - 1) as usize;
         let Some(flight) = self.takes[place] else {
@@ -138,8 +140,8 @@ impl Flights {
     pub fn leave(&mut self, number: u32)
         requires { IsFlying self.old number }
         ensures nodes { nodes_of self.new ≡ nodes_of self.old }
-        ensures after { (next : ℕ) (tickets : List Ticket) (k : Ticket) → IsFlights next tickets self.old → ticket_at number tickets ≡ Some k
-            → IsFlights next (without number tickets) self.new }
+        ensures after { (next : ℕ) (tickets : List Ticket) (k : Ticket) → IsFlights next tickets self.old
+            → ticket_at number tickets ≡ Some k → IsFlights next (without number tickets) self.new }
     {
         let place = (number - 1) as usize;
         let Some(flight) = self.takes[place] else {

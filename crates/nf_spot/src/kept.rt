@@ -71,7 +71,8 @@ impl Kept {
 
     /// What the end of the input gives.
     pub(crate) fn close(&mut self, alloc: Global) -> Result<Vec<(u32, Value)>, OpFault>
-        ensures { (kind : NodeKind) (sp : Spot) → IsKept kind sp self.old → sp.closed ≡ false → ClosesOn kind sp result self.new }
+        ensures { (kind : NodeKind) (sp : Spot) → IsKept kind sp self.old → sp.closed ≡ false
+            → ClosesOn kind sp result self.new }
     {
         match self {
             Kept::Operator(state) => state.close(),
@@ -85,7 +86,8 @@ impl Kept {
         requires { HasCountRoom self.old }
         ensures number { (queue : _) (sp : Spot) → IsKept (k.Process queue) sp self.old
             → IfOk result (λ n. n ≡ count_by (same_inputs inputs.now) (inputs_taken sp)) }
-        ensures after { (queue : _) (sp : Spot) (t : Take) → IsKept (k.Process queue) sp self.old → t.inputs ≡ inputs.now
+        ensures after { (queue : _) (sp : Spot) (t : Take) → IsKept (k.Process queue) sp self.old
+            → t.inputs ≡ inputs.now
             → OnOk result (IsKept (k.Process queue) (record sp { taken = t ∷ sp.taken }) self.new) }
     {
         match self {

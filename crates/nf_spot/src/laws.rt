@@ -14,7 +14,8 @@ ghost use Rattle.nf_spot.specs.declared.node_state.NodeState.{NodeState};
 pub fn rooms()
     ensures push { (node : Node) (sp : Spot) (c : NodeState) → IsNode node sp c → IsOperatorKind (plain_kind node.kind)
         → sp.closed ≡ false → length sp.pushed < 2 ^ 32 → CanPush c }
-    ensures take { (node : Node) (sp : Spot) (c : NodeState) → IsNode node sp c → length sp.taken + 1 < 2 ^ 32 → HasTakeRoom c }
+    ensures take { (node : Node) (sp : Spot) (c : NodeState) → IsNode node sp c
+        → length sp.taken + 1 < 2 ^ 32 → HasTakeRoom c }
 {
     nf_operator::laws::room();
 }
@@ -23,6 +24,6 @@ pub fn rooms()
 pub fn came_back()
     ensures ended { (node : Node) (sp : Spot) (c : NodeState) (es : List Ended) → IsNode node sp c
         → IsNode node (record sp { ended = es }) c }
-    ensures nothing { (node : Node) (sp : Spot) (c : NodeState) (outs : Outs) → IsNode node sp c → ((o : ℕ) → emit_at outs o ≡ [])
-        → IsNode node (outs_on sp outs) c }
+    ensures nothing { (node : Node) (sp : Spot) (c : NodeState) (outs : Outs) → IsNode node sp c
+        → ((o : ℕ) → emit_at outs o ≡ []) → IsNode node (outs_on sp outs) c }
 {}

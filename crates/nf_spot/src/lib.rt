@@ -1,4 +1,5 @@
-//! A node's part of the state of a run, in memory: what it emitted, what waits at its ports, what it took, and its operator.
+//! A node's part of the state of a run, in memory: what it emitted, what waits at its ports, and what its operator or its process
+//! keeps.
 #![tactic(auto)]
 
 mod counts;

@@ -249,7 +249,8 @@ impl NodeState {
     ///
     /// The fault that the operator has on its whole input, or `Mem` if there is no memory. The state then takes no further call.
     pub fn close(&mut self, alloc: Global) -> Result<Vec<(u32, Value)>, OpFault>
-        ensures { (node : Node) (sp : Spot) → IsNode node sp self.old → sp.closed ≡ false → Closes node sp result self.new }
+        ensures { (node : Node) (sp : Spot) → IsNode node sp self.old → sp.closed ≡ false
+            → Closes node sp result self.new }
     {
         self.kept.close(alloc)
     }
@@ -261,7 +262,8 @@ impl NodeState {
         ensures kept { self.new.kept ≡ self.old.kept }
         ensures inlets { self.new.inlets.items
             ≡ slice_set self.old.inlets.items port (passed_at self.old port, remove (waiting_at self.old port) place) }
-        ensures after { (node : Node) (sp : Spot) → IsNode node sp self.old → IsNode node (leaves_on sp port place) self.new }
+        ensures after { (node : Node) (sp : Spot) → IsNode node sp self.old
+            → IsNode node (leaves_on sp port place) self.new }
     {
         let inlet = &mut self.inlets[port as usize];
         let item = inlet.remove(place as usize);
@@ -371,7 +373,8 @@ fn outlets_of(alloc: Global, node: &Node) -> Result<Vec<Outlet>, Mem>
 fn put_outputs(outlets: &mut [Outlet], values: &Emitted) -> Result<(), Mem>
     ensures len { length outlets.new ≡ length outlets.old }
     ensures each { OnOk result ((out : ℕ) → out < length outlets.old
-        → slice_index_or outlets.new out [] ≡ slice_index_or outlets.old out [] ++ emit_at (Ok (Emits values.now)) out) }
+        → slice_index_or outlets.new out []
+        ≡ slice_index_or outlets.old out [] ++ emit_at (Ok (Emits values.now)) out) }
 {
     for out in 0..outlets.len() {
         put_output(&mut outlets[out], values, out)?;
