@@ -1,4 +1,5 @@
 pub mod Apart
+pub mod Counting
 pub mod Digests
 pub mod Ending
 pub mod Listed

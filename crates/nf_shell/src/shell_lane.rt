@@ -104,7 +104,7 @@ impl<H: Host + Drop> Lane for ShellLane<H> {
         ensures kept { Both (told_by H.files self.old) (told_by H.files self.new)
             (StoresBeside (work_of self.old) job.now) }
 
-        // One child ran in the job's folder, which was ready, and the report is of what it left.
+        // One child ran in the job's folder, which was ready, and the report is of what stands there when the run returns.
         ensures started { OkOver (told_by H.files self.old) result (λ _ d.
             StartsOne (work_of self.old) job.now (report_of_done d) (told_by H.started self.old)
             (told_by H.started self.new)) }
@@ -119,6 +119,10 @@ impl<H: Host + Drop> Lane for ShellLane<H> {
         ensures damages { AddsDamage (work_of self.old) job.now.staged (told_by H.files self.new)
             (damages_of self.old) (damages_of self.new) }
         ensures sound { OnOk result (damages_of self.new ≡ damages_of self.old) }
+
+        // If it finds a damaged file, it starts no child.
+        ensures spared { IfSome (told_by H.files self.old) (λ _.
+            HasOneMore (damages_of self.old) (damages_of self.new) → told_by H.started self.new ≡ told_by H.started self.old) }
     {
         self.runs += 1;
         match run_job(alloc, &mut self.host, self.work.as_str(), job)? {
@@ -140,7 +144,8 @@ impl<H: Host + Drop> Lane for ShellLane<H> {
         ensures named { IfOk result (OnGone (λ name. IsTrue (has_name report.now.found name))) }
         ensures looked { IfSome (store_by H.files self.old) (λ s. IfOk result (IsLook s report.now.found)) }
 
-        // Nothing else changes either.
+        // It fails only if its host did, and nothing else changes either.
+        ensures blame { OnFailed result (Rose (told_by H.faults self.old) (told_by H.faults self.new)) }
         ensures place { work_of self.new ≡ work_of self.old }
         ensures damages { damages_of self.new ≡ damages_of self.old }
         ensures files { told_by H.files self.new ≡ told_by H.files self.old }
