@@ -6,3 +6,5 @@ pub mod Noting
 pub mod Stepping
 pub mod Deciding
 pub mod Sets
+pub mod Opened
+pub mod Readying

@@ -43,3 +43,11 @@ with_one n p m = if m == n then true else p m
 -- all but one
 abbrev pub all_but : ℕ → ℕ → Bool
 all_but n m = not (m == n)
+
+-- none
+abbrev pub none : ℕ → Bool
+none m = false
+
+-- those below a number
+abbrev pub below : ℕ → ℕ → Bool
+below n m = nat_lt m n

@@ -54,3 +54,8 @@ pub record HasNumbered (nodes : List Node) (c : Nodes) (n : ℕ) : Type 0 where
   pub state : State
   pub shows : Shows nodes state c
   pub below : n < port_count nodes
+
+-- these are the nodes of some state
+pub record HasState (nodes : List Node) (c : Nodes) : Type 0 where
+  pub state : State
+  pub shows : Shows nodes state c

@@ -4,6 +4,8 @@
 mod index;
 pub mod laws;
 mod nodes;
+mod opening;
+mod ready;
 mod steps;
 
 pub use nodes::Nodes;
