@@ -7,8 +7,24 @@ use nf_graph::Node;
 use nf_machine::Move;
 
 impl Nodes {
-    ghost use Rattle.nf_nodes.specs.Nodes.{AreNodes, HasNode};
-    ghost use Rattle.nf_nodes.specs.Ready.{IsReadyAt};
+    ghost use Rattle.nf_nodes.specs.Nodes.{AreNodes, HasNode, HasState};
+    ghost use Rattle.nf_nodes.specs.Ready.{IsReady, IsReadyAt};
+
+    /// A legal Pass if there is one, else a legal Take, else a legal Close. Takes no memory, and no walk.
+    pub fn ready(&self, nodes: &[Node]) -> Option<Move>
+        requires { HasState nodes.now self.now }
+        ensures { (s : State) → AreNodes nodes.now s self.now → IsReady nodes.now s result }
+    {
+        nf_wiring::laws::numbers();
+        if let Some(port) = self.index.passable.any() {
+            return Some(Move::Pass { port });
+        }
+        if let Some(node) = self.index.takeable.any() {
+            return self.ready_at(nodes, node);
+        }
+        let node = self.index.closable.any()?;
+        Some(Move::Close { node })
+    }
 
     /// A legal Take of a node, if there is one. Takes no memory, and no walk.
     pub fn ready_at(&self, nodes: &[Node], node: u32) -> Option<Move>
