@@ -13,7 +13,7 @@ ghost use Rattle.nf_wiring.specs.declared.wiring.Wiring.{Wiring};
 pub fn numbers()
     ensures each { (nodes : List Node) (i k : ℕ) → i < length nodes → k < length (node_in nodes i).ports → HasNumber nodes i k }
     ensures within { (nodes : List Node) (n : ℕ) → n < port_count nodes → StandsWithin nodes n }
-    ensures apart { (nodes : List Node) (m n : ℕ) → m < port_count nodes → n < port_count nodes → place_in nodes m ≡ place_in nodes n
-        → m ≡ n }
+    ensures apart { (nodes : List Node) (m n : ℕ) → m < port_count nodes → n < port_count nodes
+        → place_in nodes m ≡ place_in nodes n → m ≡ n }
     ensures count { (nodes : List Node) (w : Wiring) → IsWiring nodes w → count_of w ≡ port_count nodes }
 {}
