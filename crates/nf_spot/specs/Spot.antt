@@ -80,11 +80,15 @@ HasCountRoom (kept.Process c) = total_of c + 1 < 2 ^ 32
 
 -- what a push gives, and what the operator keeps after it
 abbrev pub PushesOn : NodeKind → Spot → Push → Result (Vec (ℕ × Value)) OpFault → Kept → Type 0
-PushesOn kind sp x r new = MatchResult r (λ es. (op_gives (plain_kind kind) sp.pushed x ≡ Ok (emits_of es.items)) × IsKept kind (record sp { pushed = x ∷ sp.pushed }) new) (IsFault (op_gives (plain_kind kind) sp.pushed x))
+PushesOn kind sp x r new =
+    MatchResult r (λ es. (op_gives (plain_kind kind) sp.pushed x ≡ Ok (emits_of es.items)) × IsKept kind (record sp { pushed = x ∷ sp.pushed }) new)
+    (IsFault (op_gives (plain_kind kind) sp.pushed x))
 
 -- what the close gives, and what is kept after it
 abbrev pub ClosesOn : NodeKind → Spot → Result (Vec (ℕ × Value)) OpFault → Kept → Type 0
-ClosesOn kind sp r new = MatchResult r (λ es. (op_ends (plain_kind kind) sp.pushed ≡ Ok (emits_of es.items)) × IsKept kind (record sp { closed = true }) new) (IsFault (op_ends (plain_kind kind) sp.pushed))
+ClosesOn kind sp r new =
+    MatchResult r (λ es. (op_ends (plain_kind kind) sp.pushed ≡ Ok (emits_of es.items)) × IsKept kind (record sp { closed = true }) new)
+    (IsFault (op_ends (plain_kind kind) sp.pushed))
 
 -- ---- the whole
 
@@ -183,8 +187,12 @@ HasTakeRoom c = HasKeptRoom c.kept
 
 -- what a push gives, and the state after it
 abbrev pub Pushes : Node → Spot → Push → Result (Vec (ℕ × Value)) OpFault → NodeState → Type 0
-Pushes node sp x r new = MatchResult r (λ es. (op_gives (plain_kind node.kind) sp.pushed x ≡ Ok (emits_of es.items)) × IsNode node (record sp { pushed = x ∷ sp.pushed }) new) (IsFault (op_gives (plain_kind node.kind) sp.pushed x))
+Pushes node sp x r new =
+    MatchResult r (λ es. (op_gives (plain_kind node.kind) sp.pushed x ≡ Ok (emits_of es.items)) × IsNode node (record sp { pushed = x ∷ sp.pushed }) new)
+    (IsFault (op_gives (plain_kind node.kind) sp.pushed x))
 
 -- what the close gives, and the state after it
 abbrev pub Closes : Node → Spot → Result (Vec (ℕ × Value)) OpFault → NodeState → Type 0
-Closes node sp r new = MatchResult r (λ es. (op_ends (plain_kind node.kind) sp.pushed ≡ Ok (emits_of es.items)) × IsNode node (record sp { closed = true }) new) (IsFault (op_ends (plain_kind node.kind) sp.pushed))
+Closes node sp r new =
+    MatchResult r (λ es. (op_ends (plain_kind node.kind) sp.pushed ≡ Ok (emits_of es.items)) × IsNode node (record sp { closed = true }) new)
+    (IsFault (op_ends (plain_kind node.kind) sp.pushed))
