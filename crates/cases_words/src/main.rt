@@ -1,10 +1,11 @@
 //! Reads a table of command lines and parameter files. Standard input has a row a line. `words: WORDS` has words between `<` and `>`, or none;
 //! `file: TEXT` the text of a parameter file; `bytes: HEX` its bytes in hexadecimal. `nested: N` is N lists in each other under the key `a`, and
-//! `deep: N` the same with a number in the innermost. `over: SCRIPT | FILE | WORDS` has the parameters of three places, each as a file. Each row is
-//! printed with what is read of it. Empty lines and lines that begin with `#` are printed as they are.
+//! `deep: N` the same with a number in the innermost. `over: SCRIPT | FILE | WORDS` has the parameters of three places, each as a file.
+//! `gen: N START` has the numbers of a script that is made. Each row is printed with what is read of it. Empty lines and lines that begin with `#` are printed as they are.
 #![tactic(auto)]
 
 mod files;
+mod generated;
 mod shown;
 mod words;
 
@@ -42,6 +43,7 @@ fn answer(alloc: Global, row: &str) -> Result<String> {
         Some(("nested", count)) => files::nested(alloc, count),
         Some(("deep", count)) => files::deep(alloc, count),
         Some(("over", parts)) => files::over(alloc, parts),
+        Some(("gen", numbers)) => generated::generated(alloc, numbers),
         _ => bail!("{row}: no question"),
     }
 }
