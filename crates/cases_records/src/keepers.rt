@@ -1,11 +1,12 @@
-//! Keepers in memory, one of which fails.
+//! Keepers in memory, one of which fails, and keepers in files.
 
 use crate::jobs::{in_words, printing};
 use anyhow::{Result, bail};
+use nf_host::{Host, MemHost, Whole, read_whole};
 use nf_job::Job;
-use nf_keeper::{FuseKeeper, Keeper, KeeperRefusal, MemKeeper};
+use nf_keeper::{FileKeeper, FuseKeeper, Keeper, KeeperRefusal, MemKeeper, RECORD_LIMIT};
 use nf_record::lookup;
-use nf_value::{Bytes, Digest};
+use nf_value::{Bytes, Digest, Txt};
 use std::alloc::Global;
 
 /// Puts bytes at the key of the task's first attempt, and gets them, over a keeper that passes so many calls and leaves so many bytes of a put
@@ -22,6 +23,69 @@ pub(crate) fn putting(alloc: Global, parts: &str) -> Result<String> {
     let tried = tried(alloc, &mut keeper, job.key(), bytes.trim())?;
     let left = left(alloc, keeper.into_inner(), &job)?;
     Ok(format!(in alloc; "{tried}; {left}")?)
+}
+
+/// Where keepers have their files.
+const FOLDER: &str = "work/.cache";
+
+/// Puts bytes at the key of the task's first attempt, and gets them, over a keeper in files whose host fails at one call: `CALL | OLD | BYTES`, with
+/// `-` for no call, and for nothing that was put before. Tells both answers, the count of failures, what another keeper of the folder then finds
+/// for the job, and the file.
+pub(crate) fn filing(alloc: Global, parts: &str) -> Result<String> {
+    let parts = parts.split('|').collect::<Vec<&str>>(alloc)?;
+    let [call, old, bytes] = parts.as_slice() else {
+        bail!("not three parts");
+    };
+    let job = printing(alloc, 1)?;
+    let mut keeper = in_files(alloc, failing_host(alloc, call.trim())?)?;
+    put_old(&mut keeper, job.key(), old.trim())?;
+    let tried = tried(alloc, &mut keeper, job.key(), bytes.trim())?;
+    let mut host = keeper.into_host();
+    let file = file_of(alloc, &mut host, job.key())?;
+    let left = left(alloc, in_files(alloc, host)?, &job)?;
+    Ok(format!(in alloc; "{tried}; {left}; {file}")?)
+}
+
+/// Puts that many bytes more than a record may have over a keeper in files, and gets them: `MORE`.
+pub(crate) fn filing_long(alloc: Global, more: &str) -> Result<String> {
+    let len = RECORD_LIMIT as usize + more.trim().parse::<u16>()? as usize;
+    let job = printing(alloc, 1)?;
+    let mut keeper = in_files(alloc, MemHost::new(alloc))?;
+    let text = "x".repeat(alloc, len)?;
+    tried(alloc, &mut keeper, job.key(), text.as_str())
+}
+
+fn failing_host(alloc: Global, call: &str) -> Result<MemHost> {
+    let mut host = MemHost::new(alloc);
+    if call != "-" {
+        host.fail_at(call.parse::<u64>()?)?;
+    }
+    Ok(host)
+}
+
+fn in_files(alloc: Global, host: MemHost) -> Result<FileKeeper<MemHost>> {
+    Ok(FileKeeper::new(alloc, host, Txt::of(String::from_str(alloc, FOLDER)?)))
+}
+
+fn put_old<K: Keeper>(keeper: &mut K, key: &Digest, old: &str) -> Result<()> {
+    if old != "-" {
+        keeper.put(key, old.as_bytes())?;
+    }
+    Ok(())
+}
+
+/// The file of a key, and how many bytes it has.
+fn file_of<H: Host>(alloc: Global, host: &mut H, key: &Digest) -> Result<String> {
+    let name = hex::encode(alloc, &key.0[..])?;
+    let path = format!(in alloc; "{FOLDER}/{name}")?;
+    match read_whole(alloc, host, path.as_str(), RECORD_LIMIT)? {
+        Whole::Absent => Ok(String::from_str(alloc, "no file")?),
+        Whole::TooLong => bail!("{path} is too long"),
+        Whole::Bytes(bytes) => {
+            let len = bytes.items().len();
+            Ok(format!(in alloc; "{len} bytes in {path}")?)
+        }
+    }
 }
 
 fn front_of(front: &str) -> Result<Option<usize>> {
@@ -55,7 +119,7 @@ fn is_held(held: &Option<Bytes>) -> &'static str {
 }
 
 /// How many bytes the keeper holds at the job's key, and the report that they have for the job.
-fn left(alloc: Global, mut keeper: MemKeeper, job: &Job) -> Result<String> {
+fn left<K: Keeper>(alloc: Global, mut keeper: K, job: &Job) -> Result<String> {
     let Some(held) = keeper.get(alloc, job.key())? else {
         return Ok(String::from_str(alloc, "nothing left")?);
     };

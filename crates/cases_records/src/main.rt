@@ -45,6 +45,8 @@ fn answer_to(alloc: Global, question: &str, parts: &str) -> Result<String> {
         "fronts" => records::fronts(alloc, parts),
         "lookup" => records::looking(alloc, parts),
         "put" => keepers::putting(alloc, parts),
+        "file" => keepers::filing(alloc, parts),
+        "long" => keepers::filing_long(alloc, parts),
         _ => bail!("{question}: no question"),
     }
 }

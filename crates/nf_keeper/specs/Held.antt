@@ -1,6 +1,7 @@
 -- What a keeper holds, and what a put leaves. A key is the bytes of a digest.
 use Rattle.std.specs.Prelude.{◌≡◌, ◌⊎◌, ℕ, List, take, if◌then◌else◌, Result, MatchResult, None, Some, bytes_eq}
 use Rattle.std.specs.declared.option.Option.{Option}
+use Rattle.nf_host.specs.Told as told
 
 -- the bytes at each key that holds some
 abbrev pub Held : Type 0
@@ -32,7 +33,4 @@ Leaves key bytes answer m n = MatchResult answer (λ _. IsPut m key bytes n) (λ
 
 -- P of two contents, if both are told; otherwise neither is
 abbrev pub Both : {A : Type 0} → Option A → Option A → (A → A → Type 0) → Type 0
-Both None None P = Unit {0}
-Both (Some a) (Some b) P = P a b
-Both None (Some b) P = ⊥
-Both (Some a) None P = ⊥
+Both a b P = told.Both a b P

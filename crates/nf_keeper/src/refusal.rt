@@ -1,8 +1,10 @@
 //! Why a keeper gave no answer.
 
 ghost use Rattle.std.specs.Prelude.{◌≡◌};
+ghost use Rattle.nf_keeper.specs.Faults.{refusal_of};
 ghost use Rattle.nf_keeper.specs.declared.refusal.KeeperRefusal.TheVariants as refusal;
 
+use nf_host::HostRefusal;
 use nf_value::Mem;
 use std::alloc::{AllocError, AllocFailed};
 use thiserror::Error;
@@ -23,6 +25,17 @@ impl From<Mem> for KeeperRefusal {
 
     fn from(_error: Mem) -> KeeperRefusal {
         KeeperRefusal::Mem
+    }
+}
+
+impl From<HostRefusal> for KeeperRefusal {
+    ghost from_gives = { λ r e. e ≡ refusal_of r };
+
+    fn from(error: HostRefusal) -> KeeperRefusal {
+        match error {
+            HostRefusal::Failed => KeeperRefusal::Failed,
+            HostRefusal::Mem => KeeperRefusal::Mem,
+        }
     }
 }
 
