@@ -119,7 +119,7 @@ fn is_held(held: &Option<Bytes>) -> &'static str {
 }
 
 /// How many bytes the keeper holds at the job's key, and the report that they have for the job.
-fn left<K: Keeper>(alloc: Global, mut keeper: K, job: &Job) -> Result<String> {
+fn left<K: Keeper + Drop>(alloc: Global, mut keeper: K, job: &Job) -> Result<String> {
     let Some(held) = keeper.get(alloc, job.key())? else {
         return Ok(String::from_str(alloc, "nothing left")?);
     };
