@@ -1,0 +1,4 @@
+pub mod Paths
+pub mod Pairs
+pub mod Texts
+pub mod Groups
