@@ -1,0 +1,7 @@
+//! Tests of what lowering stands on.
+#![tactic(auto)]
+
+#[cfg(test)]
+mod names;
+#[cfg(test)]
+mod paths;
