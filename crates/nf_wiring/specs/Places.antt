@@ -1,5 +1,5 @@
 -- The numbers of the ports of a graph.
-use Rattle.std.specs.Prelude.{◌≡◌, ◌<◌, ◌++◌, ℕ, zero, suc, List, [], ◌∷◌, length, sum_by, slice_index_or}
+use Rattle.std.specs.Prelude.{◌≡◌, ◌<◌, ◌++◌, ℕ, zero, suc, List, [], ◌∷◌, length, sum_by, slice_index, slice_index_or}
 use Rattle.std.specs.List.{Contains}
 use Rattle.nf_graph.specs.declared.port.Port.{Port}
 use Rattle.nf_graph.specs.declared.node.Node.{Node}
@@ -54,8 +54,14 @@ places_from i (node ∷ nodes) = row i 0 (length node.ports) ++ places_from (suc
 abbrev pub readers_at : List (List ℕ) → ℕ → List ℕ
 readers_at lists i = slice_index_or lists i []
 
--- for each node the ports that read it, of those with a number below the count
+-- each number of the list is above those before it
+abbrev pub IsRising : List ℕ → Type 0
+IsRising ns = (a b : ℕ) → a < b → b < length ns → slice_index ns a < slice_index ns b
+
+-- for each node the ports that read it, of those with a number below the count, in rising order
 pub record AreReaders (nodes : List Node) (count : ℕ) (lists : List (List ℕ)) : Type 0 where
   pub len : length lists ≡ length nodes
   pub each : (n : ℕ) → n < count → Contains (readers_at lists (port_numbered nodes n).from) n
   pub numbers : (i n : ℕ) → Contains (readers_at lists i) n → n < count
+  pub only : (i n : ℕ) → Contains (readers_at lists i) n → (port_numbered nodes n).from ≡ i
+  pub rising : (i : ℕ) → IsRising (readers_at lists i)
