@@ -8,3 +8,6 @@ pub mod Deciding
 pub mod Sets
 pub mod Opened
 pub mod Readying
+pub mod Telling
+pub mod Giving
+pub mod Counting

@@ -39,11 +39,15 @@ kept_ports nodes s u p x same h = record {
   lives = λ n d l t. h.lives n d l refl ∙ ap not (sym (same_end (plain_graph nodes) s u (place_in nodes n) (same n l t)));
 }
 
-pub kept_nodes : (nodes : List Node) (s u : State) (q : ℕ → Bool) (x : Index) → s.stop ≡ None → u.stop ≡ None → ((i : ℕ) → i < length nodes → q i ≡ true → SameNode (plain_graph nodes) s u i) → MarksNodes nodes s all x → MarksNodes nodes u q x
+pub kept_nodes : (nodes : List Node) (s u : State) (q : ℕ → Bool) (x : Index) → s.stop ≡ None → u.stop ≡ None → ((i : ℕ) → i < length nodes → q i ≡ true → SameNode (plain_graph nodes) s u i) → MarksNodes nodes s q x → MarksNodes nodes u q x
 kept_nodes nodes s u q x rs ru same h = record {
-  takes = λ i l t. both_ways (h.takes i l refl) (same_take (plain_graph nodes) s u i (same i l t));
-  closes = λ i l t. both_ways (h.closes i l refl) (same_close (plain_graph nodes) s u i rs ru (same i l t));
+  takes = λ i l t. both_ways (h.takes i l t) (same_take (plain_graph nodes) s u i (same i l t));
+  closes = λ i l t. both_ways (h.closes i l t) (same_close (plain_graph nodes) s u i rs ru (same i l t));
 }
+
+-- where all nodes were marked, some are
+pub some_nodes : (nodes : List Node) (s : State) (q : ℕ → Bool) (x : Index) → MarksNodes nodes s all x → MarksNodes nodes s q x
+some_nodes nodes s q x h = fewer_nodes nodes s all q x (λ i l t. refl) h
 
 -- ---- parts of the index
 

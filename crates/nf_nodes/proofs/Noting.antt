@@ -11,7 +11,7 @@ use Rattle.nf_spot.specs.declared.numbers.NumberSet.{NumberSet}
 use Rattle.nf_wiring.specs.Places.{port_count, place_in, StandsWithin}
 use Rattle.nf_nodes.specs.Marks.{fed, passed_there, producer_of, CanTake, all, with_one}
 use Rattle.nf_nodes.specs.Index.{is_live, IsSized, MarksPorts, MarksNodes}
-use Rattle.nf_nodes.specs.Nodes.{HasPlace, HasNumbered, Marks, Shows}
+use Rattle.nf_nodes.specs.Nodes.{HasPlace, HasNumbered, KeepsStates, Marks, Shows}
 use Rattle.nf_nodes.specs.declared.index.Index.{Index}
 use Rattle.nf_nodes.specs.declared.nodes.Nodes.{Nodes}
 use Rattle.nf_nodes.proofs.Marking.{ports_apart, nodes_apart, one_port, one_node}
@@ -60,3 +60,13 @@ module _ (nodes : List Node) (s : State) (p q : ℕ → Bool) (c : Nodes) (y : I
     by_port = ports_apart nodes s p c.index y ep el h.by_port;
     by_node = one_node nodes s q c.index y node a b h.by_node ha hb takes closes;
   }
+
+-- another index keeps the rest
+pub kept_rest : (nodes : List Node) (c : Nodes) (y : Index) → ((ns : List Node) → IsSized ns c.index → IsSized ns y) → KeepsStates nodes c (record c { index = y })
+kept_rest nodes c y sized = record { wiring = refl; shows = λ s h. with_index nodes s all all c y h (sized nodes h.sized) }
+
+pub rest_same : (nodes : List Node) (c : Nodes) → KeepsStates nodes c c
+rest_same nodes c = record { wiring = refl; shows = λ s h. h }
+
+pub rest_again : (nodes : List Node) (a b c : Nodes) → KeepsStates nodes a b → KeepsStates nodes b c → KeepsStates nodes a c
+rest_again nodes a b c f h = record { wiring = h.wiring ∙ f.wiring; shows = λ s e. h.shows s (f.shows s e) }

@@ -51,7 +51,7 @@ take_there nodes s i can = elim (cases_Bool (nat_lt i (length nodes))) [
       let w : machine.MayTake no_node (source []) (s.spots i) can.port can.place = subst (λ (n : PlainNode). machine.MayTake n n.kind (s.spots i) can.port can.place) e can.may in w)
 ]
 
-close_there : (nodes : List Node) (s : State) (i : ℕ) → CloseIsLegal (plain_graph nodes) s i → i < length nodes
+pub close_there : (nodes : List Node) (s : State) (i : ℕ) → CloseIsLegal (plain_graph nodes) s i → i < length nodes
 close_there nodes s i legal = elim (cases_Bool (nat_lt i (length nodes))) [
   | inl t ↦ below i (length nodes) t
   | inr f ↦ absurd (let g = graph_length nodes in let z : length (plain_graph nodes) ≤ i = grind (arith, nat_tests) in let e : node_at (plain_graph nodes) i ≡ no_node = get_or_past (plain_graph nodes) i no_node z in

@@ -3,13 +3,14 @@ use Rattle.std.proofs.Common.{◌≡◌, ℕ, zero, suc, ◌+◌, ◌<◌, ◌�
 use Rattle.std.specs.Prelude.{◌↔◌, Option, Some, None, is_some, MatchOption, slice_index_or}
 use Rattle.std.proofs.lemmas.Bool.{true≢false}
 use Rattle.std.proofs.lemmas.List.{get_or_default}
-use Rattle.nf_value.specs.Plain.{Plain}
+use Rattle.nf_value.specs.Plain.{Plain, null}
 use Rattle.nf_graph.specs.declared.port.Port.{Port}
 use Rattle.nf_graph.specs.declared.node.Node.{Node}
 use Rattle.nf_graph.specs.Node.{PlainNode, port_at, node_at}
 use Rattle.nf_graph.specs.WellMade.{FitsKind, plain_node, plain_graph, node_in, no_source}
 use Rattle.nf_machine.specs.Event.{Place}
-use Rattle.nf_machine.specs.State.{State, Spot}
+use Rattle.nf_machine.specs.State.{State, Spot, feed}
+use Rattle.nf_machine.specs.Step.{next_item}
 use Rattle.nf_machine.specs.Legal.{MayTake}
 use Rattle.nf_spot.specs.Heads.{no_inlet}
 use Rattle.nf_spot.specs.Spot.{IsNode, MayNotTake, MayTakeAt, passed_at, emitted_at, ports_of, outs_of}
@@ -70,6 +71,21 @@ module _ (nodes : List Node) (s : State) (c : Nodes) (h : Shows nodes s c) where
   pub fed_at : (p : Place) (q : Port) (x : NodeState) → q ≡ port_there nodes p → p.node < length nodes → p.port < length (node_in nodes p.node).ports → x ≡ get_or c.states.items q.from x
       → length (emitted_at x q.out) ≡ fed (plain_graph nodes) s p
   fed_at p q x e l m ex = ap (λ (r : Port). length (emitted_at x r.out)) e ∙ fed_is p x l m (subst (λ (r : Port). x ≡ get_or c.states.items r.from x) e ex)
+
+  -- what was emitted to it, and the item that passes next
+  pub feed_at : (p : Place) (q : Port) (x : NodeState) → q ≡ port_there nodes p → p.node < length nodes → p.port < length (node_in nodes p.node).ports → x ≡ get_or c.states.items q.from x
+      → emitted_at x q.out ≡ feed s.spots (port_at (node_at (plain_graph nodes) p.node) p.port)
+  feed_at p q x e l m ex =
+      (state_is q.from x (producer_at p q e l m) ex).emits q.out (subst (λ (r : Port). r.out < (node_in nodes r.from).outs) (sym e) (h.well_made.reads p.node p.port m).out)
+      ∙ ap (λ (r : Port). (s.spots r.from).emitted r.out) (e ∙ sym (port_same nodes p))
+
+  pub next_at : (p : Place) (q : Port) (x : NodeState) (n : ℕ) → q ≡ port_there nodes p → p.node < length nodes → p.port < length (node_in nodes p.node).ports → x ≡ get_or c.states.items q.from x → n ≡ passed_there s p
+      → get_or (emitted_at x q.out) n null ≡ next_item (plain_graph nodes) s p.node p.port
+  next_at p q x n e l m ex en = ap (λ (xs : List Plain). get_or xs n null) (feed_at p q x e l m ex) ∙ ap (λ k. get_or (feed s.spots (port_at (node_at (plain_graph nodes) p.node) p.port)) k null) en
+
+  pub next_below : (p : Place) (q : Port) (x : NodeState) (n : ℕ) → q ≡ port_there nodes p → p.node < length nodes → p.port < length (node_in nodes p.node).ports → x ≡ get_or c.states.items q.from x → n ≡ passed_there s p
+      → passed_there s p < fed (plain_graph nodes) s p → n < length (emitted_at x q.out)
+  next_below p q x n e l m ex en more = let f = fed_at p q x e l m ex in omega (arith, en, more, f)
 
   pub closed_at : (p : Place) (q : Port) → q ≡ port_there nodes p → p.node < length nodes → p.port < length (node_in nodes p.node).ports → slice_index_or c.closed.items q.from false ≡ (s.spots (producer_of (plain_graph nodes) p)).closed
   closed_at p q e l m = ap (λ (r : Port). slice_index_or c.closed.items r.from false) e ∙ closed_is p l m

@@ -27,7 +27,7 @@ use Rattle.nf_nodes.specs.Steps.{received}
 use Rattle.nf_nodes.specs.declared.index.Index.{Index}
 use Rattle.nf_nodes.specs.declared.nodes.Nodes.{Nodes}
 use Rattle.nf_nodes.proofs.Changes.{MovesAt, EmitsNothing, StaysOpen, SamePort, SameNode, silent_port, silent_node, open_node, far_port, far_node, passed_kept}
-use Rattle.nf_nodes.proofs.Marking.{fewer_ports, fewer_nodes, kept_ports, kept_nodes}
+use Rattle.nf_nodes.proofs.Marking.{fewer_ports, fewer_nodes, kept_ports, kept_nodes, some_nodes}
 
 -- ---- marks of all
 
@@ -76,11 +76,11 @@ module _ (nodes : List Node) (s u : State) (c d : Nodes) (i : ℕ) (x : NodeStat
   marks_silent h e p passed node = record {
     shows = shows_set h.shows e.closed node;
     by_port = subst (MarksPorts nodes u p) (sym ei) (kept_ports nodes s u p c.index (λ n k t. silent_port (plain_graph nodes) i s u m e (place_in nodes n) (passed n k t)) h.by_port);
-    by_node = subst (MarksNodes nodes u (all_but i)) (sym ei) (kept_nodes nodes s u (all_but i) c.index m.before m.after (λ j k t. silent_node (plain_graph nodes) i s u m e j (other i j t)) h.by_node);
+    by_node = subst (MarksNodes nodes u (all_but i)) (sym ei) (kept_nodes nodes s u (all_but i) c.index m.before m.after (λ j k t. silent_node (plain_graph nodes) i s u m e j (other i j t)) (some_nodes nodes s (all_but i) c.index h.by_node));
   }
 
   -- it isn't closed, and passed nothing; r are ports that don't read it
-  pub marks_open : AreNodes nodes s c → StaysOpen i s u → (u.spots i).passed ≡ (s.spots i).passed → (r : ℕ → Bool)
+  pub marks_open : Marks nodes s all (all_but i) c → StaysOpen i s u → (u.spots i).passed ≡ (s.spots i).passed → (r : ℕ → Bool)
       → ((n : ℕ) → n < port_count nodes → r n ≡ true → producer_of (plain_graph nodes) (place_in nodes n) ≡ i → ⊥)
       → IsNode (node_in nodes i) (u.spots i) x → Marks nodes u r (all_but i) d
   marks_open h o passed r far node = record {

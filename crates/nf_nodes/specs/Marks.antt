@@ -1,9 +1,13 @@
 -- What can move in a state.
 use Rattle.std.specs.Prelude.{ℕ, ◌≡◌, ◌<◌, ◌==◌, ◌&&◌, nat_lt, Bool, List, true, false, not, length, if◌then◌else◌}
+use Rattle.std.specs.List.{list_any}
+use Rattle.nf_graph.specs.declared.node.Node.{Node}
 use Rattle.nf_graph.specs.Node.{PlainNode, port_at, node_at}
+use Rattle.nf_graph.specs.WellMade.{node_in}
 use Rattle.nf_machine.specs.Event.{Place}
 use Rattle.nf_machine.specs.State.{State, feed}
 use Rattle.nf_machine.specs.Legal.{MayTake}
+use Rattle.nf_wiring.specs.Places.{port_numbered}
 
 -- how many items were emitted to the port at a place
 abbrev pub fed : List PlainNode → State → Place → ℕ
@@ -51,3 +55,15 @@ none m = false
 -- those below a number
 abbrev pub below : ℕ → ℕ → Bool
 below n m = nat_lt m n
+
+-- the ports that don't read node i
+abbrev pub unread : List Node → ℕ → ℕ → Bool
+unread nodes i n = not ((port_numbered nodes n).from == i)
+
+-- the nodes without a port that reads node i
+abbrev pub unfed : List Node → ℕ → ℕ → Bool
+unfed nodes i j = not (list_any (λ p. p.from == i) (node_in nodes j).ports)
+
+-- those of them that aren't node i
+abbrev pub far_from : List Node → ℕ → ℕ → Bool
+far_from nodes i j = all_but i j && unfed nodes i j

@@ -34,6 +34,11 @@ pub record Marks (nodes : List Node) (s : State) (p q : ℕ → Bool) (c : Nodes
 abbrev pub AreNodes : List Node → State → Nodes → Type 0
 AreNodes nodes s c = Marks nodes s all all c
 
+-- all but the marks stays as it was
+pub record KeepsStates (nodes : List Node) (old new : Nodes) : Type 0 where
+  pub wiring : new.wiring ≡ old.wiring
+  pub shows : (s : State) → Shows nodes s old → Shows nodes s new
+
 -- ---- what a call asks for
 
 -- these are the nodes of some state, and i is one of them

@@ -26,12 +26,13 @@ pub struct Nodes {
 
 impl Nodes {
     ghost use Rattle.nf_nodes.specs.Flying.{AreFlying};
-    ghost use Rattle.nf_nodes.specs.Nodes.{HasNode, HasNumbered, HasPlace, Marks, Shows};
+    ghost use Rattle.nf_nodes.specs.Nodes.{HasNode, HasNumbered, HasPlace, KeepsStates, Marks, Shows};
 
     /// Marks the port of a number as the state has it.
     pub(crate) fn note_port(&mut self, nodes: &[Node], number: u32)
         requires { HasNumbered nodes.now self.old number }
-        ensures { (s : State) (p q : ℕ → Bool) → Marks nodes.now s p q self.old → Marks nodes.now s (with_one number p) q self.new }
+        ensures marks { (s : State) (p q : ℕ → Bool) → Marks nodes.now s p q self.old → Marks nodes.now s (with_one number p) q self.new }
+        ensures rest { KeepsStates nodes.now self.old self.new }
     {
         nf_wiring::laws::numbers();
         let place = self.wiring.place(number);
@@ -44,7 +45,7 @@ impl Nodes {
     }
 
     /// How many items passed to a port.
-    fn passed(&self, nodes: &[Node], place: Place) -> usize
+    pub(crate) fn passed(&self, nodes: &[Node], place: Place) -> usize
         requires { HasPlace nodes.now self.now (plain_place place) }
         ensures { (s : State) → Shows nodes.now s self.now → result ≡ passed_there s (plain_place place) }
     {
@@ -73,8 +74,9 @@ impl Nodes {
     pub(crate) fn note_node(&mut self, nodes: &[Node], flights: &Flights, node: u32)
         requires node { HasNode nodes.now self.old node }
         requires flights { node < nodes_of flights.now }
-        ensures { (s : State) (q : ℕ → Bool) → Marks nodes.now s all q self.old → AreFlying nodes.now s flights.now
+        ensures marks { (s : State) (q : ℕ → Bool) → Marks nodes.now s all q self.old → AreFlying nodes.now s flights.now
             → Marks nodes.now s all (with_one node q) self.new }
+        ensures rest { KeepsStates nodes.now self.old self.new }
     {
         let can_take = self.can_take(nodes, node);
         let can_close = self.can_close(nodes, flights, node);
@@ -120,7 +122,7 @@ fn is_live(is_closed: bool, passed: usize, emitted: usize) -> bool
 }
 
 /// The port at a place.
-fn port_at(nodes: &[Node], place: Place) -> Port
+pub(crate) fn port_at(nodes: &[Node], place: Place) -> Port
     requires node { place.node < length nodes.now }
     requires port { place.port < length (node_in nodes.now place.node).ports }
     ensures { result ≡ port_there nodes.now (plain_place place) }

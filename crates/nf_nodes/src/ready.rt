@@ -1,14 +1,19 @@
 //! Which move comes next.
 
+ghost use Rattle.std.specs.Prelude.{◌≡◌, List, count_by, not};
+ghost use Rattle.nf_value.specs.View.{plain_of};
+ghost use Rattle.nf_graph.specs.declared.node.Node.{Node};
 ghost use Rattle.nf_machine.specs.State.{State};
 
-use crate::nodes::Nodes;
+use crate::nodes::{Nodes, port_at};
 use nf_graph::Node;
 use nf_machine::Move;
+use nf_value::Value;
 
 impl Nodes {
     ghost use Rattle.nf_nodes.specs.Nodes.{AreNodes, HasNode, HasState};
     ghost use Rattle.nf_nodes.specs.Ready.{IsReady, IsReadyAt};
+    ghost use Rattle.nf_nodes.specs.Steps.{HasNext, next_in, open_in};
 
     /// A legal Pass if there is one, else a legal Take, else a legal Close. Takes no memory, and no walk.
     pub fn ready(&self, nodes: &[Node]) -> Option<Move>
@@ -39,4 +44,30 @@ impl Nodes {
             place: 0,
         })
     }
+
+    /// The item that passes next to the port of a number.
+    pub fn next_item(&self, nodes: &[Node], number: u32) -> &Value
+        requires { HasNext nodes.now self.now number }
+        ensures { (s : State) → AreNodes nodes.now s self.now → plain_of result.now ≡ next_in nodes.now s number }
+    {
+        nf_wiring::laws::numbers();
+        let place = self.wiring.place(number);
+        let passed = self.passed(nodes, place);
+        let port = port_at(nodes, place);
+        self.states[port.from as usize].item(port.out, passed)
+    }
+
+    /// How many nodes aren't closed. Time: the nodes.
+    pub fn open_nodes(&self) -> usize
+        ensures { (nodes : List Node) (s : State) → AreNodes nodes s self.now → result ≡ open_in nodes s }
+    {
+        count_false(&self.closed)
+    }
+}
+
+/// How many of these are false.
+fn count_false(tests: &[bool]) -> usize
+    ensures { result ≡ count_by not tests.now }
+{
+    tests.iter().filter(|test| !**test).count()
 }

@@ -18,7 +18,7 @@ note_node-requires-clause-flights c = let t = c.loop-node-test.true in let e = c
 
 pub loop-node-preserved : goal.loop-node-preserved
 loop-node-preserved c s h f =
-    node_more c.args.nodes.now s all c.loop-node.node c.note_node.new.self (c.note_node.ensures s (below c.loop-node.node) (c.loop-node.invariant s h f) f)
+    node_more c.args.nodes.now s all c.loop-node.node c.note_node.new.self (c.note_node.ensures.marks s (below c.loop-node.node) (c.loop-node.invariant s h f) f)
 
 pub returns : goal.returns
 returns c s h f = nodes_done c.args.nodes.now s c.loop-node.node c.loop-node.self (let t = c.loop-node-test.false in omega arith) (c.loop-node.invariant s h f)

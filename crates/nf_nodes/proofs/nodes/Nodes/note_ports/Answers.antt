@@ -15,7 +15,7 @@ note_port-requires c = record {
 
 pub loop-number-preserved : goal.loop-number-preserved
 loop-number-preserved c s h =
-    port_more c.args.nodes.now s c.loop-number.number none c.note_port.new.self (c.note_port.ensures s (below c.loop-number.number) none (c.loop-number.invariant s h))
+    port_more c.args.nodes.now s c.loop-number.number none c.note_port.new.self (c.note_port.ensures.marks s (below c.loop-number.number) none (c.loop-number.invariant s h))
 
 pub returns : goal.returns
 returns c s h =

@@ -30,7 +30,7 @@ note_node-requires-clause-node c =
     let node = c.in_ok-receive.ensures (node_in c.args.nodes.now c.place-place.result.node) (s.spots c.place-place.result.node) (state_is c.args.nodes.now s c.args.self.now h.shows c.place-place.result.node c.index_mut.result.now p.node c.index_mut.ensures.value) in
     let u = received s (plain_place c.place-place.result) (plain_of c.args.item) in
     let d = receive_done c.args.nodes.now (c.numbers.ensures.apart c.args.nodes.now) s c.args.self.now _ c.args.number (plain_place c.place-place.result) (plain_of c.args.item) c.receive.new.self h c.requires.may.below e p.node node refl refl refl refl in
-    let m = c.note_port.ensures u (all_but c.args.number) (all_but c.place-place.result.node) d in
+    let m = c.note_port.ensures.marks u (all_but c.args.number) (all_but c.place-place.result.node) d in
     record { state = u; shows = m.shows; below = p.node }
 
 pub returns : goal.returns
@@ -41,6 +41,6 @@ returns c s h f =
     let node = c.in_ok-receive.ensures (node_in c.args.nodes.now c.place-place.result.node) (s.spots c.place-place.result.node) (state_is c.args.nodes.now s c.args.self.now h.shows c.place-place.result.node c.index_mut.result.now p.node c.index_mut.ensures.value) in
     let u = received s (plain_place c.place-place.result) (plain_of c.args.item) in
     let d = receive_done c.args.nodes.now (c.numbers.ensures.apart c.args.nodes.now) s c.args.self.now _ c.args.number (plain_place c.place-place.result) (plain_of c.args.item) c.receive.new.self h c.requires.may.below e p.node node refl refl refl refl in
-    let m = marked_again c.args.nodes.now u c.args.number c.place-place.result.node _ (c.note_port.ensures u (all_but c.args.number) (all_but c.place-place.result.node) d) in
-    let a = noted_again c.args.nodes.now u c.place-place.result.node _ (c.note_node.ensures u (all_but c.place-place.result.node) m (record { shows = f.shows; nodes_are = f.nodes_are })) in
+    let m = marked_again c.args.nodes.now u c.args.number c.place-place.result.node _ (c.note_port.ensures.marks u (all_but c.args.number) (all_but c.place-place.result.node) d) in
+    let a = noted_again c.args.nodes.now u c.place-place.result.node _ (c.note_node.ensures.marks u (all_but c.place-place.result.node) m (record { shows = f.shows; nodes_are = f.nodes_are })) in
     subst (λ (q : Place). AreNodes c.args.nodes.now (received s q (plain_of c.args.item)) c.note_node.new.self) e a
