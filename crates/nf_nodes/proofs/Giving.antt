@@ -1,8 +1,7 @@
 -- The nodes in memory after a node emitted, or closed.
-use Rattle.std.proofs.Common.{◌≡◌, ℕ, zero, suc, ◌+◌, ◌<◌, ◌≤◌, List, [], ◌∷◌, ◌++◌, length, get_or, set, Bool, true, false, ◌&&◌, refl, ap, sym, ◌∙◌, subst, arith, inl, inr, length-set}
-use Rattle.std.specs.Prelude.{◌==◌, not, None, Ok, Option, Some, count_by, slice_index_or, if◌then◌else◌}
-use Rattle.std.specs.List.{list_any}
-use Rattle.std.proofs.lemmas.Bool.{cases_eq, cases_Bool, true≢false}
+use Rattle.std.proofs.Common.{◌≡◌, ℕ, ◌+◌, ◌<◌, List, [], ◌∷◌, ◌++◌, length, get_or, set, Bool, true, false, ◌&&◌, refl, ap, sym, ◌∙◌, subst, arith, inl, inr, length-set}
+use Rattle.std.specs.Prelude.{◌==◌, not, None, Ok, Option, Some, count_by, if◌then◌else◌}
+use Rattle.std.proofs.lemmas.Bool.{cases_eq, true≢false}
 use Rattle.std.proofs.lemmas.Bool.Decides.{nat_tests}
 use Rattle.std.proofs.lemmas.List.{append-nil, get_or-set_same, get_or-set_other}
 use Rattle.std.proofs.lemmas.List.Folds.{list_any_at}
@@ -23,16 +22,15 @@ use Rattle.nf_graph.specs.Rules.{Outs}
 use Rattle.nf_graph.specs.WellMade.{plain_graph, plain_kind, node_in}
 use Rattle.nf_graph.proofs.Lists.{put_same, put_other}
 use Rattle.nf_machine.proofs.Tickets.{found_tally}
-use Rattle.nf_machine.specs.Event.{Place}
 use Rattle.nf_machine.specs.Legal.{IsOperatorKind}
 use Rattle.nf_machine.specs.State.{Ended, Ticket, Spot, State}
 use Rattle.nf_machine.specs.Step.{ended_on, ends_at, op_ends, op_gives, ticket_at, with_spot, without}
 use Rattle.nf_spot.specs.Spot.{IsNode, emits_all_on, outs_on}
 use Rattle.nf_spot.specs.declared.node_state.NodeState.{NodeState}
-use Rattle.nf_wiring.specs.Places.{port_count, place_in, port_there, port_numbered}
+use Rattle.nf_wiring.specs.Places.{place_in, port_numbered}
 use Rattle.nf_wiring.specs.Wiring.{IsWiring}
 use Rattle.nf_nodes.specs.Index.{IsSized, MarksPorts, MarksNodes}
-use Rattle.nf_nodes.specs.Marks.{all, all_but, far_from, passed_there, producer_of, unfed, unread}
+use Rattle.nf_nodes.specs.Marks.{all, all_but, far_from, producer_of, unfed, unread}
 use Rattle.nf_nodes.specs.Nodes.{AreNodes, Marks, Shows}
 use Rattle.nf_nodes.specs.Steps.{left}
 use Rattle.nf_nodes.specs.declared.nodes.Nodes.{Nodes}

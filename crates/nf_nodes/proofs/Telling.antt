@@ -9,14 +9,14 @@ use Rattle.std.proofs.lemmas.List.Elements.{Contains-get_or}
 use Rattle.std.proofs.lemmas.List.Folds.{Any-from_list_any}
 use Rattle.nf_graph.specs.declared.port.Port.{Port}
 use Rattle.nf_graph.specs.declared.node.Node.{Node}
-use Rattle.nf_graph.specs.Node.{no_port, port_in}
+use Rattle.nf_graph.specs.Node.{no_port}
 use Rattle.nf_graph.specs.WellMade.{node_in}
 use Rattle.nf_machine.specs.Event.{Place}
 use Rattle.nf_machine.specs.State.{State}
-use Rattle.nf_wiring.specs.Places.{port_count, place_in, port_there, port_numbered, readers_at}
+use Rattle.nf_wiring.specs.Places.{port_count, place_in, port_there, port_numbered}
 use Rattle.nf_wiring.specs.Wiring.{IsWiring, readers_of}
 use Rattle.nf_wiring.specs.declared.wiring.Wiring.{Wiring}
-use Rattle.nf_nodes.specs.Marks.{all, all_but, far_from, unfed, unread, with_one}
+use Rattle.nf_nodes.specs.Marks.{all, far_from, unfed, unread, with_one}
 use Rattle.nf_nodes.specs.Nodes.{AreNodes, Marks}
 use Rattle.nf_nodes.specs.declared.nodes.Nodes.{Nodes}
 use Rattle.nf_nodes.proofs.Closing.{Numbers}

@@ -1,8 +1,8 @@
-use Rattle.std.proofs.Common.{true, refl, rules, arith, subst, sym, ◌∙◌}
+use Rattle.std.proofs.Common.{true, refl, arith}
 use Rattle.std.proofs.lemmas.Result.{err_from_is_err_and}
 use Rattle.nf_opstream.specs.Promise.{emits_of}
-use Rattle.nf_graph.specs.WellMade.{node_in, plain_graph}
-use Rattle.nf_machine.specs.State.{State, Spot}
+use Rattle.nf_graph.specs.WellMade.{node_in}
+use Rattle.nf_machine.specs.State.{Spot}
 use Rattle.nf_machine.specs.Step.{with_spot}
 use Rattle.nf_spot.specs.Spot.{emits_all_on}
 use Rattle.nf_nodes.specs.Marks.{far_from}

@@ -1,4 +1,4 @@
-use Rattle.std.proofs.Common.{◌∷◌, refl, rules, ap, arith, subst, sym, ◌∙◌}
+use Rattle.std.proofs.Common.{◌∷◌, refl, ap, arith, subst, ◌∙◌}
 use Rattle.std.specs.Prelude.{Ok}
 use Rattle.nf_graph.specs.WellMade.{node_in, plain_graph}
 use Rattle.nf_graph.proofs.Lists.{put_same}

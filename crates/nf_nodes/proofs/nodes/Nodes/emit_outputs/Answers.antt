@@ -1,4 +1,4 @@
-use Rattle.std.proofs.Common.{◌≡◌, refl, rules, ap, subst, sym}
+use Rattle.std.proofs.Common.{refl, subst, sym}
 use Rattle.std.specs.Prelude.{Ok}
 use Rattle.nf_job.specs.declared.emitted.Outputs.TheVariants.{Emits}
 use Rattle.nf_graph.specs.WellMade.{node_in}

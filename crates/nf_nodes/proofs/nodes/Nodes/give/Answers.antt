@@ -1,4 +1,4 @@
-use Rattle.std.proofs.Common.{◌∷◌, refl, rules, ap, arith, subst, sym, ◌∙◌}
+use Rattle.std.proofs.Common.{◌∷◌, refl, ap, arith, subst, ◌∙◌}
 use Rattle.std.proofs.lemmas.Result.{err_from_is_err_and}
 use Rattle.nf_value.specs.View.{plain_of}
 use Rattle.nf_opstream.specs.Promise.{emits_of}

@@ -1,8 +1,7 @@
 use Rattle.std.proofs.Common.{◌≡◌, ◌<◌, length, get_or, drop, ap, sym, ◌∙◌, arith, subst}
 use Rattle.std.specs.Prelude.{ℕ, List}
 use Rattle.nf_machine.specs.Event.{Place}
-use Rattle.nf_wiring.specs.Places.{place_in, port_count}
-use Rattle.nf_wiring.specs.Wiring.{count_of, readers_of}
+use Rattle.nf_wiring.specs.Wiring.{readers_of}
 use Rattle.nf_wiring.specs.declared.wiring.Wiring.{Wiring}
 use Rattle.nf_nodes.proofs.Noting.{rest_same, rest_again}
 use Rattle.nf_nodes.proofs.Telling.{all_but_those, owners, number_below, nodes_untold, node_told, nodes_told}

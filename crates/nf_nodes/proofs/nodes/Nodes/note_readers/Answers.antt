@@ -1,4 +1,4 @@
-use Rattle.std.proofs.Common.{◌≡◌, ◌<◌, length, get_or, drop, ap, sym, ◌∙◌, arith}
+use Rattle.std.proofs.Common.{◌≡◌, ◌<◌, length, get_or, drop, ap, ◌∙◌, arith}
 use Rattle.std.specs.Prelude.{ℕ, List}
 use Rattle.nf_wiring.specs.Wiring.{readers_of}
 use Rattle.nf_wiring.specs.declared.wiring.Wiring.{Wiring}
