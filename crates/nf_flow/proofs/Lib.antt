@@ -1,0 +1,10 @@
+pub mod Over
+pub mod Tickets
+pub mod Growth
+pub mod Standing
+pub mod Asking
+pub mod Moving
+pub mod Ending
+pub mod Flowing
+pub mod Calling
+pub mod Running

@@ -1,0 +1,6 @@
+pub mod Seen
+pub mod Questions
+pub mod Stopped
+pub mod Log
+pub mod Parts
+pub mod Flow
