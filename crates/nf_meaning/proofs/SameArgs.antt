@@ -23,8 +23,9 @@ use Rattle.nf_meaning.specs.Walk.{Walk, State, ◌>>=◌, gives, refused, unless
 use Rattle.nf_meaning.specs.Sizes.{counted, grown, is_within_limits}
 use Rattle.nf_meaning.specs.Expressions.{value_of, only_read, value_wanted, one_channel, channel_wanted, not_tied_to_file, closure_fault, file_fault}
 use Rattle.nf_meaning.specs.Arguments.{Arg, unnamed, is_unnamed, is_closure, unless_closure, value_arg, channel_arg, unnamed_channel, channel_args, option_value, flag_in, flag_arg}
-use Rattle.nf_meaning.specs.Paths.{is_source_path, name_at, pairs_of}
-use Rattle.nf_meaning.specs.Sources.{Source, of, from_list, of_value, of_nothing, from_path, from_pairs, source_named, takes, list_wanted, is_range, items_by, item_arg, item_args, only_value, only_values, list_items, PathArgs, path_wanted, path_arg, path_args, no_path, the_files, files_of, is_pair_path, source, source_within, source_by, source_call, first_file, file_call}
+use Rattle.nf_paths.specs.Paths.{is_source_path}
+use Rattle.nf_paths.specs.Pairs.{is_pair_path, pairs_of}
+use Rattle.nf_meaning.specs.Sources.{Source, of, from_list, of_value, of_nothing, from_path, from_pairs, source_named, takes, list_wanted, is_range, items_by, item_arg, item_args, only_value, only_values, list_items, PathArgs, path_wanted, path_arg, path_args, no_path, the_files, files_of, source, source_within, source_by, source_call, first_file, file_name, file_call}
 use Rattle.nf_meaning.proofs.Widened.{Alike, holds_alike, is_list, is_text, lists_alike, texts_alike, same_text}
 use Rattle.nf_meaning.proofs.Growth.{same_calls}
 use Rattle.nf_meaning.proofs.Twins.{Channels, AllChannels, Outputs, Things, States, Ends, Twin, Same, on, on_same, given, given_same, refusal, settled, judged, judging, wanting_files}
@@ -342,7 +343,7 @@ sources_by p None xs ys h = refusal (UnknownName p)
 pub source_calls : (p : Place) (n : List ℕ) (xs ys : List Arg) → AllArgs xs ys → Twin Things (source_call p n xs) (source_call p n ys)
 source_calls p n xs ys h = sources_by p (source_named n) xs ys h
 
-first_widened : (path : List ℕ) (fs : List FileRef) → widened (first_file path fs) ≡ widened (file (name_at path) [] 0)
+first_widened : (path : List ℕ) (fs : List FileRef) → widened (first_file path fs) ≡ widened (file (file_name path) [] 0)
 first_widened path [] = refl
 first_widened path (f ∷ fs) = refl
 

@@ -9,7 +9,6 @@ pub mod Functions
 pub mod Walk
 pub mod Sizes
 pub mod Expressions
-pub mod Paths
 pub mod Sources
 pub mod Totals
 pub mod Options

@@ -1,6 +1,6 @@
 -- Sources: where channels and files come from.
-use Rattle.std.specs.Prelude.{ℕ, ◌==◌, ◌&&◌, nat_le, Bool, true, false, List, [], ◌∷◌, ◌++◌, map, codes, bytes_eq, is_some, if◌then◌else◌, Option, Some, None}
-use Rattle.std.specs.Str.{chars}
+use Rattle.std.specs.Prelude.{ℕ, ◌==◌, nat_le, Bool, true, false, List, [], ◌∷◌, ◌++◌, map, codes, bytes_eq, if◌then◌else◌, Option, Some, None}
+use Rattle.std.specs.Str.{chars, encode_utf8_all}
 use Rattle.nf_value.specs.Plain.{Plain, null, truth, int, text, file, list, table}
 use Rattle.nf_value.specs.declared.place.Place.{Place}
 use Rattle.nf_value.specs.declared.file.FileRef.{FileRef}
@@ -11,6 +11,8 @@ use Rattle.nf_ast.specs.Tree as tree
 use Rattle.nf_ast.specs.Tree.{Tree}
 use Rattle.nf_job.specs.JobText.{file_plain}
 use Rattle.nf_pattern.specs.Literal.{is_literal_path}
+use Rattle.nf_paths.specs.Paths.{is_source_path, name_at}
+use Rattle.nf_paths.specs.Pairs.{is_pair_path, pairs_of}
 use Rattle.nf_meaning.specs.declared.fault.LowerFault.TheVariants.{UnknownName, BadOption, WrongArity}
 use Rattle.nf_meaning.specs.Places.{begins_at}
 use Rattle.nf_meaning.specs.Things.{Thing, a_value, a_channel, Channel, queue}
@@ -18,7 +20,6 @@ use Rattle.nf_meaning.specs.Given.{files_at}
 use Rattle.nf_meaning.specs.Walk.{Walk, ◌>>=◌, gives, refused, wants}
 use Rattle.nf_meaning.specs.Sizes.{counted}
 use Rattle.nf_meaning.specs.Expressions.{value_of}
-use Rattle.nf_meaning.specs.Paths.{is_source_path, components, last_component, name_at, pair_pattern, pairs_of}
 use Rattle.nf_meaning.specs.Arguments.{Arg, unnamed, value_arg, flag_arg}
 
 pub data Source : Type 0 where
@@ -141,10 +142,6 @@ the_files path a s = gives (files_at path a.given.found) a s
 abbrev pub files_of : Bool → PathArgs → Walk (List FileRef)
 files_of pairs x = wants (record { path = x.path; must = x.must; pairs = pairs }) >>= λ _. the_files x.path
 
--- the last component is that of a pair of files, and the folders are literal
-abbrev pub is_pair_path : List ℕ → Bool
-is_pair_path path = is_source_path path && is_some (pair_pattern (last_component (components path)))
-
 -- ---- what a source gives
 
 abbrev pub source : Source → List Arg → Walk Channel
@@ -170,11 +167,14 @@ source_by p None xs = refused (UnknownName p)
 abbrev pub source_call : Place → List ℕ → List Arg → Walk Thing
 source_call p n xs = source_by p (source_named n) xs
 
+abbrev pub file_name : List ℕ → List ℕ
+file_name path = encode_utf8_all (name_at (chars path))
+
 -- The file at a literal path, which is the first that was found there. A path that wasn't looked for stands for a file
 -- without a digest
 abbrev pub first_file : List ℕ → List FileRef → Plain
-first_file path [] = file (name_at path) [] 0
-first_file path (f ∷ fs) = file (name_at path) f.digest.0 f.len
+first_file path [] = file (file_name path) [] 0
+first_file path (f ∷ fs) = file (file_name path) f.digest.0 f.len
 
 -- `file(..)`, which is no source of a channel
 abbrev pub file_call : Place → List Arg → Walk Thing
