@@ -28,7 +28,7 @@ use Rattle.nf_nodes.specs.declared.nodes.Nodes.{Nodes}
 use Rattle.nf_flow.specs.Questions.{IsTicket}
 use Rattle.nf_flow.specs.Stopped.{IsNamedFault}
 use Rattle.nf_value.specs.declared.mem.Mem.{Mem}
-use Rattle.nf_flow.specs.Parts.{Happens, IsParts, Leads, Takes, Took, taken_ticket}
+use Rattle.nf_flow.specs.Parts.{Happens, IsParts, Leads, Takes, Took, site, taken_ticket}
 use Rattle.nf_flow.specs.declared.parts.Parts.{Parts}
 use Rattle.nf_flow.proofs.Growth.{or_nothing}
 use Rattle.nf_flow.proofs.Over.{one_closes, same_open}
@@ -135,7 +135,7 @@ module _ (nodes : List Node) (s : State) (p : Parts) (h : IsParts nodes s p) whe
 
   module _ (i port place : ℕ) (may : MayTake nodes s i port place) where
     pub took : (d : Nodes) (f : Flights) (t : flight.Ticket) → AreNodes nodes (taken nodes s i port place) d → IsFlights (suc h.next) (with_ticket (taken_ticket nodes s i port place) s.tickets) f → nodes_of f ≡ nodes_of p.flights
-        → IsTicket t (taken_ticket nodes s i port place) → Took nodes s i port place t (record p { nodes = d; flights = f })
+        → IsTicket t (taken_ticket nodes s i port place) → Took nodes s (site i port place) t (record p { nodes = d; flights = f })
     took d f t nodes_are flights count ticket = record {
       parts = record {
         next = suc h.next;
@@ -203,6 +203,6 @@ pub happens_err : (nodes : List Node) (s : State) (x l : PlainEvent) (r : Result
 happens_err nodes s x l (Ok stop) p e h = absurd cc
 happens_err nodes s x l (Err m) p e h = h
 
-pub takes_err : (nodes : List Node) (s : State) (i port place : ℕ) (r : Result flight.Ticket Mem) (p : Parts) → IsErr r → IsParts nodes (step (plain_graph nodes) s halt) p → Takes nodes s i port place r p
+pub takes_err : (nodes : List Node) (s : State) (i port place : ℕ) (r : Result flight.Ticket Mem) (p : Parts) → IsErr r → IsParts nodes (step (plain_graph nodes) s halt) p → Takes nodes s (site i port place) r p
 takes_err nodes s i port place (Ok t) p e h = absurd cc
 takes_err nodes s i port place (Err m) p e h = h

@@ -36,7 +36,7 @@ use Rattle.nf_flow.specs.Questions.{ComesBack, IsFlying, IsTicket, inputs_in, pr
 use Rattle.nf_flow.specs.Stopped.{IsStop, first_stop, is_stopped_by}
 use Rattle.nf_flow.specs.declared.stopped.Stopped.TheVariants as st
 use Rattle.nf_flow.specs.Log.{IsAdded}
-use Rattle.nf_flow.specs.Parts.{IsParts, IsItem, Stands, StandsToEnd, StandsToGive, StandsToTake, Took, losing, taken_ticket}
+use Rattle.nf_flow.specs.Parts.{IsParts, IsItem, Stands, StandsToEnd, StandsToGive, StandsToTake, Took, losing, site, taken_ticket}
 use Rattle.nf_flow.specs.Flow.{IsFlow, kept_places, seen, state_in}
 use Rattle.nf_flow.specs.declared.log.Log.{Log}
 use Rattle.nf_flow.specs.declared.parts.Parts.{Parts}
@@ -176,13 +176,13 @@ module _ (graph : List Node) (p : Parts) (log : Log) (z : Seen) (v : seen graph 
   }
 
 -- the new ticket is one of those in flight
-pub new_flies : (ns : List Node) (s : State) (p q : Parts) (h : IsParts ns s p) (i port place : ℕ) → MayTake ns s i port place → (t : Ticket) (n : ℕ) → n ≡ number_of t → Took ns s i port place t q → flights.IsFlying q.flights n
+pub new_flies : (ns : List Node) (s : State) (p q : Parts) (h : IsParts ns s p) (i port place : ℕ) → MayTake ns s i port place → (t : Ticket) (n : ℕ) → n ≡ number_of t → Took ns s (site i port place) t q → flights.IsFlying q.flights n
 new_flies ns s p q h i port place may t n e k =
     let none = none_next s.next s.tickets p.flights (flying ns s p h may.running).shows in
     subst (flights.IsFlying q.flights) (sym (e ∙ k.ticket.number)) (is_flying ns (taken ns s i port place) q k.parts s.next (taken_ticket ns s i port place) (found_new s.next s.tickets (taken_ticket ns s i port place) none refl))
 
 -- and leaves again
-pub new_left_again : (ns : List Node) (s : State) (p q : Parts) (h : IsParts ns s p) (i port place : ℕ) → MayTake ns s i port place → (t : Ticket) (n : ℕ) → n ≡ number_of t → (k : Took ns s i port place t q) (f : Flights)
+pub new_left_again : (ns : List Node) (s : State) (p q : Parts) (h : IsParts ns s p) (i port place : ℕ) → MayTake ns s i port place → (t : Ticket) (n : ℕ) → n ≡ number_of t → (k : Took ns s (site i port place) t q) (f : Flights)
     → ((next : ℕ) (ts : List machine.Ticket) (x : machine.Ticket) → IsFlights next ts q.flights → ticket_at n ts ≡ Some x → IsFlights next (without n ts) f) → flights.nodes_of f ≡ flights.nodes_of q.flights
     → IsParts ns (step (plain_graph ns) s halt) (record q { flights = f })
 new_left_again ns s p q h i port place may t n e k f after count =
@@ -280,9 +280,9 @@ back_flies graph p log z v h t k r outs (Some back) b new e =
     again_flies graph (state_in graph log) h.parts.next p.flights h.parts.flights t k.ticket (there_in graph p log z v h (number_of t) (number_of t) k.ticket refl k.there) k.is r outs back b new e
 
 module _ (graph : List Node) (p : Parts) (log : Log) (z : Seen) (v : seen graph log ≡ z) (h : IsFlow graph p log) (ns : List Node) (same : ns ≡ graph) (i port place : ℕ) (may : MayTake ns (state_in graph log) i port place)
-    (t : Ticket) (q : Parts) (told : Took ns (state_in graph log) i port place t q) (node : Node) (inputs : List Plain) (n m : ℕ) (kept log' : Log) where
-  took_here : Took graph (state_in graph log) i port place t q
-  took_here = subst (λ gs. Took gs (state_in graph log) i port place t q) same told
+    (t : Ticket) (q : Parts) (told : Took ns (state_in graph log) (site i port place) t q) (node : Node) (inputs : List Plain) (n m : ℕ) (kept log' : Log) where
+  took_here : Took graph (state_in graph log) (site i port place) t q
+  took_here = subst (λ gs. Took gs (state_in graph log) (site i port place) t q) same told
 
   may_here : MayTake graph (state_in graph log) i port place
   may_here = subst (λ gs. MayTake gs (state_in graph log) i port place) same may

@@ -76,14 +76,23 @@ pub record StandsToTake (nodes : List Node) (p : Parts) (i port place : ℕ) : T
   pub bounded : IsBounded (plain_graph nodes) state
   pub may : MayTake nodes state i port place
 
--- node i took, and this is the ticket
-pub record Took (nodes : List Node) (s : State) (i port place : ℕ) (t : flight.Ticket) (p : Parts) : Type 0 where
-  pub parts : IsParts nodes (taken nodes s i port place) p
-  pub ticket : IsTicket t (taken_ticket nodes s i port place)
+-- where a node takes: the item at a place of a port
+pub record Site : Type 0 where
+  pub node : ℕ
+  pub port : ℕ
+  pub place : ℕ
 
--- node i takes or, for want of memory, the run halts
-abbrev pub Takes : List Node → State → ℕ → ℕ → ℕ → Result flight.Ticket Mem → Parts → Type 0
-Takes nodes s i port place r p = MatchResult r (λ t. Took nodes s i port place t p) (λ m. IsParts nodes (step (plain_graph nodes) s halt) p)
+abbrev pub site : ℕ → ℕ → ℕ → Site
+site node port place = record { node = node; port = port; place = place }
+
+-- the node took there, and this is the ticket
+pub record Took (nodes : List Node) (s : State) (there : Site) (t : flight.Ticket) (p : Parts) : Type 0 where
+  pub parts : IsParts nodes (taken nodes s there.node there.port there.place) p
+  pub ticket : IsTicket t (taken_ticket nodes s there.node there.port there.place)
+
+-- the node takes there or, for want of memory, the run halts
+abbrev pub Takes : List Node → State → Site → Result flight.Ticket Mem → Parts → Type 0
+Takes nodes s there r p = MatchResult r (λ t. Took nodes s there t p) (λ m. IsParts nodes (step (plain_graph nodes) s halt) p)
 
 -- ---- Give, Finish and Reuse
 

@@ -34,7 +34,7 @@ pub(crate) struct Parts {
 }
 
 impl Parts {
-    ghost use Rattle.nf_flow.specs.Parts.{Happens, IsParts, Stands, StandsToTake, Takes};
+    ghost use Rattle.nf_flow.specs.Parts.{Happens, IsParts, Stands, StandsToTake, Takes, site};
 
     /// Those of a run before its first event.
     pub(crate) fn begin(alloc: Global, graph: &Graph) -> Result<Parts, Mem>
@@ -81,7 +81,7 @@ impl Parts {
     ) -> Result<Ticket, Mem>
         requires { StandsToTake nodes.now self.old node port place }
         ensures { (s : State) → IsParts nodes.now s self.old → MayTake nodes.now s node port place
-            → Takes nodes.now s node port place result self.new }
+            → Takes nodes.now s (site node port place) result self.new }
     {
         let taken = self.nodes.take(alloc, nodes, node, port, place)?;
         let number = self.flights.add(node)?;
