@@ -1,0 +1,40 @@
+//! `NodeBody` and `NodeInfo`: what a node does, and what it is called.
+
+use nf_eval::Closure;
+use nf_pattern::WholeRe;
+use nf_tasks::ProcessSpec;
+use nf_value::{Place, Txt, Value};
+
+/// What a node does (own).
+#[derive(Drop)]
+pub enum NodeBody {
+    /// A source. Nothing comes to it.
+    Source,
+    /// An operator without a closure: its answer to an item is the item itself.
+    Item,
+    /// `filter` with a value: the answer is whether the item equals it (Nextflow reference documentation, "Operators", "filter").
+    Literal(Value),
+    /// `filter` with a pattern: the answer is whether the item is a text that the pattern matches as a whole.
+    Pattern(WholeRe),
+    /// An operator with a closure: the answer is what the closure gives for the item.
+    Applied(Closure),
+    /// `branch`: the answer is the number of the first label that is true for the item, from 0, or null (Nextflow reference
+    /// documentation, "Operators", "branch"). Each label's expression is a closure of its own.
+    Branch(Vec<Closure>),
+    /// `multiMap`: the answer is the list of what the labels give for the item (Nextflow reference documentation, "Operators",
+    /// "multiMap"). Each label's expression is a closure of its own.
+    MultiMap(Vec<Closure>),
+    /// The call of a process.
+    Process(ProcessSpec),
+}
+
+/// What is known of a node beside its place in the graph (own).
+#[derive(Drop)]
+pub struct NodeInfo {
+    /// The name of the source or operator that is called, or the path of a process's call.
+    pub name: Txt,
+    /// The place of that name in the script.
+    pub place: Place,
+    /// What the node does.
+    pub body: NodeBody,
+}
