@@ -1,0 +1,4 @@
+pub mod Named
+pub mod Blocks
+pub mod Places
+pub mod Bodies

@@ -1,0 +1,4 @@
+pub mod Things
+pub mod Tables
+pub mod Last
+pub mod Standing
