@@ -5,3 +5,5 @@
 mod names;
 #[cfg(test)]
 mod paths;
+#[cfg(test)]
+mod scopes;
