@@ -21,7 +21,8 @@ children_of h = h.children.items
 
 -- a child that ended, as contracts see it
 abbrev pub start_seen : MemStart → Start
-start_seen s = record { folder = string_bytes s.folder; status = s.status; files = named_in s.files.items }
+start_seen s =
+    record { folder = string_bytes s.folder; status = s.status; files = named_in s.files.items; left = named_in s.left.items }
 
 -- the children that ended
 abbrev pub started_of : MemHost → List Start

@@ -7,15 +7,17 @@ use Rattle.nf_host.specs.declared.status.TheConstants.{NO_CODE_STATUS}
 use Rattle.nf_host.specs.Files.{Files}
 use Rattle.nf_host.specs.Folders.{folder_of}
 
--- a child that ended: its folder, its exit status, and the folder's files by their names when it started
+-- a child that ended: its folder, its exit status, and the folder's files by their names, when it started and when it
+-- ended
 pub record Start : Type 0 where
   pub folder : List ℕ
   pub status : ℤ
   pub files : Files
+  pub left : Files
 
--- a child of this folder, over the files when it started
-abbrev pub start_of : Files → List ℕ → ℤ → Start
-start_of f dir z = record { folder = dir; status = z; files = folder_of f dir }
+-- a child of this folder, over the files when it started and when it ended
+abbrev pub start_of : Files → Files → List ℕ → ℤ → Start
+start_of f g dir z = record { folder = dir; status = z; files = folder_of f dir; left = folder_of g dir }
 
 -- the children so far and one more, if they are told
 abbrev pub and_start : Option (List Start) → Start → Option (List Start)

@@ -177,7 +177,8 @@ pub trait Host {
     /// Runs the script `.command.sh` of a folder in that folder, and waits for its end. It reads `.command.in`, and writes
     /// `.command.out` and `.command.err` there. Gives its exit status, 255 if it has none.
     ///
-    /// A host that reveals its files promises that the child changes files of its folder alone.
+    /// A host that reveals its files promises that the child changes files of its folder alone. If it reveals its children
+    /// too, it tells what the folder held when this one started and when it ended.
     ///
     /// # Errors
     ///
@@ -188,7 +189,8 @@ pub trait Host {
         ensures status { IfOk result IsStatus }
         ensures others { Both (files self.old) (files self.new) (KeepsOutside dir.now) }
         ensures told { IsSome (started self.new) ↔ IsSome (started self.old) }
-        ensures start { IfSome (files self.old) (λ f. IfOk result (λ z. started self.new ≡ and_start (started self.old) (start_of f dir.now z))) }
+        ensures start { Both (files self.old) (files self.new) (λ f g. IfOk result (λ z.
+            started self.new ≡ and_start (started self.old) (start_of f g dir.now z))) }
         ensures no_start { OnErr result (started self.new ≡ started self.old) };
 
     /// How often the host has failed, at most 2^64 - 1.

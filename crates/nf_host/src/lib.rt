@@ -20,7 +20,7 @@ pub use copies::{Digested, FILE_LIMIT, copy_file, digest_file, write_file};
 pub use folder::path_in;
 pub use fs_host::FsHost;
 pub use host::{Host, HostRefusal, PIECE_LEN, Piece};
-pub use mem_host::MemHost;
+pub use mem_host::{MemHost, MemStart};
 pub use mem_sink::MemSink;
 pub use shared_host::SharedHost;
 pub use sink::{Sink, SinkFailed};

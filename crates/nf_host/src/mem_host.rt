@@ -1,6 +1,6 @@
 //! `MemHost`: files and children in memory, for tests.
 
-ghost use Rattle.std.specs.Prelude.{◌≡◌, ◌≤◌, ◌+◌, ◌-◌, ◌^◌, ◌++◌, ◌⊎◌, ◌↔◌, ℕ, List, [], ◌∷◌, min, if◌then◌else◌, is_none, IsSome, Some, IfOk, OnOk, OnErr, ◌||◌, IsTrue, option_map, option_copied, take, drop, length};
+ghost use Rattle.std.specs.Prelude.{◌≡◌, ◌≤◌, ◌+◌, ◌-◌, ◌^◌, ◌++◌, ◌⊎◌, ◌↔◌, ℕ, List, [], ◌∷◌, min, if◌then◌else◌, is_none, IsSome, Some, IfOk, OnOk, OnErr, ◌||◌, IsTrue, map, option_map, option_copied, take, drop, length};
 ghost use Rattle.sha2.specs.Sha256.{sha256};
 ghost use Rattle.nf_host.specs.Children.{child_at, child_by, status_by, files_after};
 ghost use Rattle.nf_host.specs.Faults.{Rose, OnFailed};
@@ -38,16 +38,21 @@ struct Calls {
     faults: u64,
 }
 
-// A child that ended: its folder, its status, and the files that lay in the folder when it started, by their names in it.
+/// A child that ended in memory (own).
 #[derive(Drop)]
-struct MemStart {
-    folder: String,
-    status: i32,
-    files: Vec<(Txt, Bytes)>,
+pub struct MemStart {
+    /// Its folder.
+    pub folder: String,
+    /// Its exit status.
+    pub status: i32,
+    /// The files that lay in the folder when it started, by their names in it.
+    pub files: Vec<(Txt, Bytes)>,
+    /// The files that lay there when it ended.
+    pub left: Vec<(Txt, Bytes)>,
 }
 
 impl MemHost {
-    ghost use Rattle.nf_host.specs.MemHost.{files_of, children_of, started_of, failing_of, calls_of, faults_of, is_next_failing, IsCounted};
+    ghost use Rattle.nf_host.specs.MemHost.{files_of, children_of, started_of, start_seen, failing_of, calls_of, faults_of, is_next_failing, IsCounted};
 
     /// A host with no files and no children that never fails. Takes no memory.
     pub fn new(alloc: Global) -> MemHost
@@ -130,6 +135,13 @@ impl MemHost {
         ensures { result ≡ calls_of self.now }
     {
         self.calls.count
+    }
+
+    /// The children that ended, in their order. Takes no memory.
+    pub fn starts(&self) -> &[MemStart]
+        ensures { map start_seen result.now ≡ started_of self.now }
+    {
+        self.started.as_slice()
     }
 
     // Does what the script in a folder does, and gives its exit status.
@@ -312,7 +324,8 @@ impl Host for MemHost {
         ensures cause { OnFailed result (Rose (faults_of self.old) (faults_of self.new)) }
         ensures status { IfOk result IsStatus }
         ensures others { KeepsOutside dir.now (files_of self.old) (files_of self.new) }
-        ensures start { IfOk result (λ z. started_of self.new ≡ started_of self.old ++ start_of (files_of self.old) dir.now z ∷ []) }
+        ensures start { IfOk result (λ z.
+            started_of self.new ≡ started_of self.old ++ start_of (files_of self.old) (files_of self.new) dir.now z ∷ []) }
         ensures no_start { OnErr result (started_of self.new ≡ started_of self.old) }
 
         // It does what its script does.
@@ -327,10 +340,12 @@ impl Host for MemHost {
         let folder = String::from_str(alloc, dir)?;
         let inside = mem_files::folder(alloc, &self.files, dir)?;
         let status = self.end_child(alloc, dir)?;
+        let left = mem_files::folder(alloc, &self.files, dir)?;
         self.started.push(MemStart {
             folder,
             status,
             files: inside,
+            left,
         })?;
         Ok(status)
     }

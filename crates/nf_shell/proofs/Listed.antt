@@ -11,12 +11,13 @@ use Rattle.std.proofs.lemmas.List.Elements.{All-nil, All-cons, All-append, All-p
 use Rattle.std.proofs.lemmas.List.Kept.{IsStrictlySortedBy-filter}
 use Rattle.sha2.specs.Sha256.{sha256}
 use Rattle.nf_value.specs.declared.file.FileRef.{FileRef}
+use Rattle.nf_job.specs.declared.parts.JobParts.{JobParts}
 use Rattle.nf_host.specs.Files.{Files}
-use Rattle.nf_host.specs.Folders.{path_in, is_name, IsListing, IsListed}
+use Rattle.nf_host.specs.Folders.{path_in, folder_of, is_name, IsListing, IsListed}
 use Rattle.nf_host.specs.Told.{Both}
 use Rattle.nf_host.specs.declared.host.HostRefusal.{HostRefusal}
 use Rattle.nf_host.proofs.Paths.{same_name, text_itself, text_same}
-use Rattle.nf_shell.specs.Outputs.{AreStored, IsFileOf, IsFound, begins_with_dot, file_found, files_found, is_fit, is_matched, is_output, is_staged, lists_found, ref_of, scratch_in, stored_of}
+use Rattle.nf_shell.specs.Outputs.{AreFoundIn, AreStored, IsFileOf, IsFound, begins_with_dot, file_found, files_found, is_fit, is_matched, is_output, is_among, lists_found, ref_of, scratch_in, stored_of}
 use Rattle.nf_shell.specs.Over.{OkOver}
 use Rattle.nf_shell.specs.Places.{IsApart, IsInPlace, KeepsOrStores, StaysOrStored, is_short, is_stored, stored_at}
 use Rattle.nf_shell.specs.declared.store.Stored.{Stored}
@@ -27,6 +28,10 @@ use Rattle.nf_shell.proofs.Stores.{grows_beside}
 pub not_scratch : (name : List ℕ) → begins_with_dot name ≡ false → bytes_eq name (codes ".command.new") ≡ false
 not_scratch [] h = refl
 not_scratch (c ∷ name) h = rw h refl
+
+pub not_status : (name : List ℕ) → begins_with_dot name ≡ false → bytes_eq name (codes ".exitcode") ≡ false
+not_status [] h = refl
+not_status (c ∷ name) h = rw h refl
 
 pub inside_stays : (work dir name : List ℕ) (f g : Files) → IsApart work dir → KeepsOrStores work (scratch_in dir) f g → bytes_eq name (codes ".command.new") ≡ false → g (path_in dir name) ≡ f (path_in dir name)
 inside_stays work dir name f g apart k other = at (k (path_in dir name) (same_name dir name (codes ".command.new") ∙ other))
@@ -42,12 +47,19 @@ inside_stays work dir name f g apart k other = at (k (path_in dir name) (same_na
 pub shown_stays : (work dir name : List ℕ) (f g : Files) → IsApart work dir → KeepsOrStores work (scratch_in dir) f g → begins_with_dot name ≡ false → g (path_in dir name) ≡ f (path_in dir name)
 shown_stays work dir name f g apart k shown = inside_stays work dir name f g apart k (not_scratch name shown)
 
+-- two folders' files are the same, but for names with a dot in front
+abbrev pub Shows : Files → Files → Type 0
+Shows left right = (name : List ℕ) → begins_with_dot name ≡ false → right name ≡ left name
+
+pub folder_shows : (work dir : List ℕ) (f g : Files) → IsApart work dir → KeepsOrStores work (scratch_in dir) f g → Shows (folder_of f dir) (folder_of g dir)
+folder_shows work dir f g apart k name s = shown_stays work dir name f g apart k s
+
 -- so the same files are outputs
-file_stays : (work dir pattern : List ℕ) (staged : List FileRef) (name : List ℕ) (f g : Files) → IsApart work dir → KeepsOrStores work (scratch_in dir) f g → file_found g dir pattern staged name ≡ file_found f dir pattern staged name
-file_stays work dir pattern staged name f g apart k =
-    elim (begins_with_dot name) as (λ b. begins_with_dot name ≡ b → (if not b && is_matched pattern staged name then ref_of name (stored_of (g (path_in dir name))) else None) ≡ (if not b && is_matched pattern staged name then ref_of name (stored_of (f (path_in dir name))) else None)) [
+file_stays : (pattern : List ℕ) (staged : List FileRef) (name : List ℕ) (left right : Files) → Shows left right → file_found right pattern staged name ≡ file_found left pattern staged name
+file_stays pattern staged name left right k =
+    elim (begins_with_dot name) as (λ b. begins_with_dot name ≡ b → (if not b && is_matched pattern staged name then ref_of name (stored_of (right name)) else None) ≡ (if not b && is_matched pattern staged name then ref_of name (stored_of (left name)) else None)) [
       | true ↦ λ t. refl
-      | false ↦ λ s. ap (λ o. if is_matched pattern staged name then ref_of name (stored_of o) else None) (shown_stays work dir name f g apart k s)
+      | false ↦ λ s. ap (λ o. if is_matched pattern staged name then ref_of name (stored_of o) else None) (k name s)
     ] refl
 
 -- ---- one name after another
@@ -67,21 +79,21 @@ pushed h names i e xs ys o l is so found made =
     made ∙ ap (λ v. v ++ option_to_list o) so ∙ ap (λ v. filter_map h (take i names) ++ option_to_list v) found
     ∙ ap (λ v. filter_map h (take i names) ++ v) (sym (as_list h e)) ∙ sym (filter_map-append h (take i names) (e ∷ [])) ∙ ap (filter_map h) (sym (take_more names i e l is))
 
-pub content_first : (told : Option Files) (dir pattern : List ℕ) (staged : List FileRef) (names : List (List ℕ)) (xs : List FileRef) → xs ≡ [] → IfSome told (λ f. xs ≡ files_found f dir pattern staged (take 0 names))
+pub content_first : (told : Option Files) (dir pattern : List ℕ) (staged : List FileRef) (names : List (List ℕ)) (xs : List FileRef) → xs ≡ [] → IfSome told (λ f. xs ≡ files_found (folder_of f dir) pattern staged (take 0 names))
 content_first None dir pattern staged names xs e = tt
 content_first (Some f) dir pattern staged names xs e = e
 
 pub content_more : (told now : Option Files) (work dir pattern : List ℕ) (staged : List FileRef) (names : List (List ℕ)) (i : ℕ) (e : List ℕ) (xs ys : List FileRef) (o : Option FileRef) → IsApart work dir → i < length names → e ≡ get_or names i e
-    → Both told now (KeepsOrStores work (scratch_in dir)) → IfSome told (λ f. xs ≡ filter_map (file_found f dir pattern staged) (take i names)) → IfSome now (λ g. o ≡ file_found g dir pattern staged e) → ys ≡ xs ++ option_to_list o
-    → IfSome told (λ f. ys ≡ filter_map (file_found f dir pattern staged) (take (i + 1) names))
+    → Both told now (KeepsOrStores work (scratch_in dir)) → IfSome told (λ f. xs ≡ filter_map (file_found (folder_of f dir) pattern staged) (take i names)) → IfSome now (λ g. o ≡ file_found (folder_of g dir) pattern staged e) → ys ≡ xs ++ option_to_list o
+    → IfSome told (λ f. ys ≡ filter_map (file_found (folder_of f dir) pattern staged) (take (i + 1) names))
 content_more None now work dir pattern staged names i e xs ys o apart l is k so found made = tt
 content_more (Some f) None work dir pattern staged names i e xs ys o apart l is k so found made = absurd k
 content_more (Some f) (Some g) work dir pattern staged names i e xs ys o apart l is k so found made =
-    pushed (file_found f dir pattern staged) names i e xs ys o l is so (found ∙ file_stays work dir pattern staged e f g apart k) made
+    pushed (file_found (folder_of f dir) pattern staged) names i e xs ys o l is so (found ∙ file_stays pattern staged e (folder_of f dir) (folder_of g dir) (folder_shows work dir f g apart k)) made
 
-pub content_all : (told : Option Files) (dir pattern : List ℕ) (staged : List FileRef) (names : List (List ℕ)) (i : ℕ) (xs : List FileRef) → length names ≤ i → IfSome told (λ f. xs ≡ filter_map (file_found f dir pattern staged) (take i names)) → IfSome told (λ f. xs ≡ filter_map (file_found f dir pattern staged) names)
+pub content_all : (told : Option Files) (dir pattern : List ℕ) (staged : List FileRef) (names : List (List ℕ)) (i : ℕ) (xs : List FileRef) → length names ≤ i → IfSome told (λ f. xs ≡ filter_map (file_found (folder_of f dir) pattern staged) (take i names)) → IfSome told (λ f. xs ≡ filter_map (file_found (folder_of f dir) pattern staged) names)
 content_all None dir pattern staged names i xs l so = tt
-content_all (Some f) dir pattern staged names i xs l so = so ∙ ap (filter_map (file_found f dir pattern staged)) (take_all i names l)
+content_all (Some f) dir pattern staged names i xs l so = so ∙ ap (filter_map (file_found (folder_of f dir) pattern staged)) (take_all i names l)
 
 -- ---- what is stored stays stored
 
@@ -108,28 +120,28 @@ map_push : {A B : Type 0} (h : A → B) (xs : List A) (x : A) → map h (xs ++ x
 map_push h [] x = refl
 map_push h (y ∷ xs) x = ap (λ v. h y ∷ v) (map_push h xs x)
 
-all_stay : (work dir pattern : List ℕ) (staged : List FileRef) (names : List (List ℕ)) (f g : Files) → IsApart work dir → KeepsOrStores work (scratch_in dir) f g → filter_map (file_found g dir pattern staged) names ≡ filter_map (file_found f dir pattern staged) names
-all_stay work dir pattern staged [] f g apart k = refl
-all_stay work dir pattern staged (n ∷ names) f g apart k =
-    ap (λ o. cons_option o (filter_map (file_found g dir pattern staged) names)) (file_stays work dir pattern staged n f g apart k)
-    ∙ ap (cons_option (file_found f dir pattern staged n)) (all_stay work dir pattern staged names f g apart k)
+all_stay : (pattern : List ℕ) (staged : List FileRef) (names : List (List ℕ)) (left right : Files) → Shows left right → filter_map (file_found right pattern staged) names ≡ filter_map (file_found left pattern staged) names
+all_stay pattern staged [] left right k = refl
+all_stay pattern staged (n ∷ names) left right k =
+    ap (λ o. cons_option o (filter_map (file_found right pattern staged) names)) (file_stays pattern staged n left right k)
+    ∙ ap (cons_option (file_found left pattern staged n)) (all_stay pattern staged names left right k)
 
-pub lists_first : (told : Option Files) (dir : List ℕ) (staged : List FileRef) (names patterns : List (List ℕ)) (xs : List (List FileRef)) → xs ≡ [] → IfSome told (λ f. xs ≡ lists_found f dir staged names (take 0 patterns))
+pub lists_first : (told : Option Files) (dir : List ℕ) (staged : List FileRef) (names patterns : List (List ℕ)) (xs : List (List FileRef)) → xs ≡ [] → IfSome told (λ f. xs ≡ lists_found (folder_of f dir) staged names (take 0 patterns))
 lists_first None dir staged names patterns xs e = tt
 lists_first (Some f) dir staged names patterns xs e = e
 
 pub lists_more : (told now : Option Files) (work dir : List ℕ) (staged : List FileRef) (names patterns : List (List ℕ)) (i : ℕ) (e : List ℕ) (xs ys : List (List FileRef)) (x : List FileRef) → IsApart work dir → i < length patterns → e ≡ get_or patterns i e
-    → Both told now (KeepsOrStores work (scratch_in dir)) → IfSome told (λ f. xs ≡ lists_found f dir staged names (take i patterns)) → IfSome now (λ g. x ≡ filter_map (file_found g dir e staged) names) → ys ≡ xs ++ x ∷ []
-    → IfSome told (λ f. ys ≡ lists_found f dir staged names (take (i + 1) patterns))
+    → Both told now (KeepsOrStores work (scratch_in dir)) → IfSome told (λ f. xs ≡ lists_found (folder_of f dir) staged names (take i patterns)) → IfSome now (λ g. x ≡ filter_map (file_found (folder_of g dir) e staged) names) → ys ≡ xs ++ x ∷ []
+    → IfSome told (λ f. ys ≡ lists_found (folder_of f dir) staged names (take (i + 1) patterns))
 lists_more None now work dir staged names patterns i e xs ys x apart l is k so found made = tt
 lists_more (Some f) None work dir staged names patterns i e xs ys x apart l is k so found made = absurd k
 lists_more (Some f) (Some g) work dir staged names patterns i e xs ys x apart l is k so found made =
-    made ∙ ap (λ v. v ++ x ∷ []) so ∙ ap (λ v. lists_found f dir staged names (take i patterns) ++ v ∷ []) (found ∙ all_stay work dir e staged names f g apart k)
-    ∙ sym (map_push (λ pattern. filter_map (file_found f dir pattern staged) names) (take i patterns) e) ∙ ap (lists_found f dir staged names) (sym (take_more patterns i e l is))
+    made ∙ ap (λ v. v ++ x ∷ []) so ∙ ap (λ v. lists_found (folder_of f dir) staged names (take i patterns) ++ v ∷ []) (found ∙ all_stay e staged names (folder_of f dir) (folder_of g dir) (folder_shows work dir f g apart k))
+    ∙ sym (map_push (λ pattern. filter_map (file_found (folder_of f dir) pattern staged) names) (take i patterns) e) ∙ ap (lists_found (folder_of f dir) staged names) (sym (take_more patterns i e l is))
 
-pub lists_all : (told : Option Files) (dir : List ℕ) (staged : List FileRef) (names patterns : List (List ℕ)) (i : ℕ) (xs : List (List FileRef)) → length patterns ≤ i → IfSome told (λ f. xs ≡ lists_found f dir staged names (take i patterns)) → IfSome told (λ f. xs ≡ lists_found f dir staged names patterns)
+pub lists_all : (told : Option Files) (dir : List ℕ) (staged : List FileRef) (names patterns : List (List ℕ)) (i : ℕ) (xs : List (List FileRef)) → length patterns ≤ i → IfSome told (λ f. xs ≡ lists_found (folder_of f dir) staged names (take i patterns)) → IfSome told (λ f. xs ≡ lists_found (folder_of f dir) staged names patterns)
 lists_all None dir staged names patterns i xs l so = tt
-lists_all (Some f) dir staged names patterns i xs l so = so ∙ ap (lists_found f dir staged names) (take_all i patterns l)
+lists_all (Some f) dir staged names patterns i xs l so = so ∙ ap (lists_found (folder_of f dir) staged names) (take_all i patterns l)
 
 pub all_stored_first : (now : Option Files) (work : List ℕ) (xs : List (List FileRef)) → xs ≡ [] → IfSome now (λ g. All (AreStored work g) xs)
 all_stored_first None work xs e = tt
@@ -145,13 +157,13 @@ all_stored_more (Some f) (Some g) work dir xs ys x apart k h one made =
 -- ---- exactly the outputs
 
 -- whether a name is that of an output that may be stored
-is_kept : Files → List ℕ → List ℕ → List FileRef → List ℕ → Bool
-is_kept f dir pattern staged name = is_output pattern staged name && is_fit (f (path_in dir name))
+is_kept : Files → List ℕ → List FileRef → List ℕ → Bool
+is_kept left pattern staged name = is_output pattern staged name && is_fit (left name)
 
 -- a file that is found has its name
-found_named : (f : Files) (dir pattern : List ℕ) (staged : List FileRef) (name : List ℕ) → option_map (λ r. r.name) (file_found f dir pattern staged name) ≡ (if is_kept f dir pattern staged name then Some name else None)
+found_named : (left : Files) (pattern : List ℕ) (staged : List FileRef) (name : List ℕ) → option_map (λ r. r.name) (file_found left pattern staged name) ≡ (if is_kept left pattern staged name then Some name else None)
 unfolding is_kept
-found_named f dir pattern staged name = at (is_output pattern staged name) (f (path_in dir name))
+found_named left pattern staged name = at (is_output pattern staged name) (left name)
   where
     short_or : (b : Bool) (d : Stored) → option_map (λ r. r.name) (ref_of name (if b then Some d else None)) ≡ (if b then Some name else None)
     short_or true d = refl
@@ -162,17 +174,17 @@ found_named f dir pattern staged name = at (is_output pattern staged name) (f (p
     at true (Some c) = short_or (is_short c) (record { digest = record { 0 = sha256 c }; len = length c })
     at false o = refl
 
-kept_names : (f : Files) (dir pattern : List ℕ) (staged : List FileRef) (names : List (List ℕ)) → map (λ r. r.name) (filter_map (file_found f dir pattern staged) names) ≡ filter (is_kept f dir pattern staged) names
-kept_names f dir pattern staged [] = refl
-kept_names f dir pattern staged (n ∷ names) = at (file_found f dir pattern staged n) (is_kept f dir pattern staged n) (found_named f dir pattern staged n) (kept_names f dir pattern staged names)
+kept_names : (left : Files) (pattern : List ℕ) (staged : List FileRef) (names : List (List ℕ)) → map (λ r. r.name) (filter_map (file_found left pattern staged) names) ≡ filter (is_kept left pattern staged) names
+kept_names left pattern staged [] = refl
+kept_names left pattern staged (n ∷ names) = at (file_found left pattern staged n) (is_kept left pattern staged n) (found_named left pattern staged n) (kept_names left pattern staged names)
   where
-    at : (o : Option FileRef) (b : Bool) → option_map (λ r. r.name) o ≡ (if b then Some n else None) → map (λ r. r.name) (filter_map (file_found f dir pattern staged) names) ≡ filter (is_kept f dir pattern staged) names → map (λ r. r.name) (cons_option o (filter_map (file_found f dir pattern staged) names)) ≡ cond b (n ∷ filter (is_kept f dir pattern staged) names) (filter (is_kept f dir pattern staged) names)
+    at : (o : Option FileRef) (b : Bool) → option_map (λ r. r.name) o ≡ (if b then Some n else None) → map (λ r. r.name) (filter_map (file_found left pattern staged) names) ≡ filter (is_kept left pattern staged) names → map (λ r. r.name) (cons_option o (filter_map (file_found left pattern staged) names)) ≡ cond b (n ∷ filter (is_kept left pattern staged) names) (filter (is_kept left pattern staged) names)
     at None true e later = absurd (cc)
     at None false e later = later
-    at (Some r) true e later = let name : r.name ≡ n = cc in ap (λ v. v ∷ map (λ r. r.name) (filter_map (file_found f dir pattern staged) names)) name ∙ ap (λ v. n ∷ v) later
+    at (Some r) true e later = let name : r.name ≡ n = cc in ap (λ v. v ∷ map (λ r. r.name) (filter_map (file_found left pattern staged) names)) name ∙ ap (λ v. n ∷ v) later
     at (Some r) false e later = absurd (cc)
 
-any_name : (files : List FileRef) (name : List ℕ) → is_staged files name ≡ list_any (λ n. bytes_eq n name) (map (λ r. r.name) files)
+any_name : (files : List FileRef) (name : List ℕ) → is_among files name ≡ list_any (λ n. bytes_eq n name) (map (λ r. r.name) files)
 any_name [] name = refl
 any_name (r ∷ files) name = ap (λ b. bytes_eq r.name name || b) (any_name files name)
 
@@ -216,25 +228,25 @@ any_kept t (n ∷ names) name =
     past false e later = later
 
 -- a listing, but for names with a dot in front
-pub record IsShown (f : Files) (dir : List ℕ) (names : List (List ℕ)) : Type 0 where
+pub record IsShown (left : Files) (names : List (List ℕ)) : Type 0 where
   pub rising : IsStrictlySortedBy (slice_cmp nat_cmp) names
-  pub exact : (name : List ℕ) → begins_with_dot name ≡ false → list_any (bytes_eq name) names ≡ (is_name name && is_some (f (path_in dir name)))
+  pub exact : (name : List ℕ) → begins_with_dot name ≡ false → list_any (bytes_eq name) names ≡ (is_name name && is_some (left name))
 
-pub shown : (work dir : List ℕ) (names : List (List ℕ)) (f g : Files) → IsApart work dir → KeepsOrStores work (scratch_in dir) f g → IsListing f dir names → IsShown g dir names
-shown work dir names f g apart k z = record {
+shown : (f : Files) (dir : List ℕ) (names : List (List ℕ)) (left : Files) → Shows (folder_of f dir) left → IsListing f dir names → IsShown left names
+shown f dir names left k z = record {
   rising = z.rising;
-  exact = λ name s. z.exact name ∙ ap (λ o. is_name name && is_some o) (sym (shown_stays work dir name f g apart k s));
+  exact = λ name s. z.exact name ∙ ap (λ o. is_name name && is_some o) (sym (k name s));
 }
 
-exactly : (g : Files) (dir pattern : List ℕ) (staged : List FileRef) (names : List (List ℕ)) (name : List ℕ) → IsShown g dir names → (list_any (bytes_eq name) names && is_kept g dir pattern staged name) ≡ (is_name name && is_output pattern staged name && is_fit (g (path_in dir name)))
+exactly : (left : Files) (pattern : List ℕ) (staged : List FileRef) (names : List (List ℕ)) (name : List ℕ) → IsShown left names → (list_any (bytes_eq name) names && is_kept left pattern staged name) ≡ (is_name name && is_output pattern staged name && is_fit (left name))
 unfolding is_kept
-exactly g dir pattern staged names name z =
-    elim (begins_with_dot name) as (λ b. begins_with_dot name ≡ b → (list_any (bytes_eq name) names && ((not b && is_matched pattern staged name) && is_fit (g (path_in dir name)))) ≡ ((is_name name && (not b && is_matched pattern staged name)) && is_fit (g (path_in dir name)))) [
+exactly left pattern staged names name z =
+    elim (begins_with_dot name) as (λ b. begins_with_dot name ≡ b → (list_any (bytes_eq name) names && ((not b && is_matched pattern staged name) && is_fit (left name))) ≡ ((is_name name && (not b && is_matched pattern staged name)) && is_fit (left name))) [
       | true ↦ λ t. hidden (list_any (bytes_eq name) names) (is_name name)
-      | false ↦ λ s. ap (λ b. b && (is_matched pattern staged name && is_fit (g (path_in dir name)))) (z.exact name s) ∙ grouped (is_name name) (is_matched pattern staged name) (g (path_in dir name))
+      | false ↦ λ s. ap (λ b. b && (is_matched pattern staged name && is_fit (left name))) (z.exact name s) ∙ grouped (is_name name) (is_matched pattern staged name) (left name)
     ] refl
   where
-    hidden : (a b : Bool) → (a && false) ≡ ((b && false) && is_fit (g (path_in dir name)))
+    hidden : (a b : Bool) → (a && false) ≡ ((b && false) && is_fit (left name))
     hidden true true = refl
     hidden true false = refl
     hidden false true = refl
@@ -258,57 +270,56 @@ exactly g dir pattern staged names name z =
     grouped a b (Some c) = some a b (is_short c)
 
 -- a file that is found has its bytes
-file_bytes : (g : Files) (dir pattern : List ℕ) (staged : List FileRef) (name : List ℕ) (r : FileRef) → file_found g dir pattern staged name ≡ Some r → IsFileOf (g (path_in dir r.name)) r
-file_bytes g dir pattern staged name r e = at (is_output pattern staged name) (g (path_in dir name)) refl e
+file_bytes : (left : Files) (pattern : List ℕ) (staged : List FileRef) (name : List ℕ) (r : FileRef) → file_found left pattern staged name ≡ Some r → IsFileOf (left r.name) r
+file_bytes left pattern staged name r e = at (is_output pattern staged name) (left name) refl e
   where
-    of_short : (c : List ℕ) (b : Bool) → g (path_in dir name) ≡ Some c → ref_of name (if b then Some (record { digest = record { 0 = sha256 c }; len = length c }) else None) ≡ Some r → IsFileOf (g (path_in dir r.name)) r
+    of_short : (c : List ℕ) (b : Bool) → left name ≡ Some c → ref_of name (if b then Some (record { digest = record { 0 = sha256 c }; len = length c }) else None) ≡ Some r → IsFileOf (left r.name) r
     of_short c true is h =
         let same : record { name = name; digest = record { 0 = sha256 c }; len = length c } ≡ r = cc in
-        subst (λ (v : FileRef). IsFileOf (g (path_in dir v.name)) v) same (subst (λ (o : Option (List ℕ)). IsFileOf o (record { name = name; digest = record { 0 = sha256 c }; len = length c })) (sym is) (refl, refl))
+        subst (λ (v : FileRef). IsFileOf (left v.name) v) same (subst (λ (o : Option (List ℕ)). IsFileOf o (record { name = name; digest = record { 0 = sha256 c }; len = length c })) (sym is) (refl, refl))
     of_short c false is h = absurd (cc)
 
-    at : (b : Bool) (o : Option (List ℕ)) → g (path_in dir name) ≡ o → (if b then ref_of name (stored_of o) else None) ≡ Some r → IsFileOf (g (path_in dir r.name)) r
+    at : (b : Bool) (o : Option (List ℕ)) → left name ≡ o → (if b then ref_of name (stored_of o) else None) ≡ Some r → IsFileOf (left r.name) r
     at true None is h = absurd (cc)
     at true (Some c) is h = of_short c (is_short c) is h
     at false o is h = absurd (cc)
 
-all_bytes : (g : Files) (dir pattern : List ℕ) (staged : List FileRef) (names : List (List ℕ)) → All (λ r. IsFileOf (g (path_in dir r.name)) r) (filter_map (file_found g dir pattern staged) names)
-all_bytes g dir pattern staged [] = All-nil (λ r. IsFileOf (g (path_in dir r.name)) r)
-all_bytes g dir pattern staged (n ∷ names) = at (file_found g dir pattern staged n) refl (all_bytes g dir pattern staged names)
+all_bytes : (left : Files) (pattern : List ℕ) (staged : List FileRef) (names : List (List ℕ)) → All (λ r. IsFileOf (left r.name) r) (filter_map (file_found left pattern staged) names)
+all_bytes left pattern staged [] = All-nil (λ r. IsFileOf (left r.name) r)
+all_bytes left pattern staged (n ∷ names) = at (file_found left pattern staged n) refl (all_bytes left pattern staged names)
   where
-    at : (o : Option FileRef) → file_found g dir pattern staged n ≡ o → All (λ r. IsFileOf (g (path_in dir r.name)) r) (filter_map (file_found g dir pattern staged) names) → All (λ r. IsFileOf (g (path_in dir r.name)) r) (cons_option o (filter_map (file_found g dir pattern staged) names))
+    at : (o : Option FileRef) → file_found left pattern staged n ≡ o → All (λ r. IsFileOf (left r.name) r) (filter_map (file_found left pattern staged) names) → All (λ r. IsFileOf (left r.name) r) (cons_option o (filter_map (file_found left pattern staged) names))
     at None e later = later
-    at (Some r) e later = All-cons (λ r. IsFileOf (g (path_in dir r.name)) r) r (filter_map (file_found g dir pattern staged) names) (file_bytes g dir pattern staged n r e) later
+    at (Some r) e later = All-cons (λ r. IsFileOf (left r.name) r) r (filter_map (file_found left pattern staged) names) (file_bytes left pattern staged n r e) later
 
-is_found : (g : Files) (dir pattern : List ℕ) (staged : List FileRef) (names : List (List ℕ)) → IsShown g dir names → IsFound g dir pattern staged (filter_map (file_found g dir pattern staged) names)
-is_found g dir pattern staged names z = record {
-  rising = subst (IsStrictlySortedBy (slice_cmp nat_cmp)) (sym (kept_names g dir pattern staged names)) (IsStrictlySortedBy-filter (slice_cmp nat_cmp) (is_kept g dir pattern staged) names z.rising);
+is_found : (left : Files) (pattern : List ℕ) (staged : List FileRef) (names : List (List ℕ)) → IsShown left names → IsFound left pattern staged (filter_map (file_found left pattern staged) names)
+is_found left pattern staged names z = record {
+  rising = subst (IsStrictlySortedBy (slice_cmp nat_cmp)) (sym (kept_names left pattern staged names)) (IsStrictlySortedBy-filter (slice_cmp nat_cmp) (is_kept left pattern staged) names z.rising);
   exact = λ name.
-      any_name (filter_map (file_found g dir pattern staged) names) name
-      ∙ ap (list_any (λ n. bytes_eq n name)) (kept_names g dir pattern staged names)
-      ∙ any_kept (is_kept g dir pattern staged) names name
-      ∙ exactly g dir pattern staged names name z;
-  bytes = all_bytes g dir pattern staged names;
+      any_name (filter_map (file_found left pattern staged) names) name
+      ∙ ap (list_any (λ n. bytes_eq n name)) (kept_names left pattern staged names)
+      ∙ any_kept (is_kept left pattern staged) names name
+      ∙ exactly left pattern staged names name z;
+  bytes = all_bytes left pattern staged names;
 }
 
-each_found : (work dir : List ℕ) (staged : List FileRef) (names patterns : List (List ℕ)) (f g : Files) → IsApart work dir → KeepsOrStores work (scratch_in dir) f g → IsShown g dir names → AllZip (λ pattern files. IsFound g dir pattern staged files) patterns (lists_found f dir staged names patterns)
-each_found work dir staged names [] f g apart k z = tt
-each_found work dir staged names (p ∷ patterns) f g apart k z = (
-  subst (IsFound g dir p staged) (all_stay work dir p staged names f g apart k) (is_found g dir p staged names z),
-  each_found work dir staged names patterns f g apart k z,
+each_found : (staged : List FileRef) (names patterns : List (List ℕ)) (left right : Files) → Shows left right → IsShown right names → AllZip (λ pattern files. IsFound right pattern staged files) patterns (lists_found left staged names patterns)
+each_found staged names [] left right k z = tt
+each_found staged names (p ∷ patterns) left right k z = (
+  subst (IsFound right p staged) (all_stay p staged names left right k) (is_found right p staged names z),
+  each_found staged names patterns left right k z,
 )
 
-pub all_found : (told now : Option Files) (work dir : List ℕ) (staged : List FileRef) (names patterns : List (List ℕ)) (v : List (List FileRef)) → IsApart work dir → Both told now (KeepsOrStores work (scratch_in dir)) → IfSome told (λ f. IsListing f dir names) → IfSome told (λ f. v ≡ lists_found f dir staged names patterns) → IfSome now (λ g. AllZip (λ pattern files. IsFound g dir pattern staged files) patterns v)
-all_found told None work dir staged names patterns v apart k z so = tt
-all_found None (Some g) work dir staged names patterns v apart k z so = absurd k
-all_found (Some f) (Some g) work dir staged names patterns v apart k z so =
-    subst (AllZip (λ pattern files. IsFound g dir pattern staged files) patterns) (sym so) (each_found work dir staged names patterns f g apart k (shown work dir names f g apart k z))
+-- what was found among a folder's names is exactly what such files have
+pub all_found : (f : Files) (dir : List ℕ) (p : JobParts) (v : List (List FileRef)) (left : Files) → Shows (folder_of f dir) left → AreFoundIn f dir p v → AllZip (λ pattern files. IsFound left pattern p.staged files) p.patterns v
+all_found f dir p v left k h =
+    subst (AllZip (λ pattern files. IsFound left pattern p.staged files) p.patterns) (sym h.2) (each_found p.staged h.0 p.patterns (folder_of f dir) left k (shown f dir h.0 left k h.1))
 
-pub found_told : (told now : Option Files) (work dir : List ℕ) (staged : List FileRef) (names patterns : List (List ℕ)) (r : Result (List (List FileRef)) HostRefusal) → IsApart work dir → Both told now (KeepsOrStores work (scratch_in dir)) → IfSome told (λ f. IsListing f dir names) → OkOver told r (λ f v. v ≡ lists_found f dir staged names patterns)
-    → OkOver now r (λ g v. AllZip (λ pattern files. IsFound g dir pattern staged files) patterns v)
-found_told told now work dir staged names patterns (Ok v) apart k z so = all_found told now work dir staged names patterns v apart k z so
-found_told told None work dir staged names patterns (Err e) apart k z so = tt
-found_told told (Some g) work dir staged names patterns (Err e) apart k z so = tt
+-- the same of the names that were listed before
+pub found_told : (told : Option Files) (dir : List ℕ) (p : JobParts) (names : List (List ℕ)) (r : Result (List (List FileRef)) HostRefusal) → IfSome told (λ f. IsListing f dir names) → OkOver told r (λ f v. v ≡ lists_found (folder_of f dir) p.staged names p.patterns) → OkOver told r (λ f. AreFoundIn f dir p)
+found_told None dir p names r z so = tt
+found_told (Some f) dir p names (Ok v) z so = (names, z, so)
+found_told (Some f) dir p names (Err e) z so = tt
 
 -- ---- the names of a folder
 

@@ -8,15 +8,15 @@ use Rattle.nf_host.proofs.Paths.{text_itself}
 use Rattle.nf_lane.specs.Store.{first_lacking, has_all, lacks}
 use Rattle.nf_lane.proofs.Lacking.{all_there, one_gone}
 use Rattle.nf_lane.proofs.Steps.{at_list, past_list}
-use Rattle.nf_shell.specs.Outputs.{is_staged}
+use Rattle.nf_shell.specs.Outputs.{is_among}
 use Rattle.nf_shell.specs.Places.{is_stored, stored_in}
 use Rattle.nf_shell.specs.ShellLane.{store_of}
 
 -- ---- a file that is there has its name
 
-pub named_at : (files : List FileRef) (i : ℕ) (e : FileRef) → i < length files → e ≡ get_or files i e → is_staged files e.name ≡ true
+pub named_at : (files : List FileRef) (i : ℕ) (e : FileRef) → i < length files → e ≡ get_or files i e → is_among files e.name ≡ true
 named_at [] i e l is = absurd (omega arith)
-named_at (f ∷ files) zero e l is = ap (λ (r : FileRef). bytes_eq r.name e.name || is_staged files e.name) (sym is) ∙ ap (λ b. b || is_staged files e.name) (text_itself e.name)
+named_at (f ∷ files) zero e l is = ap (λ (r : FileRef). bytes_eq r.name e.name || is_among files e.name) (sym is) ∙ ap (λ b. b || is_among files e.name) (text_itself e.name)
 named_at (f ∷ files) (suc i) e l is = ap (λ b. bytes_eq f.name e.name || b) (named_at files i e (omega arith) is) ∙ or_true (bytes_eq f.name e.name)
   where
     or_true : (b : Bool) → (b || true) ≡ true

@@ -14,7 +14,7 @@ use Rattle.nf_host.specs.declared.host.HostRefusal.{HostRefusal}
 use Rattle.nf_host.proofs.Copying.{both_then}
 use Rattle.nf_host.proofs.Paths.{in_folder, same_name, text_itself, text_same}
 use Rattle.nf_shell.specs.Folder.{is_stageable, are_stageable, HasDigest, is_prepared, IsReady, IsReadyFor, Readies, EndsWith, stdin_of}
-use Rattle.nf_shell.specs.Outputs.{is_staged}
+use Rattle.nf_shell.specs.Outputs.{is_among}
 use Rattle.nf_shell.specs.declared.damage.Damage.{Damage}
 use Rattle.nf_shell.proofs.Stores.{keeps_outside, weaken}
 
@@ -50,12 +50,12 @@ not_own own name no_own fits =
 other_name : (dir n m : List ℕ) (g g' : Files) → KeepsOthers (path_in dir m) g g' → bytes_eq n m ≡ false → g' (path_in dir n) ≡ g (path_in dir n)
 other_name dir n m g g' k apart = k (path_in dir n) (same_name dir n m ∙ apart)
 
-staged_kept : (dir m : List ℕ) (g g' : Files) (staged : List FileRef) → KeepsOthers (path_in dir m) g g' → is_staged staged m ≡ false → All (λ f. HasDigest (g (path_in dir f.name)) f.digest.0) staged → All (λ f. HasDigest (g' (path_in dir f.name)) f.digest.0) staged
+staged_kept : (dir m : List ℕ) (g g' : Files) (staged : List FileRef) → KeepsOthers (path_in dir m) g g' → is_among staged m ≡ false → All (λ f. HasDigest (g (path_in dir f.name)) f.digest.0) staged → All (λ f. HasDigest (g' (path_in dir f.name)) f.digest.0) staged
 staged_kept dir m g g' [] k apart h = All-nil (λ f. HasDigest (g' (path_in dir f.name)) f.digest.0)
 staged_kept dir m g g' (f ∷ staged) k apart h =
     All-cons (λ f. HasDigest (g' (path_in dir f.name)) f.digest.0) f staged
-    (subst (λ (o : Option (List ℕ)). HasDigest o f.digest.0) (sym (other_name dir f.name m g g' k (or_first (bytes_eq f.name m) (is_staged staged m) apart))) (All-head (λ f. HasDigest (g (path_in dir f.name)) f.digest.0) f staged h))
-    (staged_kept dir m g g' staged k (or_second (bytes_eq f.name m) (is_staged staged m) apart) (All-tail (λ f. HasDigest (g (path_in dir f.name)) f.digest.0) f staged h))
+    (subst (λ (o : Option (List ℕ)). HasDigest o f.digest.0) (sym (other_name dir f.name m g g' k (or_first (bytes_eq f.name m) (is_among staged m) apart))) (All-head (λ f. HasDigest (g (path_in dir f.name)) f.digest.0) f staged h))
+    (staged_kept dir m g g' staged k (or_second (bytes_eq f.name m) (is_among staged m) apart) (All-tail (λ f. HasDigest (g (path_in dir f.name)) f.digest.0) f staged h))
 
 any_append : (p : FileRef → Bool) (xs : List FileRef) (f : FileRef) → list_any p (xs ++ f ∷ []) ≡ (list_any p xs || p f)
 any_append p [] f = or_none (p f)
@@ -81,15 +81,15 @@ flip m n =
     ] refl
 
 -- one more file was staged
-pub ready_more : (script stdin dir : List ℕ) (staged : List FileRef) (f : FileRef) (g g' : Files) → IsReady script stdin staged (folder_of g dir) → is_stageable f.name ≡ true → is_staged staged f.name ≡ false → KeepsOthers (path_in dir f.name) g g' → HasDigest (g' (path_in dir f.name)) f.digest.0 → IsReady script stdin (staged ++ f ∷ []) (folder_of g' dir)
+pub ready_more : (script stdin dir : List ℕ) (staged : List FileRef) (f : FileRef) (g g' : Files) → IsReady script stdin staged (folder_of g dir) → is_stageable f.name ≡ true → is_among staged f.name ≡ false → KeepsOthers (path_in dir f.name) g g' → HasDigest (g' (path_in dir f.name)) f.digest.0 → IsReady script stdin (staged ++ f ∷ []) (folder_of g' dir)
 ready_more script stdin dir staged f g g' z fits apart k has = record {
   script = other_name dir (codes ".command.sh") f.name g g' k (not_own (codes ".command.sh") f.name refl fits) ∙ z.script;
   stdin = other_name dir (codes ".command.in") f.name g g' k (not_own (codes ".command.in") f.name refl fits) ∙ z.stdin;
   staged = All-push (λ r. HasDigest (g' (path_in dir r.name)) r.digest.0) staged f (staged_kept dir f.name g g' staged k apart z.staged) has;
   others = λ name h.
-      let e : is_prepared (staged ++ f ∷ []) name ≡ ((bytes_eq name (codes ".command.sh") || (bytes_eq name (codes ".command.in") || is_staged staged name)) || bytes_eq f.name name) =
+      let e : is_prepared (staged ++ f ∷ []) name ≡ ((bytes_eq name (codes ".command.sh") || (bytes_eq name (codes ".command.in") || is_among staged name)) || bytes_eq f.name name) =
       ap (λ b. bytes_eq name (codes ".command.sh") || (bytes_eq name (codes ".command.in") || b)) (any_append (λ r. bytes_eq r.name name) staged f)
-      ∙ regroup (bytes_eq name (codes ".command.sh")) (bytes_eq name (codes ".command.in")) (is_staged staged name) (bytes_eq f.name name) in
+      ∙ regroup (bytes_eq name (codes ".command.sh")) (bytes_eq name (codes ".command.in")) (is_among staged name) (bytes_eq f.name name) in
       let k1 = sym e ∙ h in
       other_name dir name f.name g g' k (flip name f.name ∙ or_second (is_prepared staged name) (bytes_eq f.name name) k1)
       ∙ z.others name (or_first (is_prepared staged name) (bytes_eq f.name name) k1);
@@ -126,18 +126,18 @@ none_at p (f ∷ files) (suc i) d h l = none_at p files i d (or_second (p f) (li
 
 fits_at : (files : List FileRef) (i : ℕ) (d : FileRef) → are_stageable files ≡ true → i < length files → is_stageable (get_or files i d).name ≡ true
 fits_at [] i d h l = absurd (omega arith)
-fits_at (f ∷ files) zero d h l = and_left (is_stageable f.name) (not (is_staged files f.name)) (and_left (is_stageable f.name && not (is_staged files f.name)) (are_stageable files) h)
-fits_at (f ∷ files) (suc i) d h l = fits_at files i d (and_right (is_stageable f.name && not (is_staged files f.name)) (are_stageable files) h) (omega arith)
+fits_at (f ∷ files) zero d h l = and_left (is_stageable f.name) (not (is_among files f.name)) (and_left (is_stageable f.name && not (is_among files f.name)) (are_stageable files) h)
+fits_at (f ∷ files) (suc i) d h l = fits_at files i d (and_right (is_stageable f.name && not (is_among files f.name)) (are_stageable files) h) (omega arith)
 
-apart_at : (files : List FileRef) (i : ℕ) (d : FileRef) → are_stageable files ≡ true → i < length files → is_staged (take i files) (get_or files i d).name ≡ false
+apart_at : (files : List FileRef) (i : ℕ) (d : FileRef) → are_stageable files ≡ true → i < length files → is_among (take i files) (get_or files i d).name ≡ false
 apart_at [] i d h l = absurd (omega arith)
 apart_at (f ∷ files) zero d h l = refl
 apart_at (f ∷ files) (suc i) d h l =
-    let first = and_left (is_stageable f.name && not (is_staged files f.name)) (are_stageable files) h in
-    let none : is_staged files f.name ≡ false = not_true (is_staged files f.name) (and_right (is_stageable f.name) (not (is_staged files f.name)) first) in
+    let first = and_left (is_stageable f.name && not (is_among files f.name)) (are_stageable files) h in
+    let none : is_among files f.name ≡ false = not_true (is_among files f.name) (and_right (is_stageable f.name) (not (is_among files f.name)) first) in
     let here : bytes_eq (get_or files i d).name f.name ≡ false = none_at (λ g. bytes_eq g.name f.name) files i d none (omega arith) in
-    ap (λ b. b || is_staged (take i files) (get_or files i d).name) (flip f.name (get_or files i d).name ∙ here)
-    ∙ apart_at files i d (and_right (is_stageable f.name && not (is_staged files f.name)) (are_stageable files) h) (omega arith)
+    ap (λ b. b || is_among (take i files) (get_or files i d).name) (flip f.name (get_or files i d).name ∙ here)
+    ∙ apart_at files i d (and_right (is_stageable f.name && not (is_among files f.name)) (are_stageable files) h) (omega arith)
 
 take_more : (files : List FileRef) (i : ℕ) (d : FileRef) → i < length files → take (i + 1) files ≡ take i files ++ get_or files i d ∷ []
 take_more files i d l = ap (λ k. take k files) (add-one i) ∙ take-suc files i d l
@@ -148,7 +148,7 @@ readies_more dir files i e f g g' l is z k has fits script stdin first =
     subst (λ (rs : List FileRef). IsReady script stdin rs (folder_of g' dir)) (sym all)
     (ready_more script stdin dir (take i files) e g g' (z fits script stdin first)
     (ap (λ r. is_stageable r.name) is ∙ fits_at files i e fits l)
-    (ap (λ r. is_staged (take i files) r.name) is ∙ apart_at files i e fits l)
+    (ap (λ r. is_among (take i files) r.name) is ∙ apart_at files i e fits l)
     k has)
 
 pub readies_next : (told now next : Option Files) (dir : List ℕ) (files : List FileRef) (i : ℕ) (e : FileRef) → i < length files → e ≡ get_or files i e → Both told now (ReadiesTo dir files i) → Both now next (KeepsOthers (path_in dir e.name)) → IfSome next (λ g. HasDigest (g (path_in dir e.name)) e.digest.0) → Both told next (ReadiesTo dir files (i + 1))

@@ -41,10 +41,12 @@ IsDamageAmong files d = (file : FileRef) × Contains files file × IsDamageOf fi
 abbrev pub IsTrueOf : List ℕ → Files → Damage → Type 0
 IsTrueOf work g d = option_map (λ x. x.0) d.found ≡ digest_in (g (stored_at work d.due.0))
 
--- the damages are as they were, or one of these files was added, with what is found in its place now, if the files are told
+-- the damages are as they were, or that of one of these files was added, with what is found in its place now, if the
+-- files are told
 abbrev pub AddsDamage : List ℕ → List FileRef → Option Files → List Damage → List Damage → Type 0
 AddsDamage work files told before after =
-    (after ≡ before) ⊎ ((d : Damage) × (after ≡ before ++ d ∷ []) × IsDamageAmong files d × IfSome told (λ g. IsTrueOf work g d))
+    (after ≡ before)
+    ⊎ ((d : Damage) × (after ≡ before ++ d ∷ []) × IsDamageAmong files d × IfSome told (λ g. IsTrueOf work g d))
 
 -- a damage was added
 abbrev pub HasOneMore : List Damage → List Damage → Type 0

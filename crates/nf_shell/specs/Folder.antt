@@ -9,7 +9,7 @@ use Rattle.nf_host.specs.Files.{Files}
 use Rattle.nf_host.specs.Folders.{is_name, folder_of}
 use Rattle.nf_host.specs.declared.host.HostRefusal.{HostRefusal}
 use Rattle.nf_shell.specs.Damages.{IsTrueOf}
-use Rattle.nf_shell.specs.Outputs.{is_staged}
+use Rattle.nf_shell.specs.Outputs.{is_among}
 use Rattle.nf_shell.specs.declared.damage.Damage.{Damage}
 
 -- the standard input of a job: a text, or nothing
@@ -19,12 +19,13 @@ stdin_of (Some text) = text
 
 -- a name that a staged file may have: a plain name that isn't one of the lane's own
 abbrev pub is_stageable : List ℕ → Bool
-is_stageable name = is_name name && not (bytes_eq name (codes ".exitcode")) && not (starts_with (λ c d. c == d) name (codes ".command."))
+is_stageable name =
+    is_name name && not (bytes_eq name (codes ".exitcode")) && not (starts_with (λ c d. c == d) name (codes ".command."))
 
 -- files that may be staged together: each may be staged, and none has the name of another
 abbrev pub are_stageable : List FileRef → Bool
 are_stageable [] = true
-are_stageable (f ∷ files) = is_stageable f.name && not (is_staged files f.name) && are_stageable files
+are_stageable (f ∷ files) = is_stageable f.name && not (is_among files f.name) && are_stageable files
 
 -- the bytes of this file, by its digest
 abbrev pub HasDigest : Option (List ℕ) → List ℕ → Type 0
@@ -33,7 +34,8 @@ HasDigest (Some b) digest = sha256 b ≡ digest
 
 -- a name that the lane puts into a job's folder
 abbrev pub is_prepared : List FileRef → List ℕ → Bool
-is_prepared staged name = bytes_eq name (codes ".command.sh") || (bytes_eq name (codes ".command.in") || is_staged staged name)
+is_prepared staged name =
+    bytes_eq name (codes ".command.sh") || (bytes_eq name (codes ".command.in") || is_among staged name)
 
 -- a folder's files, by their names in it: exactly the script and a line end, the standard input, and the staged files
 pub record IsReady (text input : List ℕ) (due : List FileRef) (files : Files) : Type 0 where
@@ -49,7 +51,8 @@ IsReadyFor p files = IsTrue (are_stageable p.staged) → IsReady p.script (stdin
 -- staging these files makes the folder ready for them, if it was ready for none
 abbrev pub Readies : List ℕ → List FileRef → Files → Files → Type 0
 Readies dir staged f g =
-    IsTrue (are_stageable staged) → (script stdin : List ℕ) → IsReady script stdin [] (folder_of f dir) → IsReady script stdin staged (folder_of g dir)
+    IsTrue (are_stageable staged) → (script stdin : List ℕ)
+    → IsReady script stdin [] (folder_of f dir) → IsReady script stdin staged (folder_of g dir)
 
 -- what putting files into a folder came to: P, or a damage that tells what is found in its file's place
 abbrev pub EndsWith : List ℕ → Files → Result (Option Damage) HostRefusal → Type 0 → Type 0

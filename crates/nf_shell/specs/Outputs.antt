@@ -7,10 +7,11 @@ use Rattle.sha2.specs.Sha256.{sha256}
 use Rattle.nf_pattern.specs.Glob.{is_match}
 use Rattle.nf_pattern.specs.Literal.{is_literal_path}
 use Rattle.nf_value.specs.declared.file.FileRef.{FileRef}
+use Rattle.nf_job.specs.declared.parts.JobParts.{JobParts}
 use Rattle.nf_job.specs.declared.report.Captured.{Captured}
 use Rattle.nf_job.specs.declared.report.Captured.TheVariants as captured
 use Rattle.nf_host.specs.Files.{Files}
-use Rattle.nf_host.specs.Folders.{path_in, is_name, IsRising}
+use Rattle.nf_host.specs.Folders.{path_in, folder_of, is_name, IsListing, IsRising}
 use Rattle.nf_lane.specs.Child.{IsCaptured, kept_of}
 use Rattle.nf_shell.specs.Places.{is_short, is_stored}
 use Rattle.nf_shell.specs.declared.store.Stored.{Stored}
@@ -20,14 +21,15 @@ abbrev pub begins_with_dot : List ℕ → Bool
 begins_with_dot [] = false
 begins_with_dot (c ∷ name) = c == 46
 
--- the name of a staged file
-abbrev pub is_staged : List FileRef → List ℕ → Bool
-is_staged staged name = list_any (λ f. bytes_eq f.name name) staged
+-- whether one of these files has this name
+abbrev pub is_among : List FileRef → List ℕ → Bool
+is_among files name = list_any (λ f. bytes_eq f.name name) files
 
 -- whether the pattern matches a name that doesn't begin with a dot
 abbrev pub is_matched : List ℕ → List FileRef → List ℕ → Bool
 is_matched pattern staged name =
-    if is_literal_path (chars pattern) then bytes_eq pattern name else is_match (chars pattern) (chars name) && not (is_staged staged name)
+    if is_literal_path (chars pattern) then bytes_eq pattern name
+    else is_match (chars pattern) (chars name) && not (is_among staged name)
 
 -- whether the file of this name is an output of the pattern
 abbrev pub is_output : List ℕ → List FileRef → List ℕ → Bool
@@ -44,10 +46,11 @@ IsFileOf None f = ⊥
 IsFileOf (Some b) f = (f.digest.0 ≡ sha256 b) × (f.len ≡ length b)
 
 -- exactly the folder's own files that are outputs of the pattern and not too long, in the order of their names
-pub record IsFound (g : Files) (dir pattern : List ℕ) (staged files : List FileRef) : Type 0 where
-  pub rising : IsRising (map (λ f. f.name) files)
-  pub exact : (name : List ℕ) → is_staged files name ≡ (is_name name && is_output pattern staged name && is_fit (g (path_in dir name)))
-  pub bytes : All (λ f. IsFileOf (g (path_in dir f.name)) f) files
+pub record IsFound (left : Files) (pattern : List ℕ) (staged found : List FileRef) : Type 0 where
+  pub rising : IsRising (map (λ f. f.name) found)
+  pub exact : (name : List ℕ)
+      → is_among found name ≡ (is_name name && is_output pattern staged name && is_fit (left name))
+  pub bytes : All (λ f. IsFileOf (left f.name) f) found
 
 -- each of these files stands whole in the file store
 abbrev pub AreStored : List ℕ → Files → List FileRef → Type 0
@@ -69,17 +72,24 @@ stored_of (Some b) = if is_short b then Some (record { digest = record { 0 = sha
 abbrev pub ref_of : List ℕ → Option Stored → Option FileRef
 ref_of name stored = option_map (λ s. record { name = name; digest = s.digest; len = s.len }) stored
 
--- the file of this name in a folder as a report has it, if it is an output of the pattern
-abbrev pub file_found : Files → List ℕ → List ℕ → List FileRef → List ℕ → Option FileRef
-file_found f dir pattern staged name = if is_output pattern staged name then ref_of name (stored_of (f (path_in dir name))) else None
+-- the file of this name as a report has it, if it is an output of the pattern
+abbrev pub file_found : Files → List ℕ → List FileRef → List ℕ → Option FileRef
+file_found left pattern staged name =
+    if is_output pattern staged name then ref_of name (stored_of (left name)) else None
 
--- the files of a folder among these names that are outputs of the pattern
-abbrev pub files_found : Files → List ℕ → List ℕ → List FileRef → List (List ℕ) → List FileRef
-files_found f dir pattern staged names = filter_map (file_found f dir pattern staged) names
+-- the files among these names that are outputs of the pattern
+abbrev pub files_found : Files → List ℕ → List FileRef → List (List ℕ) → List FileRef
+files_found left pattern staged names = filter_map (file_found left pattern staged) names
 
 -- a list of them for each pattern
-abbrev pub lists_found : Files → List ℕ → List FileRef → List (List ℕ) → List (List ℕ) → List (List FileRef)
-lists_found f dir staged names patterns = map (λ pattern. files_found f dir pattern staged names) patterns
+abbrev pub lists_found : Files → List FileRef → List (List ℕ) → List (List ℕ) → List (List FileRef)
+lists_found left staged names patterns = map (λ pattern. files_found left pattern staged names) patterns
+
+-- the same among all names of a folder
+abbrev pub AreFoundIn : Files → List ℕ → JobParts → List (List FileRef) → Type 0
+AreFoundIn f dir p found =
+    (names : List (List ℕ)) × IsListing f dir names
+    × (found ≡ lists_found (folder_of f dir) p.staged names p.patterns)
 
 -- the path in a folder at which a file is copied before it is stored
 abbrev pub scratch_in : List ℕ → List ℕ

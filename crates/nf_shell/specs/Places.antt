@@ -47,15 +47,15 @@ IsInPlace work path (Some b) = (path ≡ stored_at work (sha256 b)) × IsTrue (i
 abbrev pub StaysOrStored : List ℕ → List ℕ → Option (List ℕ) → Option (List ℕ) → Type 0
 StaysOrStored work path before after = (after ≡ before) ⊎ IsInPlace work path after
 
--- so is every file but the one at this path
+-- every file but the one at this path is as it was, or is one of the store that was put there whole
 abbrev pub KeepsOrStores : List ℕ → List ℕ → Files → Files → Type 0
 KeepsOrStores work path f g = (q : List ℕ) → bytes_eq q path ≡ false → StaysOrStored work q (f q) (g q)
 
--- so is every file outside of this folder
+-- every file outside of this folder is as it was, or is one of the store that was put there whole
 abbrev pub StoresOutside : List ℕ → List ℕ → Files → Files → Type 0
 StoresOutside work dir f g = (q : List ℕ) → is_in dir q ≡ false → StaysOrStored work q (f q) (g q)
 
--- so is every file outside of a job's folder
+-- every file outside of a job's folder is as it was, or is one of the store that was put there whole
 abbrev pub StoresBeside : List ℕ → JobParts → Files → Files → Type 0
 StoresBeside work p f g = StoresOutside work (task_dir work p) f g
 

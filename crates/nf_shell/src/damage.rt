@@ -3,6 +3,7 @@
 ghost use Rattle.std.specs.Prelude.{◌≡◌, IfOk};
 ghost use Rattle.nf_shell.specs.Damages.{found_digest};
 
+use crate::store::found_digest;
 use nf_host::Digested;
 use nf_value::{Digest, FileRef, Mem, Txt};
 
@@ -27,17 +28,7 @@ impl Damage {
         Ok(Damage {
             name: file.name.copy()?,
             due: file.digest,
-            found: digest_of(found),
+            found: found_digest(found),
         })
-    }
-}
-
-// The digest of a whole file.
-fn digest_of(found: Digested) -> Option<Digest>
-    ensures { result ≡ found_digest found }
-{
-    match found {
-        Digested::Whole { digest, .. } => Some(digest),
-        Digested::Absent | Digested::TooLong => None,
     }
 }

@@ -19,4 +19,6 @@ pub use done::ShellDone;
 pub use outputs::is_output;
 pub use seen::ShellSeen;
 pub use shell_lane::ShellLane;
-pub use store::{Stored, is_in_store, job_folder, store_file, stored_path};
+pub use store::{
+    Stored, found_digest, has_digest, is_in_store, job_folder, store_file, stored_path,
+};

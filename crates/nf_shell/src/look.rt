@@ -6,7 +6,7 @@ ghost use Rattle.nf_host.specs.Faults.{Rose, OnFailed};
 ghost use Rattle.nf_lane.specs.Store.{first_lacking, has_name};
 ghost use Rattle.nf_shell.specs.Over.{OkOver};
 ghost use Rattle.nf_shell.specs.Places.{stored_in, is_stored};
-ghost use Rattle.nf_shell.specs.Outputs.{is_staged};
+ghost use Rattle.nf_shell.specs.Outputs.{is_among};
 
 use crate::store::is_in_store;
 use nf_host::{Host, HostRefusal};
@@ -48,7 +48,7 @@ fn missing_in<H: Host>(
     ensures cause { OnFailed result (Rose (H.faults host.old) (H.faults host.new)) }
     ensures same { H.files host.new ≡ H.files host.old }
     ensures no_start { H.started host.new ≡ H.started host.old }
-    ensures named { IfOk result (λ o. IfSome o (λ name. IsTrue (is_staged files.now name))) }
+    ensures named { IfOk result (λ o. IfSome o (λ name. IsTrue (is_among files.now name))) }
     ensures content { OkOver (H.files host.old) result (λ f o.
         o ≡ option_map (λ r. r.name) (find (λ r. not (is_stored f work.now r.digest.0)) files.now)) }
 {

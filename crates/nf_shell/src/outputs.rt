@@ -1,13 +1,12 @@
 //! What a child left in its folder: its standard output, and the files of its outputs.
 
 ghost use Rattle.std.specs.Prelude.{◌≡◌, ◌≤◌, ◌++◌, All, IfOk, OnOk, IfSome, IsTrue, Some, true, false, length, codes, option_to_list};
-ghost use Rattle.std.specs.List.{AllZip};
 ghost use Rattle.nf_host.specs.Faults.{Rose, OnFailed};
-ghost use Rattle.nf_host.specs.Folders.{IsListing, path_in};
+ghost use Rattle.nf_host.specs.Folders.{IsListing, folder_of, path_in};
 ghost use Rattle.nf_host.specs.Told.{Both};
 ghost use Rattle.nf_host.specs.Whole.{IsWhole, IsWithin};
 ghost use Rattle.nf_lane.specs.Child.{IsCaptured, IsOutput};
-ghost use Rattle.nf_shell.specs.Outputs.{AreStored, IsFound, IsOutputOf, begins_with_dot, file_found, files_found, is_output, is_staged, lists_found, ref_of, scratch_in, stored_of};
+ghost use Rattle.nf_shell.specs.Outputs.{AreFoundIn, AreStored, IsOutputOf, begins_with_dot, file_found, files_found, is_output, is_among, lists_found, ref_of, scratch_in, stored_of};
 ghost use Rattle.nf_shell.specs.Over.{OkOver};
 ghost use Rattle.nf_shell.specs.Places.{IsApart, KeepsOrStores, is_stored};
 
@@ -31,7 +30,7 @@ pub fn is_output(pattern: &str, staged: &[FileRef], name: &str) -> bool
     if is_literal(pattern) {
         return pattern == name;
     }
-    glob(pattern, name) && !is_staged(staged, name)
+    glob(pattern, name) && !is_among(staged, name)
 }
 
 fn begins_with_dot(name: &[u8]) -> bool
@@ -44,10 +43,10 @@ fn begins_with_dot(name: &[u8]) -> bool
 }
 
 #[tactic(auto, using(crate::proofs::Names::at_name, crate::proofs::Names::past_name, crate::proofs::Names::no_name_left))]
-fn is_staged(staged: &[FileRef], name: &str) -> bool
-    ensures { result ≡ is_staged staged.now name.now }
+fn is_among(files: &[FileRef], name: &str) -> bool
+    ensures { result ≡ is_among files.now name.now }
 {
-    for file in staged {
+    for file in files {
         if file.name.as_str() == name {
             return true;
         }
@@ -113,8 +112,7 @@ pub(crate) fn found<H: Host>(
     ensures no_start { H.started host.new ≡ H.started host.old }
     ensures kept { Both (H.files host.old) (H.files host.new) (KeepsOrStores work.now (scratch_in dir.now)) }
     ensures number { IfOk result (λ v. length v ≡ length parts.now.patterns) }
-    ensures content { OkOver (H.files host.new) result (λ g v.
-        AllZip (λ pattern files. IsFound g dir.now pattern parts.now.staged files) parts.now.patterns v) }
+    ensures content { OkOver (H.files host.old) result (λ f. AreFoundIn f dir.now parts.now) }
     ensures stored { OkOver (H.files host.new) result (λ g v. All (AreStored work.now g) v) }
 {
     let names = names_in(alloc, host, dir)?;
@@ -151,7 +149,7 @@ fn found_among<H: Host>(
     ensures kept { Both (H.files host.old) (H.files host.new) (KeepsOrStores work.now (scratch_in dir.now)) }
     ensures number { IfOk result (λ v. length v ≡ length parts.now.patterns) }
     ensures content { OkOver (H.files host.old) result (λ f v.
-        v ≡ lists_found f dir.now parts.now.staged names.now parts.now.patterns) }
+        v ≡ lists_found (folder_of f dir.now) parts.now.staged names.now parts.now.patterns) }
     ensures stored { OkOver (H.files host.new) result (λ g v. All (AreStored work.now g) v) }
 {
     let mut lists = Vec::new(alloc);
@@ -179,7 +177,7 @@ fn files_of<H: Host>(
     ensures no_start { H.started host.new ≡ H.started host.old }
     ensures kept { Both (H.files host.old) (H.files host.new) (KeepsOrStores work.now (scratch_in dir.now)) }
     ensures content { OkOver (H.files host.old) result (λ f v.
-        v.items ≡ files_found f dir.now pattern.now staged.now names.now) }
+        v.items ≡ files_found (folder_of f dir.now) pattern.now staged.now names.now) }
     ensures stored { OkOver (H.files host.new) result (λ g v. AreStored work.now g v.items) }
 {
     let mut files = Vec::new(alloc);
@@ -215,8 +213,9 @@ fn output_of<H: Host>(
     ensures no_start { H.started host.new ≡ H.started host.old }
     ensures kept { Both (H.files host.old) (H.files host.new) (KeepsOrStores work.now (scratch_in dir.now)) }
     ensures content { OkOver (H.files host.old) result (λ f o.
-        o ≡ file_found f dir.now pattern.now staged.now name.now) }
-    ensures stored { OkOver (H.files host.new) result (λ g o. IfSome o (λ r. IsTrue (is_stored g work.now r.digest.0))) }
+        o ≡ file_found (folder_of f dir.now) pattern.now staged.now name.now) }
+    ensures stored { OkOver (H.files host.new) result (λ g o.
+        IfSome o (λ r. IsTrue (is_stored g work.now r.digest.0))) }
 {
     if !is_output(pattern, staged, name.as_str()) {
         return Ok(None);
@@ -240,7 +239,8 @@ fn store_output<H: Host>(
     ensures kept { Both (H.files host.old) (H.files host.new) (KeepsOrStores work.now (scratch_in dir.now)) }
     ensures content { OkOver (H.files host.old) result (λ f o.
         o ≡ ref_of name.now (stored_of (f (path_in dir.now name.now)))) }
-    ensures stored { OkOver (H.files host.new) result (λ g o. IfSome o (λ r. IsTrue (is_stored g work.now r.digest.0))) }
+    ensures stored { OkOver (H.files host.new) result (λ g o.
+        IfSome o (λ r. IsTrue (is_stored g work.now r.digest.0))) }
 {
     let from = path_in(alloc, dir, name.as_str())?;
     let scratch = path_in(alloc, dir, ".command.new")?;

@@ -1,15 +1,14 @@
 //! One run of a job: its folder, its child, its report.
 
-ghost use Rattle.std.specs.Prelude.{◌≡◌, ◌≤◌, IfOk, OnOk, codes, option_map};
+ghost use Rattle.std.specs.Prelude.{◌≡◌, ◌≤◌, IfOk, IfSome, OnOk, codes, option_map};
 ghost use Rattle.std.specs.Fmt.{signed_decimal};
 ghost use Rattle.nf_host.specs.Faults.{Rose, OnFailed};
 ghost use Rattle.nf_host.specs.Files.{KeepsOthers, put};
 ghost use Rattle.nf_host.specs.Folders.{path_in};
-ghost use Rattle.nf_host.specs.Starts.{start_of, and_start};
 ghost use Rattle.nf_host.specs.Told.{Both};
 ghost use Rattle.nf_shell.specs.Over.{OkOver};
 ghost use Rattle.nf_shell.specs.Places.{IsApart, StoresBeside, StoresOutside};
-ghost use Rattle.nf_shell.specs.Runs.{IsEndFor, IsEndOf, IsReportFor, IsReportOf, StartsFor};
+ghost use Rattle.nf_shell.specs.Runs.{EndsIn, IsEndFor, IsEndOf, IsReportFor, IsReportIn, StartsAtMostOne, StartsFor, StartsIn};
 
 use crate::damage::Damage;
 use crate::folder::{prepare, write_in};
@@ -42,6 +41,8 @@ pub(crate) fn run_job<H: Host>(
     ensures ends { OkOver (H.files host.new) result (λ g. IsEndOf work.now job.now g) }
     ensures started { OkOver (H.files host.old) result (λ _.
         StartsFor work.now job.now (H.started host.old) (H.started host.new)) }
+    ensures starts { IfSome (H.files host.old) (λ _.
+        StartsAtMostOne work.now job.now (H.started host.old) (H.started host.new)) }
 {
     let parts = job.parts();
     let folder = job_folder(alloc, work, job.key())?;
@@ -66,9 +67,11 @@ fn run_child<H: Host>(
     ensures cause { OnFailed result (Rose (H.faults host.old) (H.faults host.new)) }
     ensures kept { Both (H.files host.old) (H.files host.new) (StoresOutside work.now dir.now) }
     ensures known { IfOk result (IsReportFor parts.now) }
-    ensures report { OkOver (H.files host.new) result (λ g. IsReportOf work.now dir.now parts.now g) }
+    ensures report { OkOver (H.files host.new) result (λ g. IsReportIn work.now dir.now parts.now g) }
     ensures started { OkOver (H.files host.old) result (λ f r.
-        H.started host.new ≡ and_start (H.started host.old) (start_of f dir.now r.exit)) }
+        EndsIn dir.now parts.now f r (H.started host.old) (H.started host.new)) }
+    ensures starts { IfSome (H.files host.old) (λ f.
+        StartsIn dir.now f (H.started host.old) (H.started host.new)) }
 {
     let exit = host.child(alloc, dir)?;
     write_exit(alloc, host, dir, exit)?;

@@ -74,7 +74,7 @@ impl<H: Host + Drop> Lane for ShellLane<H> {
     ghost use Rattle.nf_shell.specs.Done.{IsGenuine, text_of, report_of_done};
     ghost use Rattle.nf_shell.specs.Over.{OkOver};
     ghost use Rattle.nf_shell.specs.Places.{StoresBeside};
-    ghost use Rattle.nf_shell.specs.Runs.{IsReportBy, IsReportFor, StartsOne};
+    ghost use Rattle.nf_shell.specs.Runs.{IsReportBy, IsReportFor, StartsAtMostOne, StartsOne};
     ghost use Rattle.nf_shell.specs.Seen.{IsSeen, report_of_seen};
     ghost use Rattle.nf_shell.specs.ShellLane.{runs_of, faults_by, damages_of, work_of, store_by, told_by};
 
@@ -104,13 +104,18 @@ impl<H: Host + Drop> Lane for ShellLane<H> {
         ensures kept { Both (told_by H.files self.old) (told_by H.files self.new)
             (StoresBeside (work_of self.old) job.now) }
 
-        // One child ran in the job's folder, which was ready, and the report is of what stands there when the run returns.
+        // One child ran in the job's folder, which was ready, and the report is of what it left. That still stands there
+        // when the run returns.
         ensures started { OkOver (told_by H.files self.old) result (λ _ d.
             StartsOne (work_of self.old) job.now (report_of_done d) (told_by H.started self.old)
             (told_by H.started self.new)) }
         ensures reported { OkOver (told_by H.files self.new) result (λ g d.
             IsReportBy (work_of self.old) job.now g (report_of_done d)) }
         ensures formed { IfOk result (λ d. IsReportFor job.now (report_of_done d)) }
+
+        // Whatever it answers, it started no other child.
+        ensures starts { IfSome (told_by H.files self.old) (λ _. StartsAtMostOne (work_of self.old) job.now
+            (told_by H.started self.old) (told_by H.started self.new)) }
 
         // It fails only if its host did, or if it found a damaged file among those that were to be staged.
         ensures blame { OnFailed result (
@@ -122,7 +127,8 @@ impl<H: Host + Drop> Lane for ShellLane<H> {
 
         // If it finds a damaged file, it starts no child.
         ensures spared { IfSome (told_by H.files self.old) (λ _.
-            HasOneMore (damages_of self.old) (damages_of self.new) → told_by H.started self.new ≡ told_by H.started self.old) }
+            HasOneMore (damages_of self.old) (damages_of self.new) →
+            told_by H.started self.new ≡ told_by H.started self.old) }
     {
         self.runs += 1;
         match run_job(alloc, &mut self.host, self.work.as_str(), job)? {

@@ -1,9 +1,10 @@
 //! The file store: the bytes of files by their digests.
 
-ghost use Rattle.std.specs.Prelude.{◌≡◌, ◌≤◌, IfOk, IfSome, IsTrue, false, bytes_eq, string_bytes};
+ghost use Rattle.std.specs.Prelude.{◌≡◌, ◌≤◌, IfNone, IfOk, IfSome, IsTrue, false, bytes_eq, string_bytes};
 ghost use Rattle.nf_host.specs.Faults.{Rose, OnFailed};
+ghost use Rattle.nf_host.specs.Files.{KeepsOthers};
 ghost use Rattle.nf_host.specs.Told.{Both};
-ghost use Rattle.nf_shell.specs.Damages.{has_digest};
+ghost use Rattle.nf_shell.specs.Damages.{found_digest, has_digest};
 ghost use Rattle.nf_shell.specs.Outputs.{stored_of};
 ghost use Rattle.nf_shell.specs.Over.{OkOver};
 ghost use Rattle.nf_shell.specs.Places.{KeepsOrStores, job_dir, stored_at, is_stored};
@@ -83,8 +84,18 @@ pub fn is_in_store<H: Host>(
     Ok(has_digest(found, digest))
 }
 
-// Whether a whole file with this digest was found.
-pub(crate) fn has_digest(found: Digested, due: &Digest) -> bool
+/// The digest of a whole file; none of one that is absent or too long. Takes no memory.
+pub fn found_digest(found: Digested) -> Option<Digest>
+    ensures { result ≡ found_digest found }
+{
+    match found {
+        Digested::Whole { digest, .. } => Some(digest),
+        Digested::Absent | Digested::TooLong => None,
+    }
+}
+
+/// Whether a whole file with this digest was found. Takes no memory.
+pub fn has_digest(found: Digested, due: &Digest) -> bool
     ensures { result ≡ has_digest found due.now.0 }
 {
     match found {
@@ -94,7 +105,8 @@ pub(crate) fn has_digest(found: Digested, due: &Digest) -> bool
 }
 
 /// Stores a file: copies it whole under another name, `scratch`, and puts it then in its place in one step. So the store has
-/// whole files alone. Nothing is stored if there is no file at the path, or one longer than a file may be.
+/// whole files alone, if `scratch` is no path of the store. Nothing is stored if there is no file at the path, or one longer
+/// than a file may be.
 ///
 /// # Errors
 ///
@@ -113,7 +125,10 @@ pub fn store_file<H: Host>(
     ensures no_start { H.started host.new ≡ H.started host.old }
     ensures kept { Both (H.files host.old) (H.files host.new) (KeepsOrStores work.now scratch.now) }
     ensures content { OkOver (H.files host.old) result (λ f o. o ≡ stored_of (f from.now)) }
-    ensures stored { OkOver (H.files host.new) result (λ g o. IfSome o (λ s. IsTrue (is_stored g work.now s.digest.0))) }
+    ensures nothing { Both (H.files host.old) (H.files host.new) (λ f g.
+        IfOk result (λ o. IfNone o (KeepsOthers scratch.now f g))) }
+    ensures stored { OkOver (H.files host.new) result (λ g o.
+        IfSome o (λ s. IsTrue (is_stored g work.now s.digest.0))) }
 {
     match copy_file(alloc, host, from, scratch, FILE_LIMIT)? {
         Digested::Absent | Digested::TooLong => Ok(None),

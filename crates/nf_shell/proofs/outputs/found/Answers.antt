@@ -4,7 +4,8 @@ use Rattle.nf_host.specs.Files.{Files}
 use Rattle.nf_host.specs.Folders.{IsListing}
 use Rattle.nf_host.specs.Told.{Both}
 use Rattle.nf_host.proofs.Copying.{both_same}
-use Rattle.nf_shell.specs.Outputs.{scratch_in}
+use Rattle.nf_shell.specs.Outputs.{AreFoundIn, scratch_in}
+use Rattle.nf_shell.specs.Over.{OkOver}
 use Rattle.nf_shell.specs.Places.{KeepsOrStores}
 use Rattle.nf_shell.proofs.Listed.{found_told}
 use Rattle.nf_shell.proofs.Stores.{stores_all}
@@ -26,4 +27,4 @@ returns-clause-content g c =
     let listed : IfSome told (λ f. IsListing f dir c.deref.result.now) =
     subst (λ (v : List (List ℕ)). IfSome told (λ f. IsListing f dir v)) (sym c.deref.ensures.value)
     (subst (λ (o : Option Files). IfSome o (λ f. IsListing f dir c.in_ok-names.names.items)) (sym c.names_in.ensures.same) c.in_ok-names.ensures.content) in
-    found_told told (g.H.Host.files c.found_among.new.host) c.args.work.now dir parts.staged c.deref.result.now parts.patterns c.found_among.result c.requires c.found_among.ensures.kept listed c.found_among.ensures.content
+    subst (λ (o : Option Files). OkOver o c.found_among.result (λ f. AreFoundIn f dir parts)) c.names_in.ensures.same (found_told told dir parts c.deref.result.now c.found_among.result listed c.found_among.ensures.content)

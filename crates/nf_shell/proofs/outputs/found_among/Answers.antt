@@ -1,6 +1,7 @@
 use Rattle.std.proofs.Common.{◌≡◌, ℕ, List, [], ◌∷◌, ◌++◌, All, length, refl, sym, ap, ◌∙◌, subst, arith, length-append}
 use Rattle.std.specs.Prelude.{IfSome}
 use Rattle.nf_value.specs.declared.file.FileRef.{FileRef}
+use Rattle.nf_host.specs.Folders.{folder_of}
 use Rattle.nf_host.proofs.Copying.{both_then, both_same}
 use Rattle.nf_shell.specs.Outputs.{AreStored, files_found, lists_found, scratch_in}
 use Rattle.nf_shell.specs.Places.{KeepsOrStores}
@@ -28,9 +29,9 @@ loop-pattern-preserved g c =
     let stays = KeepsOrStores c.args.work.now (scratch_in c.args.dir.now) in
     let made : c.push.new.self.items ≡ c.loop-pattern.lists.items ++ c.in_ok-files.files.items ∷ [] =
     subst (λ (v : List FileRef). c.push.new.self.items ≡ c.loop-pattern.lists.items ++ v ∷ []) c.of.ensures c.in_ok-push.ensures.items in
-    let content : IfSome now (λ f. c.in_ok-files.files.items ≡ files_found f c.args.dir.now c.pattern-item.result parts.staged c.args.names.now) =
-    subst (λ (v : List FileRef). IfSome now (λ f. c.in_ok-files.files.items ≡ files_found f c.args.dir.now c.pattern-item.result v c.args.names.now)) c.items.ensures
-    (subst (λ (v : List ℕ). IfSome now (λ f. c.in_ok-files.files.items ≡ files_found f c.args.dir.now v c.items.result.now c.args.names.now)) c.as_str-pattern.ensures c.in_ok-files.ensures.content) in
+    let content : IfSome now (λ f. c.in_ok-files.files.items ≡ files_found (folder_of f c.args.dir.now) c.pattern-item.result parts.staged c.args.names.now) =
+    subst (λ (v : List FileRef). IfSome now (λ f. c.in_ok-files.files.items ≡ files_found (folder_of f c.args.dir.now) c.pattern-item.result v c.args.names.now)) c.items.ensures
+    (subst (λ (v : List ℕ). IfSome now (λ f. c.in_ok-files.files.items ≡ files_found (folder_of f c.args.dir.now) v c.items.result.now c.args.names.now)) c.as_str-pattern.ensures c.in_ok-files.ensures.content) in
     record {
       later = omega (arith, c.loop-pattern.invariant.later, c.files_of.ensures.later);
       no_start = c.files_of.ensures.no_start ∙ c.loop-pattern.invariant.no_start;
@@ -56,8 +57,8 @@ returns-clause-content g c =
     let told = g.H.Host.files c.args.host.now in
     let parts = c.args.parts.now in
     let all = lists_all told c.args.dir.now parts.staged c.args.names.now c.items-pattern-items.result.now c.loop-pattern.pattern-index c.loop-pattern.lists.items c.loop-pattern-test.false c.loop-pattern.invariant.content in
-    subst (λ (v : List (List FileRef)). IfSome told (λ f. v ≡ lists_found f c.args.dir.now parts.staged c.args.names.now parts.patterns)) (sym c.of-2.ensures)
-    (subst (λ (v : List (List ℕ)). IfSome told (λ f. c.loop-pattern.lists.items ≡ lists_found f c.args.dir.now parts.staged c.args.names.now v)) c.items-pattern-items.ensures all)
+    subst (λ (v : List (List FileRef)). IfSome told (λ f. v ≡ lists_found (folder_of f c.args.dir.now) parts.staged c.args.names.now parts.patterns)) (sym c.of-2.ensures)
+    (subst (λ (v : List (List ℕ)). IfSome told (λ f. c.loop-pattern.lists.items ≡ lists_found (folder_of f c.args.dir.now) parts.staged c.args.names.now v)) c.items-pattern-items.ensures all)
 
 pub returns-clause-stored : goal.returns-clause-stored
 returns-clause-stored g c =

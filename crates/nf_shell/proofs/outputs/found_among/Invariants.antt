@@ -1,5 +1,6 @@
 use Rattle.std.proofs.Common.{◌≡◌, ◌≤◌, take, length, All}
 use Rattle.std.specs.Prelude.{IfSome}
+use Rattle.nf_host.specs.Folders.{folder_of}
 use Rattle.nf_host.specs.Told.{Both}
 use Rattle.nf_shell.specs.Outputs.{AreStored, lists_found, scratch_in}
 use Rattle.nf_shell.specs.Places.{KeepsOrStores}
@@ -11,6 +12,6 @@ invariant-loop-pattern g l = record {
   no_start : g.H.Host.started l.host ≡ g.H.Host.started l.initial.host;
   kept : Both (g.H.Host.files l.initial.host) (g.H.Host.files l.host) (KeepsOrStores l.work (scratch_in l.dir));
   number : length l.lists.items ≡ l.pattern-index;
-  content : IfSome (g.H.Host.files l.initial.host) (λ f. l.lists.items ≡ lists_found f l.dir l.parts.staged l.names (take l.pattern-index l.pattern-items));
+  content : IfSome (g.H.Host.files l.initial.host) (λ f. l.lists.items ≡ lists_found (folder_of f l.dir) l.parts.staged l.names (take l.pattern-index l.pattern-items));
   stored : IfSome (g.H.Host.files l.host) (λ f. All (AreStored l.work f) l.lists.items);
 }

@@ -1,5 +1,7 @@
 use Rattle.std.proofs.Common.{◌≡◌, ◌∙◌, rules, w32, to_z, of_z}
-use Rattle.nf_shell.proofs.Ending.{child_kept, exit_kept, read_kept, all_kept, report_told, start_then}
+use Rattle.std.specs.Fmt.{signed_decimal}
+use Rattle.nf_job.specs.declared.report.Report.{Report}
+use Rattle.nf_shell.proofs.Ending.{child_kept, exit_kept, read_kept, all_kept, ended_in, left_report, none_in, report_told, started_in}
 use Rattle.nf_shell.proofs.run.run_child.Goals as goal
 
 pub returns-in_err-exit-clause-kept : goal.returns-in_err-exit-clause-kept
@@ -29,6 +31,28 @@ returns-clause-report g c =
 
 pub returns-clause-started : goal.returns-clause-started
 returns-clause-started g c =
+    let report : Report = record { exit = to_z w32 (of_z w32 c.in_ok-exit.exit); captured = c.in_ok-captured.captured; found = c.in_ok-found.found } in
     let is : to_z w32 (of_z w32 c.in_ok-exit.exit) ≡ c.in_ok-exit.exit = search rules in
-    start_then (g.H.Host.files c.args.host.now) c.args.dir.now (to_z w32 (of_z w32 c.in_ok-exit.exit)) c.in_ok-exit.exit (g.H.Host.started c.args.host.now) (g.H.Host.started c.child.new.self) (g.H.Host.started c.found.new.host) is
+    let left = g.H.Host.files c.child.new.self in
+    ended_in (g.H.Host.files c.args.host.now) left c.args.dir.now c.args.parts.now report c.in_ok-exit.exit (g.H.Host.started c.args.host.now) (g.H.Host.started c.child.new.self) (g.H.Host.started c.found.new.host) is
     (c.found.ensures.no_start ∙ c.captured.ensures.no_start ∙ c.write_exit.ensures.no_start) c.in_ok-exit.ensures.start
+    (left_report left (g.H.Host.files c.write_exit.new.host) (g.H.Host.files c.captured.new.host) c.args.dir.now (signed_decimal report.exit) c.args.parts.now report c.in_ok-write_exit.ensures.written c.captured.ensures.same c.in_ok-captured.ensures.content c.in_ok-found.ensures.content)
+
+pub returns-in_err-exit-clause-starts : goal.returns-in_err-exit-clause-starts
+returns-in_err-exit-clause-starts g c = none_in (g.H.Host.files c.args.host.now) c.args.dir.now (g.H.Host.started c.args.host.now) (g.H.Host.started c.child.new.self) c.in_err-exit.ensures.no_start
+
+pub returns-in_err-write_exit-clause-starts : goal.returns-in_err-write_exit-clause-starts
+returns-in_err-write_exit-clause-starts g c =
+    started_in (g.H.Host.files c.args.host.now) (g.H.Host.files c.child.new.self) c.args.dir.now c.in_ok-exit.exit (g.H.Host.started c.args.host.now) (g.H.Host.started c.child.new.self) (g.H.Host.started c.write_exit.new.host) c.write_exit.ensures.no_start c.in_ok-exit.ensures.start
+
+pub returns-in_err-captured-clause-starts : goal.returns-in_err-captured-clause-starts
+returns-in_err-captured-clause-starts g c =
+    started_in (g.H.Host.files c.args.host.now) (g.H.Host.files c.child.new.self) c.args.dir.now c.in_ok-exit.exit (g.H.Host.started c.args.host.now) (g.H.Host.started c.child.new.self) (g.H.Host.started c.captured.new.host) (c.captured.ensures.no_start ∙ c.write_exit.ensures.no_start) c.in_ok-exit.ensures.start
+
+pub returns-in_err-found-clause-starts : goal.returns-in_err-found-clause-starts
+returns-in_err-found-clause-starts g c =
+    started_in (g.H.Host.files c.args.host.now) (g.H.Host.files c.child.new.self) c.args.dir.now c.in_ok-exit.exit (g.H.Host.started c.args.host.now) (g.H.Host.started c.child.new.self) (g.H.Host.started c.found.new.host) (c.found.ensures.no_start ∙ c.captured.ensures.no_start ∙ c.write_exit.ensures.no_start) c.in_ok-exit.ensures.start
+
+pub returns-clause-starts : goal.returns-clause-starts
+returns-clause-starts g c =
+    started_in (g.H.Host.files c.args.host.now) (g.H.Host.files c.child.new.self) c.args.dir.now c.in_ok-exit.exit (g.H.Host.started c.args.host.now) (g.H.Host.started c.child.new.self) (g.H.Host.started c.found.new.host) (c.found.ensures.no_start ∙ c.captured.ensures.no_start ∙ c.write_exit.ensures.no_start) c.in_ok-exit.ensures.start
