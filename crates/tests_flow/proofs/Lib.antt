@@ -1,2 +1,4 @@
 pub mod Taken
 pub mod Outs
+pub mod Stepped
+pub mod Paired

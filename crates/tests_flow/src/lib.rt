@@ -7,3 +7,5 @@ mod flights;
 mod nodes;
 #[cfg(test)]
 mod sets;
+#[cfg(test)]
+mod stepping;

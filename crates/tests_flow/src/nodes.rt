@@ -1,7 +1,7 @@
 //! Whole nodes.
 
 ghost use Rattle.std.specs.Prelude.{◌≡◌, IfOk};
-ghost use Rattle.tests_flow.specs.View.{view_node};
+ghost use Rattle.tests_flow.specs.View.{paired_node, view_node};
 
 use nf_bag::{OpFault, OpOpts, Row, Total};
 use nf_graph::{Node, NodeKind, Port, Ports};
@@ -12,7 +12,7 @@ use std::alloc::Global;
 use std::test::Fail;
 
 /// The operator `view`, which reads one output.
-fn view(alloc: Global) -> Result<Node, Mem>
+pub(crate) fn view(alloc: Global) -> Result<Node, Mem>
     ensures { IfOk result (λ n. n ≡ view_node) }
 {
     let mut ports = Vec::new(alloc);
@@ -65,6 +65,45 @@ fn an_operator_gives_what_it_takes(rt: HostRuntime) -> Result<(), Fail> {
     assert!(rt; *state.item(0, 0) == Value::Int(7));
     assert_eq!(rt; count_of(state.push(0, Value::Int(7), Value::Int(8)))?, 1);
     assert_eq!(rt; count_of(state.close(alloc))?, 0);
+    Ok(())
+}
+
+/// A process with a value port and a queue port.
+fn paired(alloc: Global) -> Result<Node, Mem>
+    ensures { IfOk result (λ n. n ≡ paired_node) }
+{
+    let mut ports = Vec::new(alloc);
+    ports.push(Port {
+        from: 0,
+        out: 0,
+        value: true,
+    })?;
+    ports.push(Port {
+        from: 0,
+        out: 0,
+        value: false,
+    })?;
+    Ok(Node {
+        kind: NodeKind::Process { queue: Some(1) },
+        ports: Ports::of(ports),
+        outs: 1,
+    })
+}
+
+#[test]
+fn equal_inputs_are_counted_beside_a_value(rt: HostRuntime) -> Result<(), Fail> {
+    let alloc = rt.alloc();
+    nf_spot::laws::rooms();
+    let node = paired(alloc)?;
+    let mut state = NodeState::begin(alloc, &node)?;
+    state.receive(0, Value::Int(5))?;
+    state.receive(1, Value::Int(7))?;
+    let first = state.take(alloc, &node, 1, 0)?;
+    assert_eq!(rt; first.inputs.len(), 2);
+    assert_eq!(rt; first.n, 0);
+    state.receive(1, Value::Int(7))?;
+    let second = state.take(alloc, &node, 1, 0)?;
+    assert_eq!(rt; second.n, 1);
     Ok(())
 }
 
