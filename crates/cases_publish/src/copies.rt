@@ -3,7 +3,8 @@
 use crate::parts::{digest, hex_of, sides};
 use anyhow::{Result, bail};
 use nf_host::{Host, HostRefusal, MemHost, Whole, read_whole};
-use nf_publish::{CopyRefusal, copy_out, stored_path};
+use nf_publish::{CopyRefusal, copy_out};
+use nf_shell::stored_path;
 use nf_tasks::Target;
 use nf_value::Digest;
 use std::alloc::Global;

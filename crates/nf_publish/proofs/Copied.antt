@@ -20,7 +20,9 @@ use Rattle.nf_publish.specs.declared.fault.CopyRefusal.{CopyRefusal}
 use Rattle.nf_publish.specs.declared.fault.CopyRefusal.TheVariants.{Host, Damaged}
 use Rattle.nf_publish.specs.Copies.{AreCopied, IsDamage, IsTrueOf, KeepsRest, is_target}
 use Rattle.nf_publish.specs.Copying.{Checks, IsOneDamage}
-use Rattle.nf_publish.specs.Store.{HasDigest, digest_in, found_digest, has_digest, stored_at}
+use Rattle.nf_shell.specs.Damages.{digest_in, found_digest, has_digest}
+use Rattle.nf_shell.specs.Folder.{HasDigest}
+use Rattle.nf_shell.specs.Places.{stored_at}
 use Rattle.nf_publish.specs.Targets.{HaveOneContent, IsPublished}
 use Rattle.nf_publish.proofs.Clashing.{published_either}
 

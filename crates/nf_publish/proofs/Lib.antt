@@ -1,4 +1,3 @@
 pub mod Clashing
 pub mod Copied
-pub mod Names
 pub mod Tests

@@ -8,7 +8,9 @@ use Rattle.nf_host.specs.declared.host.HostRefusal.TheVariants as host
 use Rattle.nf_tasks.specs.declared.target_list.Target.{Target}
 use Rattle.nf_publish.specs.declared.fault.CopyRefusal.{CopyRefusal}
 use Rattle.nf_publish.specs.declared.fault.CopyRefusal.TheVariants.{Host, Damaged}
-use Rattle.nf_publish.specs.Store.{HasDigest, digest_in, stored_at}
+use Rattle.nf_shell.specs.Damages.{digest_in}
+use Rattle.nf_shell.specs.Folder.{HasDigest}
+use Rattle.nf_shell.specs.Places.{stored_at}
 use Rattle.nf_publish.specs.Targets.{HaveOneContent, IsPublished}
 
 -- whether a file is published at this path

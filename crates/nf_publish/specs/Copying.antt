@@ -8,7 +8,7 @@ use Rattle.nf_tasks.specs.declared.target_list.Target.{Target}
 use Rattle.nf_publish.specs.declared.fault.CopyRefusal.{CopyRefusal}
 use Rattle.nf_publish.specs.declared.fault.CopyRefusal.TheVariants.{Host, Damaged}
 use Rattle.nf_publish.specs.Copies.{IsDamage}
-use Rattle.nf_publish.specs.Store.{found_digest, has_digest}
+use Rattle.nf_shell.specs.Damages.{found_digest, has_digest}
 
 -- a whole file with the digest that is due was found, or what was found is told, and is another
 abbrev pub Checks : Digested → Digest → Result (Unit {0}) CopyRefusal → Type 0

@@ -6,12 +6,12 @@ ghost use Rattle.nf_host.specs.Faults.{OnFailed, Rose};
 ghost use Rattle.nf_host.specs.Files.{KeepsOthers};
 ghost use Rattle.nf_host.specs.Told.{Both};
 ghost use Rattle.nf_publish.specs.Copies.{AreCopied, IsDamage, IsTrueOf, KeepsRest, OnHostFailed};
-ghost use Rattle.nf_publish.specs.Store.{HasDigest};
+ghost use Rattle.nf_shell.specs.Folder.{HasDigest};
 ghost use Rattle.nf_publish.specs.Copying.{Checks, IsOneDamage};
 
 use crate::fault::CopyRefusal;
-use crate::store::{found_digest, has_digest, stored_path};
 use nf_host::{Digested, FILE_LIMIT, Host, HostRefusal, copy_file, digest_file};
+use nf_shell::{found_digest, has_digest, stored_path};
 use nf_tasks::Target;
 use nf_value::{Digest, Mem};
 use std::alloc::Global;

@@ -6,9 +6,7 @@ mod copies;
 mod fault;
 mod lines;
 mod reports;
-mod store;
 
 pub use copies::copy_out;
 pub use fault::{Clash, CopyRefusal, PublishFault};
 pub use reports::report;
-pub use store::stored_path;
