@@ -36,23 +36,48 @@ pub(crate) fn filing(alloc: Global, parts: &str) -> Result<String> {
     let [call, old, bytes] = parts.as_slice() else {
         bail!("not three parts");
     };
+    let host = failing_host(alloc, call.trim())?;
+    over_files(alloc, host, old.trim(), bytes.trim())
+}
+
+/// The same over any host.
+fn over_files<H: Host + Drop>(alloc: Global, host: H, old: &str, bytes: &str) -> Result<String> {
     let job = printing(alloc, 1)?;
-    let mut keeper = in_files(alloc, failing_host(alloc, call.trim())?)?;
-    put_old(&mut keeper, job.key(), old.trim())?;
-    let tried = tried(alloc, &mut keeper, job.key(), bytes.trim())?;
-    let mut host = keeper.into_host();
+    let keeper = with_old(in_files(alloc, host)?, job.key(), old)?;
+    put_and_found(alloc, keeper, &job, bytes)
+}
+
+fn put_and_found<H: Host + Drop>(
+    alloc: Global,
+    keeper: FileKeeper<H>,
+    job: &Job,
+    bytes: &str,
+) -> Result<String> {
+    let mut keeper = keeper;
+    let tried = tried(alloc, &mut keeper, job.key(), bytes)?;
+    let found = found_later(alloc, keeper.into_host(), job)?;
+    Ok(format!(in alloc; "{tried}; {found}")?)
+}
+
+/// What another keeper of the folder finds for the job, and the file.
+fn found_later<H: Host + Drop>(alloc: Global, host: H, job: &Job) -> Result<String> {
+    let mut host = host;
     let file = file_of(alloc, &mut host, job.key())?;
-    let left = left(alloc, in_files(alloc, host)?, &job)?;
-    Ok(format!(in alloc; "{tried}; {left}; {file}")?)
+    let left = left(alloc, in_files(alloc, host)?, job)?;
+    Ok(format!(in alloc; "{left}; {file}")?)
 }
 
 /// Puts that many bytes more than a record may have over a keeper in files, and gets them: `MORE`.
 pub(crate) fn filing_long(alloc: Global, more: &str) -> Result<String> {
     let len = RECORD_LIMIT as usize + more.trim().parse::<u16>()? as usize;
-    let job = printing(alloc, 1)?;
-    let mut keeper = in_files(alloc, MemHost::new(alloc))?;
     let text = "x".repeat(alloc, len)?;
-    tried(alloc, &mut keeper, job.key(), text.as_str())
+    long_over(alloc, MemHost::new(alloc), text.as_str())
+}
+
+fn long_over<H: Host + Drop>(alloc: Global, host: H, text: &str) -> Result<String> {
+    let job = printing(alloc, 1)?;
+    let mut keeper = in_files(alloc, host)?;
+    tried(alloc, &mut keeper, job.key(), text)
 }
 
 fn failing_host(alloc: Global, call: &str) -> Result<MemHost> {
@@ -63,15 +88,16 @@ fn failing_host(alloc: Global, call: &str) -> Result<MemHost> {
     Ok(host)
 }
 
-fn in_files(alloc: Global, host: MemHost) -> Result<FileKeeper<MemHost>> {
+fn in_files<H: Host + Drop>(alloc: Global, host: H) -> Result<FileKeeper<H>> {
     Ok(FileKeeper::new(alloc, host, Txt::of(String::from_str(alloc, FOLDER)?)))
 }
 
-fn put_old<K: Keeper>(keeper: &mut K, key: &Digest, old: &str) -> Result<()> {
+fn with_old<K: Keeper + Drop>(keeper: K, key: &Digest, old: &str) -> Result<K> {
+    let mut keeper = keeper;
     if old != "-" {
         keeper.put(key, old.as_bytes())?;
     }
-    Ok(())
+    Ok(keeper)
 }
 
 /// The file of a key, and how many bytes it has.
