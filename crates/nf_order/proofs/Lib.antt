@@ -1,0 +1,11 @@
+pub mod Walks
+pub mod Standing
+pub mod Entering
+pub mod Calling
+pub mod Chaining
+pub mod Rows
+pub mod Arms
+pub mod Expressions
+pub mod Naming
+pub mod Indexes
+pub mod Ending

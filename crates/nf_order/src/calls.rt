@@ -1,0 +1,224 @@
+//! Judges calls, and enters workflows.
+
+ghost use Rattle.std.specs.Prelude.{◌≡◌, ◌≤◌, ◌+◌, ◌==◌, ◌||◌, ◌++◌, ◌∷◌, [], suc, false, IfOk, OnOk};
+ghost use Rattle.nf_ast.specs.Tops.{view_workflow_body};
+ghost use Rattle.nf_builtins.specs.Natives.{is_among};
+ghost use Rattle.nf_slips.specs.Memory.{body_depth, weight};
+ghost use Rattle.nf_order.specs.Callees.{call_of, entered as entered_by, operator_on as operator_on_by, unless_unknown as unless_unknown_by};
+ghost use Rattle.nf_order.specs.Natives.{by_tables};
+ghost use Rattle.nf_order.specs.Standing.{Gives, around_of, call_now, led_from, rest as rest_of};
+
+use crate::around::{Around, State};
+use crate::natives::is_source_or_method;
+use crate::subject::{Head, Subject, read_head};
+use crate::workflows::run;
+use nf_ast::WorkflowBody;
+use nf_kinds::{Given, Kinds, Shape, any_unknown};
+use nf_opkinds::{member_call, process_call, source_call};
+use nf_optable::operator_named;
+use nf_slips::{Definition, find_definition, output_names};
+use nf_value::{Mem, Place, Txt};
+
+/// What an expression may be that is read to its end.
+#[cycle(judge)]
+pub(crate) fn settle(subject: Subject, around: &Around<'_>, state: &mut State) -> Result<Shape, Mem>
+    ensures { IfOk result (λ v. Gives (rest_of (around_of around.now) subject).thing state.old v state.new) }
+{
+    let Subject { head, args } = subject;
+    match args {
+        None => read_head(head, around, state),
+        Some(args) => called(head, &args, around, state),
+    }
+}
+
+#[cycle(judge)]
+pub(crate) fn called(
+    head: Head,
+    args: &[Given],
+    around: &Around<'_>,
+    state: &mut State,
+) -> Result<Shape, Mem>
+    ensures { IfOk result (λ v. Gives (call_now (around_of around.now) head args.now) state.old v state.new) }
+{
+    match head {
+        Head::Value(shape) => {
+            let is_unknown = shape.kinds().unknown || any_unknown(args);
+            Ok(Shape::alone(Kinds::plain_unless(is_unknown)))
+        }
+        Head::Name(place, name) => call(place, &name, args, around, state),
+        Head::Member(shape, place, name) => member_call(
+            around.alloc,
+            place,
+            name.as_str(),
+            shape,
+            args,
+            &mut state.scope,
+            &mut state.broken,
+        ),
+        Head::Source(name) => Ok(Shape::alone(source_call(name.as_str(), args))),
+    }
+}
+
+/// A call by a name.
+#[cycle(judge)]
+pub(crate) fn call(
+    place: Place,
+    name: &Txt,
+    args: &[Given],
+    around: &Around<'_>,
+    state: &mut State,
+) -> Result<Shape, Mem>
+    ensures { IfOk result (λ v. Gives (call_of ((around_of around.now).callee name.now) place name.now args.now) state.old v state.new) }
+{
+    match find_definition(around.tops, name.as_str()) {
+        Definition::Nothing => undefined(place, name, args, around, state),
+        Definition::Function => Ok(Shape::alone(Kinds::plain_unless(any_unknown(args)))),
+        Definition::Process(process) => {
+            let names = output_names(around.alloc, &process.outputs)?;
+            process_call(
+                around.alloc,
+                place,
+                name,
+                names,
+                args,
+                &mut state.scope,
+                &mut state.broken,
+            )
+        }
+        Definition::Workflow(workflow) => enter(workflow, name, args, around, state),
+    }
+}
+
+/// A call by a name that the script doesn't define: of an operator, or of a function of the program, if no table has it.
+fn undefined(
+    place: Place,
+    name: &Txt,
+    args: &[Given],
+    around: &Around<'_>,
+    state: &mut State,
+) -> Result<Shape, Mem>
+    ensures { IfOk result (λ v. Gives (call_of (by_tables name.now) place name.now args.now) state.old v state.new) }
+{
+    if operator_named(name.as_str()).is_some() {
+        return operator_on(place, name, args, around, state);
+    }
+    if is_source_or_method(around.alloc, name.as_str())? {
+        return Ok(Shape::alone(Kinds::unknown()));
+    }
+    Ok(Shape::alone(Kinds::plain_unless(any_unknown(args))))
+}
+
+/// `view(ch)` is `ch.view()`; a plain value becomes a value channel.
+fn operator_on(
+    place: Place,
+    name: &Txt,
+    args: &[Given],
+    around: &Around<'_>,
+    state: &mut State,
+) -> Result<Shape, Mem>
+    ensures { IfOk result (λ v. Gives (operator_on_by place name.now args.now) state.old v state.new) }
+{
+    match args {
+        [] => Ok(Shape::alone(Kinds::unknown())),
+        [first, rest @ ..] => {
+            let kinds = first.shape.kinds().as_channel();
+            let shape = first.shape.copy(around.alloc)?.with_kinds(kinds);
+            member_call(
+                around.alloc,
+                place,
+                name.as_str(),
+                shape,
+                rest,
+                &mut state.scope,
+                &mut state.broken,
+            )
+        }
+    }
+}
+
+/// A call of a workflow, which isn't entered where the call leads back to it. What a call with something unknown gives is unknown.
+#[cycle(judge)]
+fn enter(
+    workflow: &WorkflowBody,
+    name: &Txt,
+    args: &[Given],
+    around: &Around<'_>,
+    state: &mut State,
+) -> Result<Shape, Mem>
+    requires lighter { is_among name.now around.now.within.now ≡ false → suc (body_depth workflow.now) + weight around.now.tops.now (around.now.within.now ++ name.now ∷ []) ≤ weight around.now.tops.now around.now.within.now }
+    ensures { IfOk result (λ v. Gives (entered_by name.now args.now (led_from around.now name.now (view_workflow_body workflow.now) args.now)) state.old v state.new) }
+{
+    let inside = entered(workflow, name, args, around, state)?;
+    let shape = unless_unknown(args, inside);
+    state.scope.add_call(name, shape.copy(around.alloc)?)?;
+    Ok(shape)
+}
+
+/// What a call gives, where its workflow gives this.
+fn unless_unknown(args: &[Given], shape: Shape) -> Shape
+    ensures { result ≡ unless_unknown_by args.now shape }
+{
+    if any_unknown(args) {
+        return Shape::alone(Kinds::unknown());
+    }
+    shape
+}
+
+/// What a workflow gives for these arguments.
+#[cycle(judge)]
+fn entered(
+    workflow: &WorkflowBody,
+    name: &Txt,
+    args: &[Given],
+    around: &Around<'_>,
+    state: &mut State,
+) -> Result<Shape, Mem>
+    requires lighter { is_among name.now around.now.within.now ≡ false → suc (body_depth workflow.now) + weight around.now.tops.now (around.now.within.now ++ name.now ∷ []) ≤ weight around.now.tops.now around.now.within.now }
+    ensures gives { IfOk result (λ v. v ≡ (led_from around.now name.now (view_workflow_body workflow.now) args.now).gives) }
+    ensures broken { OnOk result (state.new.broken.items ≡ state.old.broken.items ++ (led_from around.now name.now (view_workflow_body workflow.now) args.now).broken) }
+    ensures scope { OnOk result (state.new.scope ≡ state.old.scope) }
+{
+    if leads_back(around, name) {
+        return Ok(Shape::alone(Kinds::unknown()));
+    }
+    let within = with_name(around, name)?;
+    let inner = Around {
+        alloc: around.alloc,
+        tops: around.tops,
+        within: &within,
+        left: around.left - 1,
+        unknown: around.unknown,
+    };
+    run(workflow, args, &inner, &mut state.broken)
+}
+
+/// Whether a call leads back to its workflow, or no call is left.
+fn leads_back(around: &Around<'_>, name: &Txt) -> bool
+    ensures { result ≡ (around.now.left == 0 || is_among name.now around.now.within.now) }
+{
+    around.left == 0 || has_name(around.within, name.as_str())
+}
+
+/// Whether a name is among these.
+fn has_name(names: &[Txt], name: &str) -> bool
+    ensures { result ≡ is_among name.now names.now }
+{
+    for other in names {
+        if other.as_str() == name {
+            return true;
+        }
+    }
+    false
+}
+
+/// The workflows that calls led to, and one after them.
+fn with_name(around: &Around<'_>, name: &Txt) -> Result<Vec<Txt>, Mem>
+    ensures { IfOk result (λ v. v.items ≡ around.now.within.now ++ name.now ∷ []) }
+{
+    let mut names = Vec::new(around.alloc);
+    for other in around.within {
+        names.push(other.copy()?)?;
+    }
+    names.push(name.copy()?)?;
+    Ok(names)
+}

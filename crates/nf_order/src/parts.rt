@@ -1,0 +1,392 @@
+//! Judges the parts after an expression: properties, indexes, calls and closures.
+
+ghost use Rattle.std.specs.Prelude.{◌≡◌, ◌++◌, ◌∷◌, [], map, option_map, None, IfOk, if◌then◌else◌};
+ghost use Rattle.nf_ast.specs.Tree.{empty};
+ghost use Rattle.nf_ast.specs.View.{view, view_arg, view_closure, view_postfix, trees};
+ghost use Rattle.nf_kinds.specs.Kinds.{alone as alone_of};
+ghost use Rattle.nf_kinds.specs.Scope.{bound_in};
+ghost use Rattle.nf_slips.specs.Forms.{facts_of};
+ghost use Rattle.nf_slips.specs.Memory.{view_form};
+ghost use Rattle.nf_value.specs.declared.place.Place.{Place};
+ghost use Rattle.nf_order.specs.Parts as spec;
+ghost use Rattle.nf_order.specs.declared.subject.Head.TheVariants as heads;
+ghost use Rattle.nf_order.specs.Standing.{Gives, IsCalledBy, Stands, around_of, after_index, after_part, after_parts, args_or_none, marked_by, option_name as option_name_of, rest as rest_of, uncalled, view_index};
+
+use crate::around::{Around, State};
+use crate::calls::{called, settle};
+use crate::exprs::value;
+use crate::subject::{Head, Subject, read_head};
+use nf_ast::{Arg, ClosureExpr, Expr, Postfix, Prefix, PrefixOperator};
+use nf_kinds::{ClosureFacts, Given, Key, Kinds, Shape};
+use nf_slips::{Form, closure_kinds, facts, read_form};
+use nf_value::{Mem, Place, Txt};
+
+/// An expression with the parts after it.
+#[cycle(judge)]
+pub(crate) fn parts(
+    first: Subject,
+    rest: &[Postfix],
+    around: &Around<'_>,
+    state: &mut State,
+) -> Result<Subject, Mem>
+    ensures { IfOk result (λ x. Stands (after_parts (around_of around.now) (rest_of (around_of around.now) first) (map view_postfix rest.now)) (rest_of (around_of around.now) x) state.old state.new) }
+{
+    let mut so_far = first;
+    for part in rest {
+        so_far = with_part(so_far, part, around, state)?;
+    }
+    Ok(so_far)
+}
+
+#[cycle(judge)]
+fn with_part(
+    before: Subject,
+    part: &Postfix,
+    around: &Around<'_>,
+    state: &mut State,
+) -> Result<Subject, Mem>
+    ensures { IfOk result (λ x. Stands (after_part (around_of around.now) (rest_of (around_of around.now) before) (view_postfix part.now)) (rest_of (around_of around.now) x) state.old state.new) }
+{
+    match part {
+        Postfix::Property(place, name) => with_member(before, *place, name, around, state),
+        Postfix::SafeProperty(place, name) => member_of(before, *place, name, around, state),
+        Postfix::Index(_, index) => with_index(before, index, around, state),
+        Postfix::Call(_, list) => with_args(before, list, around, state),
+        Postfix::With(closure) => with_closure(before, closure, around, state),
+    }
+}
+
+/// `e.name`.
+#[cycle(judge)]
+fn with_member(
+    before: Subject,
+    place: Place,
+    name: &Txt,
+    around: &Around<'_>,
+    state: &mut State,
+) -> Result<Subject, Mem>
+    ensures { IfOk result (λ x. Stands (spec.of_property empty (rest_of (around_of around.now) before) place name.now) (rest_of (around_of around.now) x) state.old state.new) }
+{
+    let Subject { head, args } = before;
+    match args {
+        None => member_of_head(head, place, name, around, state),
+        Some(args) => {
+            let shape = called(head, &args, around, state)?;
+            Subject::member(shape, place, name)
+        }
+    }
+}
+
+/// `e.name`, where e isn't called.
+fn member_of_head(
+    head: Head,
+    place: Place,
+    name: &Txt,
+    around: &Around<'_>,
+    state: &State,
+) -> Result<Subject, Mem>
+    ensures { IfOk result (λ x. Stands (spec.of_property empty (uncalled (around_of around.now) head) place name.now) (rest_of (around_of around.now) x) state.now state.now) }
+{
+    match head {
+        Head::Name(_, object) => part_of_name(&object, place, name, around, state),
+        other => {
+            let shape = read_head(other, around, state)?;
+            Subject::member(shape, place, name)
+        }
+    }
+}
+
+/// A part of what an expression gives.
+#[cycle(judge)]
+fn member_of(
+    before: Subject,
+    place: Place,
+    name: &Txt,
+    around: &Around<'_>,
+    state: &mut State,
+) -> Result<Subject, Mem>
+    ensures { IfOk result (λ x. Stands (spec.of_safe_property empty (rest_of (around_of around.now) before) place name.now) (rest_of (around_of around.now) x) state.old state.new) }
+{
+    let shape = settle(before, around, state)?;
+    Subject::member(shape, place, name)
+}
+
+/// `m.name`, where m is a name: what binds it in the body comes first.
+fn part_of_name(
+    object: &Txt,
+    place: Place,
+    name: &Txt,
+    around: &Around<'_>,
+    state: &State,
+) -> Result<Subject, Mem>
+    ensures { IfOk result (λ x. (p : Place) → Stands (spec.of_property empty (uncalled (around_of around.now) (heads.Name p object.now)) place name.now) (rest_of (around_of around.now) x) state.now state.now) }
+{
+    match state.scope.bound(object.as_str()) {
+        Some(shape) => {
+            let shape = shape.copy(around.alloc)?;
+            Subject::member(shape, place, name)
+        }
+        None => part_of_word(object, place, name, around, state),
+    }
+}
+
+/// `channel.name`, `Math.name`, `P.out` and the like.
+fn part_of_word(
+    object: &Txt,
+    place: Place,
+    name: &Txt,
+    around: &Around<'_>,
+    state: &State,
+) -> Result<Subject, Mem>
+    requires free { bound_in object.now state.now.scope ≡ None }
+    ensures { IfOk result (λ x. (p : Place) → Stands (spec.of_property empty (uncalled (around_of around.now) (heads.Name p object.now)) place name.now) (rest_of (around_of around.now) x) state.now state.now) }
+{
+    if object.as_str() == "channel" || object.as_str() == "Channel" {
+        return Ok(Subject::of(Head::Source(name.copy()?)));
+    }
+    match state.scope.call(object.as_str()) {
+        Some(shape) if name.as_str() == "out" => {
+            Ok(Subject::of(Head::Value(shape.copy(around.alloc)?)))
+        }
+        _ => {
+            let shape = free_shape(object, around, state)?;
+            Subject::member(shape, place, name)
+        }
+    }
+}
+
+/// What a name is before a dot that nothing binds in the body.
+fn free_shape(object: &Txt, around: &Around<'_>, state: &State) -> Result<Shape, Mem>
+    requires free { bound_in object.now state.now.scope ≡ None }
+    ensures { IfOk result (λ v. v ≡ alone_of (spec.free_kind object.now)) }
+{
+    if object.as_str() == "Math" {
+        return Ok(Shape::alone(Kinds::plain()));
+    }
+    state.scope.read(around.alloc, object.as_str())
+}
+
+/// `e[i]`.
+#[cycle(judge)]
+fn with_index(
+    before: Subject,
+    index: &Expr,
+    around: &Around<'_>,
+    state: &mut State,
+) -> Result<Subject, Mem>
+    ensures { IfOk result (λ x. Stands (after_index (around_of around.now) (rest_of (around_of around.now) before) (view index.now)) (rest_of (around_of around.now) x) state.old state.new) }
+{
+    let shape = settle(before, around, state)?;
+    let place = value(index, around, state)?;
+    if place.kinds().unknown {
+        return Ok(Subject::of_kind(Kinds::unknown()));
+    }
+    Ok(Subject::of_kind(indexed(index, &shape)))
+}
+
+/// What an index is, as far as it is known before a run.
+#[derive(Drop)]
+enum Index {
+    /// A number.
+    At(i64),
+    /// A number with a minus before it.
+    Below(i64),
+    /// Anything else.
+    Other,
+}
+
+fn indexed(index: &Expr, shape: &Shape) -> Kinds
+    ensures { result ≡ spec.index_kind (view index.now) shape.now }
+{
+    match read_index(index) {
+        Index::At(number) => at_number(number, shape),
+        Index::Below(number) => below(number, shape),
+        Index::Other => shape.some_output(),
+    }
+}
+
+fn read_index(expr: &Expr) -> Index
+    ensures { view_index result ≡ spec.index_of (view expr.now) }
+{
+    match expr {
+        Expr::Number(_, number) => Index::At(*number),
+        Expr::Prefix(operators, of) => after_prefixes(operators, read_index(of)),
+        Expr::Infix(first, rest) => alone(rest.is_empty(), read_index(first)),
+        Expr::Conditional(first, rest) => alone(rest.is_empty(), read_index(first)),
+        Expr::Postfix(first, rest) => alone(rest.is_empty(), read_index(first)),
+        Expr::Text(_, _, _)
+        | Expr::Pattern(_, _)
+        | Expr::Template(_, _, _)
+        | Expr::Truth(_, _)
+        | Expr::Null(_)
+        | Expr::Name(_, _)
+        | Expr::List(_, _)
+        | Expr::Map(_, _)
+        | Expr::Closure(_) => Index::Other,
+    }
+}
+
+/// The index, if it stands alone in its node.
+fn alone(is_alone: bool, index: Index) -> Index
+    ensures { view_index result ≡ (if is_alone then view_index index else spec.other) }
+{
+    if is_alone { index } else { Index::Other }
+}
+
+fn after_prefixes(operators: &[Prefix], index: Index) -> Index
+    ensures { view_index result ≡ marked_by operators.now (view_index index) }
+{
+    match operators {
+        [] => index,
+        [one] => after_prefix(one.operator, index),
+        _ => Index::Other,
+    }
+}
+
+fn after_prefix(operator: PrefixOperator, index: Index) -> Index
+    ensures { view_index result ≡ spec.marked operator (view_index index) }
+{
+    match (operator, index) {
+        (PrefixOperator::Minus, Index::At(number)) => Index::Below(number),
+        _ => Index::Other,
+    }
+}
+
+fn at_number(number: i64, shape: &Shape) -> Kinds
+    ensures { result ≡ spec.at_number number shape.now }
+{
+    match usize::try_from(number) {
+        Ok(place) => shape.output(&Key::At(place)),
+        Err(_) => no_output(shape),
+    }
+}
+
+fn below(number: i64, shape: &Shape) -> Kinds
+    ensures { result ≡ spec.at_number (spec.below number) shape.now }
+{
+    if number > 0 {
+        return no_output(shape);
+    }
+    match usize::try_from(number.unsigned_abs()) {
+        Ok(place) => shape.output(&Key::At(place)),
+        Err(_) => no_output(shape),
+    }
+}
+
+/// What an index is that no output has: unknown, or a part of a plain value.
+fn no_output(shape: &Shape) -> Kinds
+    ensures { result ≡ spec.no_output_of shape.now }
+{
+    let kinds = shape.kinds();
+    if shape.has_outputs() {
+        return Kinds::plain_unless(!kinds.plain);
+    }
+    Kinds::plain_unless(kinds.unknown)
+}
+
+/// `e(..)`.
+#[cycle(judge)]
+fn with_args(
+    before: Subject,
+    list: &[Arg],
+    around: &Around<'_>,
+    state: &mut State,
+) -> Result<Subject, Mem>
+    ensures { IfOk result (λ x. Stands (spec.of_call empty (rest_of (around_of around.now) before) (spec.part_of (around_of around.now) (trees (map view_arg list.now))).arguments) (rest_of (around_of around.now) x) state.old state.new) }
+{
+    let head = callable(before, around, state)?;
+    let given = args(list, around, state)?;
+    Ok(Subject::called(head, given))
+}
+
+/// What is called by arguments: what isn't called yet, or the result of a call.
+#[cycle(judge)]
+fn callable(before: Subject, around: &Around<'_>, state: &mut State) -> Result<Head, Mem>
+    ensures { IfOk result (λ h. IsCalledBy (around_of around.now) (rest_of (around_of around.now) before) h state.old state.new) }
+{
+    let Subject { head, args } = before;
+    match args {
+        None => Ok(head),
+        Some(args) => Ok(Head::Value(called(head, &args, around, state)?)),
+    }
+}
+
+#[cycle(judge)]
+fn args(list: &[Arg], around: &Around<'_>, state: &mut State) -> Result<Vec<Given>, Mem>
+    ensures { IfOk result (λ v. Gives (spec.all_given (spec.part_of (around_of around.now) (trees (map view_arg list.now))).arguments) state.old v.items state.new) }
+{
+    let mut given = Vec::new(around.alloc);
+    for one in list {
+        let last = arg(one, around, state)?;
+        given.push(last)?;
+    }
+    Ok(given)
+}
+
+#[cycle(judge)]
+fn arg(arg: &Arg, around: &Around<'_>, state: &mut State) -> Result<Given, Mem>
+    ensures { IfOk result (λ v. Gives (spec.part_of (around_of around.now) (view_arg arg.now)).argument state.old v state.new) }
+{
+    let shape = value(&arg.value, around, state)?;
+    let option = option_name(arg)?;
+    let closure = closure_facts(read_form(&arg.value), around)?;
+    Ok(Given {
+        option,
+        shape,
+        closure,
+    })
+}
+
+/// The name before an argument's colon.
+fn option_name(arg: &Arg) -> Result<Option<Txt>, Mem>
+    ensures { IfOk result (λ n. n ≡ option_name_of arg.now.name) }
+{
+    match &arg.name {
+        Some((_, name)) => Ok(Some(name.copy()?)),
+        None => Ok(None),
+    }
+}
+
+/// What an argument is to an operator, if it is a closure.
+fn closure_facts(form: Form<'_>, around: &Around<'_>) -> Result<Option<ClosureFacts>, Mem>
+    ensures { IfOk result (λ f. f ≡ facts_of (view_form form.entry)) }
+{
+    match form {
+        Form::Closure(closure) => Ok(Some(facts(around.alloc, closure)?)),
+        _ => Ok(None),
+    }
+}
+
+/// `e { .. }`: the closure is the last argument.
+fn with_closure(
+    before: Subject,
+    closure: &ClosureExpr,
+    around: &Around<'_>,
+    state: &mut State,
+) -> Result<Subject, Mem>
+    ensures { IfOk result (λ x. Stands (spec.of_closed empty (rest_of (around_of around.now) before) (spec.part_of (around_of around.now) (view_closure closure.now)).argument) (rest_of (around_of around.now) x) state.old state.new) }
+{
+    let kinds = closure_kinds(
+        around.alloc,
+        closure,
+        around.unknown,
+        &state.scope,
+        &mut state.broken,
+    )?;
+    let last = Given {
+        option: None,
+        shape: Shape::alone(kinds),
+        closure: Some(facts(around.alloc, closure)?),
+    };
+    let Subject { head, args } = before;
+    Ok(Subject::called(head, with_last(args, last, around)?))
+}
+
+/// The arguments, and one after them.
+fn with_last(args: Option<Vec<Given>>, last: Given, around: &Around<'_>) -> Result<Vec<Given>, Mem>
+    ensures { IfOk result (λ v. v.items ≡ args_or_none (option_map (λ v. v.items) args) ++ last ∷ []) }
+{
+    let mut given = args.unwrap_or(Vec::new(around.alloc));
+    given.push(last)?;
+    Ok(given)
+}

@@ -1,0 +1,116 @@
+//! Judges pipes: `a | f` is `f(a)`.
+
+ghost use Rattle.std.specs.Prelude.{◌≡◌, ◌∷◌, ◌||◌, [], map, option_map, IfOk};
+ghost use Rattle.nf_kinds.specs.Scope.{bound_in};
+ghost use Rattle.nf_ast.specs.Tops.{view_top};
+ghost use Rattle.nf_ast.specs.View.{trees};
+ghost use Rattle.nf_slips.specs.Definitions.{definition_in};
+ghost use Rattle.nf_order.specs.Parts.{beside as beside_by, handed};
+ghost use Rattle.nf_order.specs.declared.subject.Head.TheVariants as heads;
+ghost use Rattle.nf_order.specs.Standing.{Gives, around_of, uncalled, args_or_none, is_free_task as is_free_task_by, is_task as is_task_by, rest as rest_of};
+
+use crate::around::{Around, State};
+use crate::calls::{call, called, settle};
+use crate::subject::{Head, Subject, plain_of, read_head};
+use nf_kinds::{Given, Shape};
+use nf_slips::{Definition, find_definition};
+use nf_value::{Mem, Place, Txt};
+
+/// What stands before a `|`: the name of a process or a workflow is its call, if nothing in the body has the name.
+#[cycle(judge)]
+pub(crate) fn pipe_first(
+    first: Subject,
+    around: &Around<'_>,
+    state: &mut State,
+) -> Result<Shape, Mem>
+    ensures { IfOk result (λ v. Gives (rest_of (around_of around.now) first).head state.old v state.new) }
+{
+    let Subject { head, args } = first;
+    match args {
+        None => first_head(head, around, state),
+        Some(args) => called(head, &args, around, state),
+    }
+}
+
+#[cycle(judge)]
+fn first_head(head: Head, around: &Around<'_>, state: &mut State) -> Result<Shape, Mem>
+    ensures { IfOk result (λ v. Gives (uncalled (around_of around.now) head).head state.old v state.new) }
+{
+    match head {
+        Head::Name(place, name) => first_name(place, name, around, state),
+        other => read_head(other, around, state),
+    }
+}
+
+#[cycle(judge)]
+fn first_name(place: Place, name: Txt, around: &Around<'_>, state: &mut State) -> Result<Shape, Mem>
+    ensures { IfOk result (λ v. Gives (uncalled (around_of around.now) (heads.Name place name)).head state.old v state.new) }
+{
+    if is_free_task(around, state, name.as_str()) {
+        return call(place, &name, &[], around, state);
+    }
+    state.scope.read(around.alloc, name.as_str())
+}
+
+/// Whether a name is that of a process or a workflow, and nothing in the body has it.
+fn is_free_task(around: &Around<'_>, state: &State, name: &str) -> bool
+    ensures { result ≡ is_free_task_by (bound_in name.now state.now.scope) (definition_in name.now (trees (map view_top around.now.tops.now))) }
+{
+    match state.scope.bound(name) {
+        Some(_) => false,
+        None => is_task(around, name),
+    }
+}
+
+/// Whether a name is that of a process or a workflow.
+fn is_task(around: &Around<'_>, name: &str) -> bool
+    ensures { result ≡ is_task_by (definition_in name.now (trees (map view_top around.now.tops.now))) }
+{
+    matches!(
+        find_definition(around.tops, name),
+        Definition::Process(_) | Definition::Workflow(_)
+    )
+}
+
+/// What stands after a `|`, with what stands before it.
+#[cycle(judge)]
+pub(crate) fn pipe_to(
+    left: Shape,
+    right: Subject,
+    around: &Around<'_>,
+    state: &mut State,
+) -> Result<Shape, Mem>
+    ensures { IfOk result (λ v. Gives ((rest_of (around_of around.now) right).piped (handed left)) state.old v state.new) }
+{
+    let Subject { head, args } = right;
+    match head {
+        Head::Name(place, name) => {
+            let given = with_first(left, args, around)?;
+            call(place, &name, &given, around, state)
+        }
+        other => beside(left, Subject { head: other, args }, around, state),
+    }
+}
+
+/// What stands before a `|` as the first of the arguments.
+fn with_first(left: Shape, args: Option<Vec<Given>>, around: &Around<'_>) -> Result<Vec<Given>, Mem>
+    ensures { IfOk result (λ v. v.items ≡ handed left ∷ args_or_none (option_map (λ v. v.items) args)) }
+{
+    let mut given = args.unwrap_or(Vec::new(around.alloc));
+    let first = Given {
+        option: None,
+        shape: left,
+        closure: None,
+    };
+    given.insert(0, first)?;
+    Ok(given)
+}
+
+/// What is no process, workflow or operator, after what stands before it.
+#[cycle(judge)]
+fn beside(left: Shape, right: Subject, around: &Around<'_>, state: &mut State) -> Result<Shape, Mem>
+    ensures { IfOk result (λ v. Gives (beside_by (handed left) (rest_of (around_of around.now) right).thing) state.old v state.new) }
+{
+    let right = settle(right, around, state)?;
+    Ok(plain_of(&left, &right))
+}
