@@ -1,0 +1,10 @@
+pub mod Opening
+pub mod Told
+pub mod Records
+pub mod Causes
+pub mod Run
+pub mod Leaves
+pub mod Kept
+pub mod Ran
+pub mod Calls
+pub mod Promises
