@@ -25,6 +25,7 @@ fn shown_end(alloc: Global, end: &End) -> Result<String> {
         End::Lex(fault) => Ok(format!(in alloc; "Lex {fault}")?),
         End::Parse(fault) => shown_parse(alloc, *fault),
         End::Unbuilt { place } => Ok(format!(in alloc; "Unbuilt at {place}")?),
+        End::Order { rule, place } => Ok(format!(in alloc; "{rule} at {place}")?),
         end => Ok(String::from_str(alloc, name(end))?),
     }
 }

@@ -9,6 +9,7 @@ pub(crate) fn words(alloc: Global, parts: &str) -> Result<String> {
     let words = split(alloc, parts)?;
     match read_words(alloc, &words) {
         Ok(Command::Fmt(fmt)) => Ok(format!(in alloc; "fmt {}", fmt.file.as_str())?),
+        Ok(Command::Check(check)) => Ok(format!(in alloc; "check {}", check.file.as_str())?),
         Ok(Command::Run(run)) => Ok(format!(in alloc; "run {}", run.file.as_str())?),
         Err(fault) => Ok(format!(in alloc; "{fault}")?),
     }

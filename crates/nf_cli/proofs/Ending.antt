@@ -16,7 +16,7 @@ use Rattle.nf_cli.specs.declared.ends.End.{End}
 use Rattle.nf_cli.specs.declared.ends.End.TheVariants as end
 use Rattle.nf_cli.specs.declared.ends.ItemCause.TheVariants.{Eval}
 use Rattle.nf_cli.specs.declared.works.Output.{Output}
-use Rattle.nf_cli.specs.Outcome.{Outcome, runs, formats, misused, absent, unlexed, unparsed, unbuilt}
+use Rattle.nf_cli.specs.Outcome.{Outcome, runs, formats, accepts, disordered, misused, absent, unlexed, unparsed, unbuilt}
 use Rattle.nf_cli.specs.Means.{Means}
 use Rattle.nf_cli.specs.Due.{RunEnds, MayEnd, Ended, as_due, host_failed, no_memory, StopEnds, EndsByStop, OnHostFault, OnLaneFault, WroteOutput, WroteDue, WroteOutcome, OnOutput, OutputStands, Tells, EndsOver}
 use Rattle.nf_cli.specs.Work.{WorkGives, HasWorked, IsDue, IsRefusal, IsWritten, IsKept, EndsAs, output_text}
@@ -33,6 +33,7 @@ same_or_memory P m before end.NoScript h k = subst P (sym k) h
 same_or_memory P m before (end.Lex p) h k = subst P (sym k) h
 same_or_memory P m before (end.Parse p) h k = subst P (sym k) h
 same_or_memory P m before (end.Unbuilt p) h k = subst P (sym k) h
+same_or_memory P m before (end.Order r p) h k = subst P (sym k) h
 same_or_memory P m before end.HostFault h k = subst P (sym k) h
 same_or_memory P m before end.LaneFault h k = subst P (sym k) h
 same_or_memory P m before end.SinkFault h k = subst P (sym k) h
@@ -48,6 +49,7 @@ written P a b end.NoScript w = absurd w
 written P a b (end.Lex p) w = absurd w
 written P a b (end.Parse p) w = absurd w
 written P a b (end.Unbuilt p) w = absurd w
+written P a b (end.Order r p) w = absurd w
 written P a b end.HostFault w = absurd w
 written P a b end.LaneFault w = absurd w
 written P a b end.Mem w = absurd w
@@ -58,6 +60,8 @@ written P a b end.Mem w = absurd w
 due_may : (outcome : Outcome) (h : List Event) (o : Output) (e : End) → IsDue outcome h o → IsWritten e → MayEnd outcome h e
 due_may (runs form) h o e due k = written (RunEnds form h) due.well due.well e k
 due_may (formats tree) h o e due k = written (MayEnd (formats tree) h) tt tt e k
+due_may accepts h o e due k = written (MayEnd accepts h) tt tt e k
+due_may (disordered q) h o e due k = absurd due
 due_may (misused f) h o e due k = absurd due
 due_may absent h o e due k = absurd due
 due_may (unlexed f) h o e due k = absurd due
@@ -74,6 +78,8 @@ ended env words files h (Err before) e g k = same_or_memory (Ended env words fil
 memory_may : (o : Outcome) (h : List Event) → MayEnd o h end.Mem
 memory_may (runs form) h = tt
 memory_may (formats tree) h = tt
+memory_may accepts h = tt
+memory_may (disordered q) h = tt
 memory_may (misused due) h = tt
 memory_may absent h = tt
 memory_may (unlexed due) h = tt
@@ -84,6 +90,8 @@ memory_may (unbuilt due) h = tt
 host_may : (env : Env) (words : List (List ℕ)) (files : Files) (h : List Event) (command : Command) → command_of words ≡ Ok command → h ≡ [] → (o : Outcome) → Means env words files o → MayEnd o h end.HostFault
 host_may env words files h command right nothing (runs form) means = nothing
 host_may env words files h command right nothing (formats tree) means = tt
+host_may env words files h command right nothing accepts means = tt
+host_may env words files h command right nothing (disordered q) means = tt
 host_may env words files h command right nothing (misused due) means = absurd (let e : ◌≡◌ {A = Result Command UsageFault} (Ok command) (Err due) = sym right ∙ means in cc)
 host_may env words files h command right nothing absent means = tt
 host_may env words files h command right nothing (unlexed due) means = tt
@@ -110,10 +118,13 @@ run_stops form h end.NoScript w = absurd w
 run_stops form h (end.Lex p) w = absurd w
 run_stops form h (end.Parse p) w = absurd w
 run_stops form h (end.Unbuilt p) w = absurd w
+run_stops form h (end.Order r p) w = absurd w
 
 stopped : (o : Outcome) (h : List Event) (e : End) → MayEnd o h e → EndsByStop o h e
 stopped (runs form) h e may = run_stops form h e may
 stopped (formats tree) h e may = tt
+stopped accepts h e may = tt
+stopped (disordered q) h e may = tt
 stopped (misused due) h e may = tt
 stopped absent h e may = tt
 stopped (unlexed due) h e may = tt
@@ -142,6 +153,7 @@ no_output end.NoScript P h = tt
 no_output (end.Lex p) P h = tt
 no_output (end.Parse p) P h = tt
 no_output (end.Unbuilt p) P h = tt
+no_output (end.Order r p) P h = tt
 no_output end.HostFault P h = tt
 no_output end.LaneFault P h = tt
 no_output end.Mem P h = tt
@@ -156,6 +168,7 @@ on_output end.NoScript P h = tt
 on_output (end.Lex p) P h = tt
 on_output (end.Parse p) P h = tt
 on_output (end.Unbuilt p) P h = tt
+on_output (end.Order r p) P h = tt
 on_output end.HostFault P h = tt
 on_output end.LaneFault P h = tt
 on_output end.Mem P h = tt
@@ -167,6 +180,8 @@ Took old new r e = IfOk r (λ o. IfSome old (λ before. IfSome new (λ after. Wr
 due_written : (outcome : Outcome) (h : List Event) (o : Output) (e : End) (before after : List ℕ) → IsDue outcome h o → WroteOutput e (output_text o) before after → WroteDue outcome h e before after
 due_written (runs form) h o e before after due w = subst (λ output. WroteOutput e output before after) due.output w
 due_written (formats tree) h o e before after due w = subst (λ output. WroteOutput e output before after) due w
+due_written accepts h o e before after due w = subst (λ output. WroteOutput e output before after) due w
+due_written (disordered q) h o e before after due w = absurd due
 due_written (misused f) h o e before after due w = absurd due
 due_written absent h o e before after due w = absurd due
 due_written (unlexed f) h o e before after due w = absurd due

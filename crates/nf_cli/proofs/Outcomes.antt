@@ -1,5 +1,5 @@
 -- The outcome of a text follows from its one tree or its one fault.
-use Rattle.std.proofs.Common.{◌≡◌, ℕ, ◌<◌, List, length, Option, Result, Ok, Err, refl, sym, ap, ◌∙◌, subst, arith}
+use Rattle.std.proofs.Common.{◌≡◌, ℕ, ◌<◌, List, length, Option, Some, None, Result, Ok, Err, refl, sym, ap, ◌∙◌, subst, arith}
 use Rattle.nf_value.specs.declared.place.Place.{Place}
 use Rattle.nf_ast.specs.Tree.{Tree}
 use Rattle.nf_ast.specs.declared.tops.Script.{Script}
@@ -17,9 +17,16 @@ use Rattle.nf_forms.specs.declared.fault.FormFault.{FormFault}
 use Rattle.nf_forms.specs.declared.fault.FormFault.TheVariants as form_fault
 use Rattle.nf_forms.specs.declared.plan.Plan.{Plan}
 use Rattle.nf_words.specs.declared.command.Command.{Command}
-use Rattle.nf_words.specs.declared.command.Command.TheVariants.{Run, Fmt}
+use Rattle.nf_words.specs.declared.command.Command.TheVariants.{Run, Fmt, Check}
 use Rattle.nf_words.specs.declared.command.RunWords.{RunWords}
 use Rattle.nf_words.specs.declared.command.FmtWords.{FmtWords}
+use Rattle.nf_words.specs.declared.command.CheckWords.{CheckWords}
+use Rattle.nf_kinds.specs.declared.fault.Broken.{Broken}
+use Rattle.nf_kinds.specs.Fault.{breaks}
+use Rattle.nf_order.specs.declared.fault.OrderFault.{OrderFault}
+use Rattle.nf_order.specs.declared.fault.OrderFault.TheVariants as order_fault
+use Rattle.nf_order.specs.Fault.{IfRule}
+use Rattle.nf_order.specs.Accepted.{first_broken}
 use Rattle.nf_forms.specs.Built.{Built, Builds}
 use Rattle.nf_value.specs.Plain.{Plain}
 use Rattle.nf_placed.specs.Scope.{Env}
@@ -34,9 +41,9 @@ use Rattle.nf_cli.specs.declared.texts.ScriptFault.{ScriptFault}
 use Rattle.nf_cli.specs.declared.texts.ScriptFault.TheVariants.{Lex, Parse}
 use Rattle.nf_cli.specs.Ends.{end_of_lex, end_of_parse}
 use Rattle.nf_cli.specs.Form.{SpellNone}
-use Rattle.nf_cli.specs.Outcome.{Outcome, runs, formats, misused, absent, unlexed, unparsed, unbuilt}
-use Rattle.nf_cli.specs.Means.{TreeMeans, TextMeans, IsTextOutcome, outcome_of_form, outcome_of_tree}
-use Rattle.nf_cli.specs.Reads.{ReadsScript, IsOnlyScript, IsOnlyBreak, IsOnlyFault, BreaksRule, SpellsNone, BreaksIn, Plans, FormRefused, Asks, TreeRefused, outcome_of, end_of_script, end_of_form}
+use Rattle.nf_cli.specs.Outcome.{Outcome, runs, formats, accepts, disordered, misused, absent, unlexed, unparsed, unbuilt}
+use Rattle.nf_cli.specs.Means.{TreeMeans, TextMeans, IsTextOutcome, outcome_of_form, outcome_of_first, outcome_of_tree}
+use Rattle.nf_cli.specs.Reads.{ReadsScript, IsOnlyScript, IsOnlyBreak, IsOnlyFault, BreaksRule, SpellsNone, BreaksIn, Plans, FormRefused, Asks, TreeRefused, outcome_of, OrderRefused, end_of_script, end_of_form, end_of_order}
 use Rattle.nf_cli.specs.Work.{TextRefused, TextGives}
 use Rattle.nf_cli.proofs.Patterned.{over_none, over_same}
 
@@ -61,6 +68,8 @@ module _ (env : Env) where
     only : (outcome : Outcome) → outcome_of_tree env command tree ≡ outcome → (other : Outcome) → TextMeans env command text other → other ≡ outcome
     only outcome is (runs form) h = same outcome (runs form) is h
     only outcome is (formats t) h = same outcome (formats t) is h
+    only outcome is accepts h = same outcome accepts is h
+    only outcome is (disordered q) h = same outcome (disordered q) is h
     only outcome is (unbuilt p) h = same outcome (unbuilt p) is h
     only outcome is (misused f) h = absurd h
     only outcome is absent h = absurd h
@@ -73,9 +82,13 @@ module _ (env : Env) where
     asked : (r : Request) → outcome_of_tree env command tree ≡ outcome_of env.titles env.answer r → IsTextOutcome env command text (outcome_of env.titles env.answer r)
     asked (request.Run plan) is = record { means = spelled (runs (view_plan env.titles env.answer plan)) is; only = only (runs (view_plan env.titles env.answer plan)) is }
     asked (request.Format s) is = record { means = spelled (formats (view_script s)) is; only = only (formats (view_script s)) is }
+    asked (request.Accept a) is = record { means = spelled accepts is; only = only accepts is }
 
     formless : (place : Place) → outcome_of_tree env command tree ≡ unbuilt place → IsTextOutcome env command text (unbuilt place)
     formless place is = record { means = spelled (unbuilt place) is; only = only (unbuilt place) is }
+
+    disordering : (q : Broken) → outcome_of_tree env command tree ≡ disordered q → IsTextOutcome env command text (disordered q)
+    disordering q is = record { means = spelled (disordered q) is; only = only (disordered q) is }
 
   broken_text : (command : Command) (text : List ℕ) (fault : ParseFault) → IsOnlyBreak text fault → IsTextOutcome env command text (unparsed fault)
   broken_text command text fault one = record { means = one.is; only = only }
@@ -83,6 +96,8 @@ module _ (env : Env) where
       only : (other : Outcome) → TextMeans env command text other → other ≡ unparsed fault
       only (runs g) h = absurd (one.none h.tree h.script)
       only (formats t) h = absurd (one.none h.tree h.script)
+      only accepts h = absurd (one.none h.tree h.script)
+      only (disordered q) h = absurd (one.none h.tree h.script)
       only (misused f) h = absurd h
       only absent h = absurd h
       only (unlexed f) h = absurd (one.lexed f h)
@@ -95,6 +110,8 @@ module _ (env : Env) where
       only : (other : Outcome) → TextMeans env command text other → other ≡ unlexed fault
       only (runs g) h = absurd (one.none h.script.tokens h.script.tokens_of)
       only (formats t) h = absurd (one.none h.script.tokens h.script.tokens_of)
+      only accepts h = absurd (one.none h.script.tokens h.script.tokens_of)
+      only (disordered q) h = absurd (one.none h.script.tokens h.script.tokens_of)
       only (misused f) h = absurd h
       only absent h = absurd h
       only (unlexed f) h = ap unlexed (one.only f h)
@@ -136,6 +153,7 @@ module _ (env : Env) where
   tree_refused command text tree one (end.Lex f) h = absurd h
   tree_refused command text tree one (end.Parse f) h = absurd h
   tree_refused command text tree one (end.Unbuilt p) h = formless command text tree one p h
+  tree_refused command text tree one (end.Order r p) h = disordering command text tree one (breaks r p) h
   tree_refused command text tree one end.HostFault h = absurd h
   tree_refused command text tree one end.LaneFault h = absurd h
   tree_refused command text tree one end.SinkFault h = absurd h
@@ -158,6 +176,7 @@ module _ (env : Env) where
   plan_refused words tree (end.Lex f) h = absurd h
   plan_refused words tree (end.Parse f) h = absurd h
   plan_refused words tree (end.Unbuilt p) h = ap outcome_of_form h
+  plan_refused words tree (end.Order r p) h = absurd h
   plan_refused words tree end.HostFault h = absurd h
   plan_refused words tree end.LaneFault h = absurd h
   plan_refused words tree end.SinkFault h = absurd h
@@ -170,6 +189,26 @@ module _ (env : Env) where
 
   pub form_ends : (due : Built Form) (fault : FormFault) (e : End) → Builds (view_plan env.titles env.answer) due (Err fault) → e ≡ end_of_form fault → Plans env due (Err e)
   form_ends due fault e h is = subst (FormRefused due) (sym is) (form_refused due fault h)
+
+  -- to check a tree is to find the first rule that it breaks
+  pub order_refused : (words : CheckWords) (tree : Tree) (e : End) → OrderRefused tree e → Asks env (Check words) tree (Err e)
+  order_refused words tree end.Ok h = absurd h
+  order_refused words tree (end.TaskFailed p i n f) h = absurd h
+  order_refused words tree (end.ItemFault p c) h = absurd h
+  order_refused words tree (end.Usage f) h = absurd h
+  order_refused words tree end.NoScript h = absurd h
+  order_refused words tree (end.Lex f) h = absurd h
+  order_refused words tree (end.Parse f) h = absurd h
+  order_refused words tree (end.Unbuilt p) h = absurd h
+  order_refused words tree (end.Order r p) h = ap outcome_of_first h
+  order_refused words tree end.HostFault h = absurd h
+  order_refused words tree end.LaneFault h = absurd h
+  order_refused words tree end.SinkFault h = absurd h
+  order_refused words tree end.Mem h = tt
+
+pub order_ends : (tree : Tree) (fault : OrderFault) (e : End) → IfRule fault (λ f. first_broken tree ≡ Some f) → e ≡ end_of_order fault → OrderRefused tree e
+order_ends tree (order_fault.Rule r p) e h is = subst (OrderRefused tree) (sym is) h
+order_ends tree order_fault.Mem e h is = subst (OrderRefused tree) (sym is) tt
 
 -- ---- over some patterns that the grammar of `regex` reads
 
@@ -192,6 +231,12 @@ module _ (titles : List (List ℕ)) (answer : ℕ → List Plain → Option Plai
 
   pub formats_asked : (words : FmtWords) (s : Script) → OverBuilt titles answer (λ env. Asks env (Fmt words) (view_script s) (Ok (request.Format s)))
   formats_asked words s = over_none titles answer (λ env. Asks env (Fmt words) (view_script s) (Ok (request.Format s))) (λ env. refl)
+
+  pub accepts_asked : (words : CheckWords) (tree : Tree) (a : Script) → first_broken tree ≡ None → OverBuilt titles answer (λ env. Asks env (Check words) tree (Ok (request.Accept a)))
+  accepts_asked words tree a h = over_none titles answer (λ env. Asks env (Check words) tree (Ok (request.Accept a))) (λ env. ap outcome_of_first h)
+
+  pub order_asked : (words : CheckWords) (tree : Tree) (e : End) → OrderRefused tree e → OverBuilt titles answer (λ env. Asks env (Check words) tree (Err e))
+  order_asked words tree e h = over_none titles answer (λ env. Asks env (Check words) tree (Err e)) (λ env. order_refused env words tree e h)
 
   pub all_given : (command : Command) (text : List ℕ) (s : Script) (r : Result Request End) → IsOnlyScript text (view_script s) → OverBuilt titles answer (λ env. Asks env command (view_script s) r) → OverBuilt titles answer (λ env. TextGives env command text r)
   all_given command text s r one h = over_same titles answer (λ env. Asks env command (view_script s) r) (λ env. TextGives env command text r) (λ ps k. request_given (around ps) command text s r one k) h

@@ -14,8 +14,9 @@ use Rattle.nf_cli.specs.declared.texts.Request.{Request}
 use Rattle.nf_cli.specs.declared.texts.Request.TheVariants as request
 use Rattle.nf_cli.specs.declared.ends.End.{End}
 use Rattle.nf_cli.specs.declared.ends.End.TheVariants as end
+use Rattle.nf_kinds.specs.Fault.{breaks}
 use Rattle.nf_cli.specs.Ends.{end_of_usage}
-use Rattle.nf_cli.specs.Outcome.{Outcome, runs, formats, misused, absent, unlexed, unparsed, unbuilt}
+use Rattle.nf_cli.specs.Outcome.{Outcome, runs, formats, accepts, disordered, misused, absent, unlexed, unparsed, unbuilt}
 use Rattle.nf_cli.specs.Means.{file_of, TextMeans, NamesText, Means, IsOutcome}
 use Rattle.nf_cli.specs.Reads.{outcome_of}
 use Rattle.nf_cli.specs.Due.{Ended, as_due, host_failed, no_memory, Tells}
@@ -49,6 +50,8 @@ module _ (env : Env) (words : List (List ℕ)) (files : Files) (command : Comman
   only_of outcome h absent m = absurd (there outcome h (sym (held m.command m.reads) ∙ m.absent))
   only_of outcome h (runs form) m = only_text outcome h (runs form) m
   only_of outcome h (formats t) m = only_text outcome h (formats t) m
+  only_of outcome h accepts m = only_text outcome h accepts m
+  only_of outcome h (disordered q) m = only_text outcome h (disordered q) m
   only_of outcome h (unlexed p) m = only_text outcome h (unlexed p) m
   only_of outcome h (unparsed p) m = only_text outcome h (unparsed p) m
   only_of outcome h (unbuilt p) m = only_text outcome h (unbuilt p) m
@@ -64,6 +67,8 @@ module _ (env : Env) (words : List (List ℕ)) (files : Files) (command : Comman
   no_script none absent m = refl
   no_script none (runs form) m = absurd (gone none (runs form) m)
   no_script none (formats t) m = absurd (gone none (formats t) m)
+  no_script none accepts m = absurd (gone none accepts m)
+  no_script none (disordered q) m = absurd (gone none (disordered q) m)
   no_script none (unlexed p) m = absurd (gone none (unlexed p) m)
   no_script none (unparsed p) m = absurd (gone none (unparsed p) m)
   no_script none (unbuilt p) m = absurd (gone none (unbuilt p) m)
@@ -77,6 +82,7 @@ module _ (env : Env) (words : List (List ℕ)) (files : Files) (command : Comman
   refused (end.Lex p) h = as_due (unlexed p) (record { means = names_text (unlexed p) h; only = only_of (unlexed p) h }) refl
   refused (end.Parse p) h = as_due (unparsed p) (record { means = names_text (unparsed p) h; only = only_of (unparsed p) h }) refl
   refused (end.Unbuilt p) h = as_due (unbuilt p) (record { means = names_text (unbuilt p) h; only = only_of (unbuilt p) h }) refl
+  refused (end.Order r p) h = as_due (disordered (breaks r p)) (record { means = names_text (disordered (breaks r p)) h; only = only_of (disordered (breaks r p)) h }) refl
   refused end.HostFault h = host_failed command reads refl
   refused end.LaneFault h = absurd h
   refused end.SinkFault h = absurd h
@@ -85,6 +91,7 @@ module _ (env : Env) (words : List (List ℕ)) (files : Files) (command : Comman
   asked : (r : Request) → HasText env command (files (file_of command)) (outcome_of env.titles env.answer r) → IsOutcome env words files (outcome_of env.titles env.answer r)
   asked (request.Run plan) h = record { means = names_text (runs (view_plan env.titles env.answer plan)) h; only = only_of (runs (view_plan env.titles env.answer plan)) h }
   asked (request.Format s) h = record { means = names_text (formats (view_script s)) h; only = only_of (formats (view_script s)) h }
+  asked (request.Accept a) h = record { means = names_text accepts h; only = only_of accepts h }
 
   given : (r : Result Request End) → FileGives env command (files (file_of command)) r → Gives env words files r
   given (Ok r) h = asked r h
@@ -96,6 +103,8 @@ misuse env words files fault e (misused f) m = ap misused (let q : ◌≡◌ {A 
 misuse env words files fault e absent m = absurd (no_fault words m.command fault m.reads e)
 misuse env words files fault e (runs form) m = absurd (no_fault words m.command fault m.reads e)
 misuse env words files fault e (formats t) m = absurd (no_fault words m.command fault m.reads e)
+misuse env words files fault e accepts m = absurd (no_fault words m.command fault m.reads e)
+misuse env words files fault e (disordered q) m = absurd (no_fault words m.command fault m.reads e)
 misuse env words files fault e (unlexed p) m = absurd (no_fault words m.command fault m.reads e)
 misuse env words files fault e (unparsed p) m = absurd (no_fault words m.command fault m.reads e)
 misuse env words files fault e (unbuilt p) m = absurd (no_fault words m.command fault m.reads e)

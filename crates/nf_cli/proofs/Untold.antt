@@ -28,6 +28,7 @@ module _ (env : Env) (command : Command) (file : Option (List ℕ)) (text : List
   text_refused (end.Lex p) h = record { text = text; there = there; comes = h }
   text_refused (end.Parse p) h = record { text = text; there = there; comes = h }
   text_refused (end.Unbuilt p) h = record { text = text; there = there; comes = h }
+  text_refused (end.Order r p) h = record { text = text; there = there; comes = h }
   text_refused end.HostFault h = absurd h
   text_refused end.LaneFault h = absurd h
   text_refused end.SinkFault h = absurd h

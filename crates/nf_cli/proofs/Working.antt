@@ -1,10 +1,12 @@
 -- What a call runs, and the output or end that this gives.
-use Rattle.std.proofs.Common.{◌≡◌, ◌++◌, ℕ, List, [], Option, Result, Ok, Err, refl, sym, ap, ◌∙◌, subst}
+use Rattle.std.proofs.Common.{◌≡◌, ◌++◌, ◌⊎◌, inl, inr, ℕ, List, [], Option, Some, None, Result, Ok, Err, refl, sym, ap, ◌∙◌, subst}
 use Rattle.nf_value.specs.Plain.{Plain}
 use Rattle.nf_job.specs.declared.report.Report.{Report}
 use Rattle.nf_ast.specs.Tree.{Tree}
 use Rattle.nf_words.specs.declared.command.Command.{Command}
-use Rattle.nf_words.specs.Words.{fmt}
+use Rattle.nf_words.specs.Words.{command_of, fmt, check}
+use Rattle.nf_kinds.specs.declared.fault.Broken.{Broken}
+use Rattle.nf_order.specs.Accepted.{first_broken}
 use Rattle.nf_host.specs.Files.{Files}
 use Rattle.nf_lane.specs.World.{World}
 use Rattle.nf_chain.specs.declared.event.Event.{Event}
@@ -19,20 +21,29 @@ use Rattle.nf_cli.specs.declared.texts.Request.TheVariants as request
 use Rattle.nf_run.specs.Run.{AreBooked, IsHistoryOf, RunGives}
 use Rattle.nf_cli.specs.declared.ends.End.{End}
 use Rattle.nf_cli.specs.declared.works.Output.{Output}
-use Rattle.nf_cli.specs.Outcome.{Outcome, runs, formats, misused, absent, unlexed, unparsed, unbuilt}
-use Rattle.nf_cli.specs.Means.{IsOutcome, Formats, TreeMeans, Means, outcome_of_tree}
+use Rattle.nf_cli.specs.Outcome.{Outcome, runs, formats, accepts, disordered, misused, absent, unlexed, unparsed, unbuilt}
+use Rattle.nf_cli.specs.Means.{IsOutcome, AsksNoRun, TreeMeans, Means, outcome_of_first, outcome_of_tree}
 use Rattle.nf_cli.specs.Reads.{outcome_of}
 use Rattle.nf_cli.specs.Report.{report_of, summary}
-use Rattle.nf_cli.specs.Due.{RunEnds, RanTasks, FmtRunsNothing, as_due}
+use Rattle.nf_cli.specs.Due.{RunEnds, RanTasks, RunsNothing, as_due}
 use Rattle.nf_cli.specs.Work.{Gives, HasDone, HasWorked, OutcomeGives, WorkGives, IsOutputOrEnd, IsTextOrEnd, end_of_run, output_text}
 use Rattle.nf_cli.proofs.Runs.{one_command}
 
--- a tree that is formatted isn't run
-never_run : (env : Env) (command : Command) (file : List ℕ) (text : List ℕ) (form : Form) → command ≡ fmt file → TreeMeans env command text (runs form) → ⊥
-never_run env command file text form is h = let e : formats h.tree ≡ runs form = ap (λ c. outcome_of_tree env c h.tree) (sym is) ∙ h.comes in cc
+-- a tree that is formatted or checked isn't run
+never_checked : (first : Option Broken) (form : Form) → outcome_of_first first ≡ runs form → ⊥
+never_checked None form h = let e : accepts ≡ runs form = h in cc
+never_checked (Some q) form h = let e : disordered q ≡ runs form = h in cc
 
-no_run : (env : Env) (words : List (List ℕ)) (files : Files) (file : List ℕ) (form : Form) → Formats words file → Means env words files (runs form) → ⊥
-no_run env words files file form formats_it m = never_run env m.command file m.text form (one_command words m.command (fmt file) m.reads formats_it) m.means
+never_run : (env : Env) (command : Command) (file : List ℕ) (text : List ℕ) (form : Form) → (command ≡ fmt file) ⊎ (command ≡ check file) → TreeMeans env command text (runs form) → ⊥
+never_run env command file text form (inl is) h = let e : formats h.tree ≡ runs form = ap (λ c. outcome_of_tree env c h.tree) (sym is) ∙ h.comes in cc
+never_run env command file text form (inr is) h = never_checked (first_broken h.tree) form (ap (λ c. outcome_of_tree env c h.tree) (sym is) ∙ h.comes)
+
+asked_by : (words : List (List ℕ)) (command : Command) (file : List ℕ) → command_of words ≡ Ok command → AsksNoRun words file → (command ≡ fmt file) ⊎ (command ≡ check file)
+asked_by words command file reads (inl is) = inl (one_command words command (fmt file) reads is)
+asked_by words command file reads (inr is) = inr (one_command words command (check file) reads is)
+
+no_run : (env : Env) (words : List (List ℕ)) (files : Files) (file : List ℕ) (form : Form) → AsksNoRun words file → Means env words files (runs form) → ⊥
+no_run env words files file form no_run_asked m = never_run env m.command file m.text form (asked_by words m.command file m.reads no_run_asked) m.means
 
 -- formatting gives the canonical text, or Mem
 text_gives : (tree : Tree) (h : List Event) (r : Result Output End) → IsTextOrEnd tree r → OutcomeGives (formats tree) h r
@@ -50,6 +61,8 @@ module _ {L D : Type 0} (Genuine : D → Type 0) (job_of : D → List ℕ) (repo
   idle : (ls : List L) → Idle ls → (o : Outcome) → RanTasks Genuine job_of report_by run_count world o [] [] ls ls
   idle ls free (runs form) = (tt, free form)
   idle ls free (formats t) = (refl, refl, refl)
+  idle ls free accepts = (refl, refl, refl)
+  idle ls free (disordered q) = (refl, refl, refl)
   idle ls free (misused f) = (refl, refl, refl)
   idle ls free absent = (refl, refl, refl)
   idle ls free (unlexed f) = (refl, refl, refl)
@@ -76,14 +89,15 @@ module _ {L D : Type 0} (Genuine : D → Type 0) (job_of : D → List ℕ) (repo
         gives = work_gives env words files (outcome_of env.titles env.answer q) h r is done.gives;
       }
 
-  -- `fmt FILE` asks for no run
-  pub fmt_idles : (env : Env) (words : List (List ℕ)) (files : Files) (q : Request) (h : List Event) (kept : List D) (old new : List L) (r : Result Output End) → Gives env words files (Ok q)
-      → HasDone Genuine job_of report_by run_count world (outcome_of env.titles env.answer q) h kept old new r → FmtRunsNothing words h kept old new
-  fmt_idles env words files (request.Run plan) h kept old new r is done file formats_it = absurd (no_run env words files file (view_plan env.titles env.answer plan) formats_it is.means)
-  fmt_idles env words files (request.Format s) h kept old new r is done file formats_it = done.ran
+  -- `fmt FILE` and `check FILE` ask for no run
+  pub idles : (env : Env) (words : List (List ℕ)) (files : Files) (q : Request) (h : List Event) (kept : List D) (old new : List L) (r : Result Output End) → Gives env words files (Ok q)
+      → HasDone Genuine job_of report_by run_count world (outcome_of env.titles env.answer q) h kept old new r → RunsNothing words h kept old new
+  idles env words files (request.Run plan) h kept old new r is done file unrun = absurd (no_run env words files file (view_plan env.titles env.answer plan) unrun is.means)
+  idles env words files (request.Format s) h kept old new r is done file unrun = done.ran
+  idles env words files (request.Accept a) h kept old new r is done file unrun = done.ran
 
-  pub nothing_idles : (words : List (List ℕ)) (h : List Event) (kept : List D) (ls : List L) → h ≡ [] → kept ≡ [] → FmtRunsNothing words h kept ls ls
-  nothing_idles words h kept ls no_events no_dones file formats_it = (no_events, no_dones, refl)
+  pub nothing_idles : (words : List (List ℕ)) (h : List Event) (kept : List D) (ls : List L) → h ≡ [] → kept ≡ [] → RunsNothing words h kept ls ls
+  nothing_idles words h kept ls no_events no_dones file unrun = (no_events, no_dones, refl)
 
   pub text_done : (tree : Tree) (h : List Event) (kept : List D) (ls : List L) (given r : Result Output End) → h ≡ [] → kept ≡ [] → r ≡ given → IsTextOrEnd tree given
       → HasDone Genuine job_of report_by run_count world (formats tree) h kept ls ls r

@@ -1,5 +1,5 @@
 -- What `nf_main` promises: how a call may end, what it runs and what it writes.
-use Rattle.std.specs.Prelude.{◌≡◌, ◌⊎◌, ℕ, List, [], ◌++◌, Option, Some, None, IfSome, Ok}
+use Rattle.std.specs.Prelude.{◌≡◌, ◌⊎◌, ℕ, List, [], ◌++◌, codes, Option, Some, None, IfSome, Ok}
 use Rattle.nf_value.specs.View.{plain_of}
 use Rattle.nf_words.specs.declared.command.Command.{Command}
 use Rattle.nf_words.specs.declared.fault.UsageFault.{UsageFault}
@@ -19,12 +19,14 @@ use Rattle.nf_chain.specs.Machine.{starts}
 use Rattle.nf_placed.specs.Scope.{Env}
 use Rattle.nf_forms.specs.Form.{Form}
 use Rattle.nf_run.specs.Run.{IsHistoryOf, AreBooked, WentWell, HasItemFault, HasTaskFault, LostLane, meant, state_after}
+use Rattle.nf_kinds.specs.declared.fault.Broken.{Broken}
+use Rattle.nf_kinds.specs.Fault.{breaks}
 use Rattle.nf_cli.specs.declared.ends.End.{End}
 use Rattle.nf_cli.specs.declared.ends.End.TheVariants as end
 use Rattle.nf_cli.specs.declared.ends.ItemCause.TheVariants.{Eval}
 use Rattle.nf_cli.specs.Ends.{error_line}
-use Rattle.nf_cli.specs.Outcome.{Outcome, runs, formats, misused, absent, unlexed, unparsed, unbuilt}
-use Rattle.nf_cli.specs.Means.{Means, IsOutcome, Formats}
+use Rattle.nf_cli.specs.Outcome.{Outcome, runs, formats, accepts, disordered, misused, absent, unlexed, unparsed, unbuilt}
+use Rattle.nf_cli.specs.Means.{Means, IsOutcome, AsksNoRun}
 use Rattle.nf_cli.specs.Report.{report_of, summary}
 
 -- ---- how a call may end, by the outcome of its command line
@@ -74,18 +76,27 @@ RunEnds form h end.HostFault = h ≡ []
 RunEnds form h end.Mem = Unit {0}
 RunEnds form h _ = ⊥
 
--- the script was formatted
-abbrev pub EndsFormatted : End → Type 0
-EndsFormatted end.Ok = Unit {0}
-EndsFormatted end.SinkFault = Unit {0}
-EndsFormatted end.HostFault = Unit {0}
-EndsFormatted end.Mem = Unit {0}
-EndsFormatted _ = ⊥
+-- the script was formatted, or is accepted
+abbrev pub EndsUnrun : End → Type 0
+EndsUnrun end.Ok = Unit {0}
+EndsUnrun end.SinkFault = Unit {0}
+EndsUnrun end.HostFault = Unit {0}
+EndsUnrun end.Mem = Unit {0}
+EndsUnrun _ = ⊥
+
+-- the script breaks this order rule first in its text
+abbrev pub EndsDisordered : Broken → End → Type 0
+EndsDisordered due (end.Order rule place) = breaks rule place ≡ due
+EndsDisordered due end.HostFault = Unit {0}
+EndsDisordered due end.Mem = Unit {0}
+EndsDisordered due _ = ⊥
 
 -- any outcome; only the end of a run depends on its history
 abbrev pub MayEnd : Outcome → List Event → End → Type 0
 MayEnd (runs form) h e = RunEnds form h e
-MayEnd (formats tree) h e = EndsFormatted e
+MayEnd (formats tree) h e = EndsUnrun e
+MayEnd accepts h e = EndsUnrun e
+MayEnd (disordered due) h e = EndsDisordered due e
 MayEnd (misused due) h e = EndsMisused due e
 MayEnd absent h e = EndsAbsent e
 MayEnd (unlexed due) h e = EndsUnlexed due e
@@ -140,9 +151,9 @@ RanTasks Genuine job_of report_by run_count world (runs form) h kept old new =
     IsHistoryOf form h × AreBooked Genuine job_of report_by run_count world form h kept old new
 RanTasks Genuine job_of report_by run_count world _ h kept old new = RanNothing h kept old new
 
--- `fmt FILE` runs nothing
-abbrev pub FmtRunsNothing : {L D : Type 0} → List (List ℕ) → List Event → List D → List L → List L → Type 0
-FmtRunsNothing words h kept old new = (file : List ℕ) → Formats words file → RanNothing h kept old new
+-- `fmt FILE` and `check FILE` run nothing
+abbrev pub RunsNothing : {L D : Type 0} → List (List ℕ) → List Event → List D → List L → List L → Type 0
+RunsNothing words h kept old new = (file : List ℕ) → AsksNoRun words file → RanNothing h kept old new
 
 -- ---- what was written
 
@@ -160,10 +171,11 @@ WroteOutput end.SinkFault output before after = GrowsByFront before output after
 WroteOutput _ output before after = ⊥
 
 -- `run` writes the report of what the script means under the history's outcomes, and the count of its Start events; `fmt` writes the
--- canonical text of the tree; nothing else has an output
+-- canonical text of the tree, `check` that it is accepted; nothing else has an output
 abbrev pub WroteDue : Outcome → List Event → End → List ℕ → List ℕ → Type 0
 WroteDue (runs form) h e before after = WroteOutput e (report_of (meant form h).viewed ++ summary (starts h)) before after
 WroteDue (formats tree) h e before after = WroteOutput e (canonical tree) before after
+WroteDue accepts h e before after = WroteOutput e (codes "accepted\n") before after
 WroteDue _ h e before after = ⊥
 
 -- what was written follows from the one outcome of the command line over the files

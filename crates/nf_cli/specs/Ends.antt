@@ -3,6 +3,7 @@ use Rattle.std.specs.Prelude.{ℕ, List, [], ◌++◌, codes, decimal}
 use Rattle.nf_value.specs.Plain.{Plain, list, plains_of}
 use Rattle.nf_value.specs.declared.place.Place.{Place}
 use Rattle.nf_value.specs.Place.{place_text}
+use Rattle.nf_kinds.specs.Texts.{rule_text}
 use Rattle.nf_value.specs.Fault.{kind_text}
 use Rattle.nf_value.specs.Text.{value_text}
 use Rattle.nf_value.specs.View.{plain_of}
@@ -31,6 +32,7 @@ status_of end.NoScript = 3
 status_of (end.Lex f) = 3
 status_of (end.Parse f) = 3
 status_of (end.Unbuilt p) = 3
+status_of (end.Order r p) = 3
 status_of end.HostFault = 4
 status_of end.LaneFault = 4
 status_of end.SinkFault = 4
@@ -64,6 +66,7 @@ end_text end.NoScript = codes "NoScript"
 end_text (end.Lex f) = fault_text f
 end_text (end.Parse f) = parse_text f
 end_text (end.Unbuilt p) = placed p (codes "Unbuilt")
+end_text (end.Order r p) = placed p (rule_text r)
 end_text end.HostFault = codes "HostFault"
 end_text end.LaneFault = codes "LaneFault"
 end_text _ = []

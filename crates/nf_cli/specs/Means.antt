@@ -1,26 +1,34 @@
 -- The outcome of a command line over files. `Env` is what the expressions of scripts can use.
-use Rattle.std.specs.Prelude.{◌≡◌, ℕ, List, None, Some, Ok, Err}
+use Rattle.std.specs.Prelude.{◌≡◌, ◌⊎◌, ℕ, List, Option, None, Some, Ok, Err}
 use Rattle.nf_ast.specs.Tree.{Tree}
 use Rattle.nf_words.specs.declared.command.Command.{Command}
-use Rattle.nf_words.specs.declared.command.Command.TheVariants.{Run, Fmt}
-use Rattle.nf_words.specs.Words.{command_of, fmt}
+use Rattle.nf_words.specs.declared.command.Command.TheVariants.{Run, Fmt, Check}
+use Rattle.nf_words.specs.Words.{command_of, fmt, check}
+use Rattle.nf_kinds.specs.declared.fault.Broken.{Broken}
+use Rattle.nf_order.specs.Accepted.{first_broken}
 use Rattle.nf_host.specs.Files.{Files}
 use Rattle.nf_lexer.specs.Tokens.{Breaks}
 use Rattle.nf_forms.specs.Built.{Built}
 use Rattle.nf_placed.specs.Scope.{Env}
 use Rattle.nf_forms.specs.Form.{Form, form_of}
 use Rattle.nf_cli.specs.Form.{IsScript, BreaksOff}
-use Rattle.nf_cli.specs.Outcome.{Outcome, runs, formats, misused, absent, unlexed, unparsed, unbuilt}
+use Rattle.nf_cli.specs.Outcome.{Outcome, runs, formats, accepts, disordered, misused, absent, unlexed, unparsed, unbuilt}
 
 -- a tree is run if it has a form; otherwise the place of its first unsupported construct is known
 abbrev pub outcome_of_form : Built Form → Outcome
 outcome_of_form (Ok form) = runs form
 outcome_of_form (Err place) = unbuilt place
 
--- what a command does with a tree: `fmt` takes every tree of the language
+-- a tree is accepted if it breaks no order rule
+abbrev pub outcome_of_first : Option Broken → Outcome
+outcome_of_first None = accepts
+outcome_of_first (Some f) = disordered f
+
+-- what a command does with a tree: `fmt` and `check` take every tree of the language
 abbrev pub outcome_of_tree : Env → Command → Tree → Outcome
 outcome_of_tree env (Run words) tree = outcome_of_form (form_of env tree)
 outcome_of_tree env (Fmt words) tree = formats tree
+outcome_of_tree env (Check words) tree = outcome_of_first (first_broken tree)
 
 -- the text spells a tree with this outcome
 pub record TreeMeans (env : Env) (command : Command) (text : List ℕ) (outcome : Outcome) : Type 0 where
@@ -40,10 +48,11 @@ TextMeans env command text outcome = TreeMeans env command text outcome
 abbrev pub file_of : Command → List ℕ
 file_of (Run words) = words.file
 file_of (Fmt words) = words.file
+file_of (Check words) = words.file
 
--- the command line is `fmt FILE`
-abbrev pub Formats : List (List ℕ) → List ℕ → Type 0
-Formats words file = command_of words ≡ Ok (fmt file)
+-- the command line is `fmt FILE` or `check FILE`
+abbrev pub AsksNoRun : List (List ℕ) → List ℕ → Type 0
+AsksNoRun words file = (command_of words ≡ Ok (fmt file)) ⊎ (command_of words ≡ Ok (check file))
 
 -- the command line names a file with a text of this outcome
 pub record NamesText (env : Env) (words : List (List ℕ)) (files : Files) (outcome : Outcome) : Type 0 where

@@ -1,5 +1,5 @@
 -- What reading a script's text gives.
-use Rattle.std.specs.Prelude.{◌≡◌, ℕ, List, Option, Result, Ok, Err}
+use Rattle.std.specs.Prelude.{◌≡◌, ℕ, List, Option, Some, None, Result, Ok, Err}
 use Rattle.nf_value.specs.Plain.{Plain}
 use Rattle.nf_value.specs.declared.place.Place.{Place}
 use Rattle.nf_ast.specs.Tree.{Tree}
@@ -27,7 +27,11 @@ use Rattle.nf_cli.specs.declared.texts.ScriptFault.{ScriptFault}
 use Rattle.nf_cli.specs.declared.texts.ScriptFault.TheVariants.{Lex, Parse}
 use Rattle.nf_cli.specs.Ends.{end_of_lex, end_of_parse}
 use Rattle.nf_cli.specs.Form.{IsScript, BreaksOff}
-use Rattle.nf_cli.specs.Outcome.{Outcome, runs, formats, unbuilt}
+use Rattle.nf_order.specs.declared.fault.OrderFault.{OrderFault}
+use Rattle.nf_order.specs.declared.fault.OrderFault.TheVariants as order_fault
+use Rattle.nf_order.specs.Accepted.{first_broken}
+use Rattle.nf_kinds.specs.Fault.{breaks}
+use Rattle.nf_cli.specs.Outcome.{Outcome, runs, formats, accepts, disordered, unbuilt}
 use Rattle.nf_cli.specs.Means.{outcome_of_tree}
 
 -- the text spells this tree, no other, and has no fault
@@ -90,16 +94,34 @@ abbrev pub Plans : Env → Built Form → Result Plan End → Type 0
 Plans env due (Ok p) = due ≡ Ok (view_plan env.titles env.answer p)
 Plans env due (Err e) = FormRefused due e
 
+-- ---- whether a tree is accepted
+
+abbrev pub end_of_order : OrderFault → End
+end_of_order (order_fault.Rule r p) = end.Order r p
+end_of_order order_fault.Mem = end.Mem
+
+-- why a tree isn't accepted: the rule that it breaks first, or memory ran out
+abbrev pub OrderRefused : Tree → End → Type 0
+OrderRefused tree (end.Order r p) = first_broken tree ≡ Some (breaks r p)
+OrderRefused tree end.Mem = Unit {0}
+OrderRefused tree _ = ⊥
+
+abbrev pub Judges : Tree → Result Script End → Type 0
+Judges tree (Ok a) = first_broken tree ≡ None
+Judges tree (Err e) = OrderRefused tree e
+
 -- ---- what a command does with a tree
 
 -- a request as an outcome; titles and answer are the names and results of the program's functions
 abbrev pub outcome_of : List (List ℕ) → (ℕ → List Plain → Option Plain) → Request → Outcome
 outcome_of titles answer (request.Run plan) = runs (view_plan titles answer plan)
 outcome_of titles answer (request.Format script) = formats (view_script script)
+outcome_of titles answer (request.Accept a) = accepts
 
 -- why a command refuses a tree: an unsupported construct, or memory ran out
 abbrev pub TreeRefused : Env → Command → Tree → End → Type 0
 TreeRefused env command tree (end.Unbuilt place) = outcome_of_tree env command tree ≡ unbuilt place
+TreeRefused env command tree (end.Order r p) = outcome_of_tree env command tree ≡ disordered (breaks r p)
 TreeRefused env command tree end.Mem = Unit {0}
 TreeRefused env command tree _ = ⊥
 

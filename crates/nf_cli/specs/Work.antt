@@ -1,5 +1,5 @@
 -- What each step of a call gives, up to the writing.
-use Rattle.std.specs.Prelude.{◌≡◌, ℕ, List, [], ◌++◌, Option, Some, None, Result, Ok, Err}
+use Rattle.std.specs.Prelude.{◌≡◌, ℕ, List, [], ◌++◌, codes, Option, Some, None, Result, Ok, Err}
 use Rattle.nf_value.specs.Plain.{Plain}
 use Rattle.nf_host.specs.Files.{Files}
 use Rattle.nf_job.specs.declared.report.Report.{Report}
@@ -14,13 +14,14 @@ use Rattle.nf_chain.specs.Machine.{starts}
 use Rattle.nf_run.specs.declared.runs.RunFault.{RunFault}
 use Rattle.nf_run.specs.declared.runs.RunFault.TheVariants as fault
 use Rattle.nf_run.specs.Run.{WentWell, meant}
+use Rattle.nf_kinds.specs.Fault.{breaks}
 use Rattle.nf_cli.specs.declared.ends.End.{End}
 use Rattle.nf_cli.specs.declared.ends.End.TheVariants as end
 use Rattle.nf_cli.specs.declared.ends.ItemCause.TheVariants.{Eval}
 use Rattle.nf_cli.specs.declared.texts.Request.{Request}
 use Rattle.nf_cli.specs.declared.works.Output.{Output}
 use Rattle.nf_cli.specs.declared.works.Output.TheVariants as out
-use Rattle.nf_cli.specs.Outcome.{Outcome, runs, formats, unlexed, unparsed, unbuilt}
+use Rattle.nf_cli.specs.Outcome.{Outcome, runs, formats, accepts, disordered, unlexed, unparsed, unbuilt}
 use Rattle.nf_cli.specs.Means.{Means, IsOutcome, IsTextOutcome}
 use Rattle.nf_cli.specs.Report.{report_of, summary}
 use Rattle.nf_cli.specs.Reads.{outcome_of}
@@ -33,6 +34,7 @@ abbrev pub TextRefused : Env → Command → List ℕ → End → Type 0
 TextRefused env command text (end.Lex fault) = IsTextOutcome env command text (unlexed fault)
 TextRefused env command text (end.Parse fault) = IsTextOutcome env command text (unparsed fault)
 TextRefused env command text (end.Unbuilt place) = IsTextOutcome env command text (unbuilt place)
+TextRefused env command text (end.Order r p) = IsTextOutcome env command text (disordered (breaks r p))
 TextRefused env command text end.Mem = Unit {0}
 TextRefused env command text _ = ⊥
 
@@ -53,6 +55,7 @@ FileRefused env command file end.NoScript = file ≡ None
 FileRefused env command file (end.Lex fault) = HasText env command file (unlexed fault)
 FileRefused env command file (end.Parse fault) = HasText env command file (unparsed fault)
 FileRefused env command file (end.Unbuilt place) = HasText env command file (unbuilt place)
+FileRefused env command file (end.Order r p) = HasText env command file (disordered (breaks r p))
 FileRefused env command file end.HostFault = Unit {0}
 FileRefused env command file end.Mem = Unit {0}
 FileRefused env command file _ = ⊥
@@ -97,6 +100,7 @@ end_of_run fault.Mem = end.Mem
 abbrev pub output_text : Output → List ℕ
 output_text (out.Report report line) = report ++ line
 output_text (out.Text text) = text.items
+output_text out.Accepted = codes "accepted\n"
 
 -- from what the view got, or why it got nothing: what is written, or how the call ends
 abbrev pub IsOutputOrEnd : Result (List Plain) RunFault → List Event → Result Output End → Type 0
@@ -119,6 +123,7 @@ pub record IsReported (form : Form) (h : List Event) (o : Output) : Type 0 where
 abbrev pub IsDue : Outcome → List Event → Output → Type 0
 IsDue (runs form) h o = IsReported form h o
 IsDue (formats tree) h o = output_text o ≡ canonical tree
+IsDue accepts h o = output_text o ≡ codes "accepted\n"
 IsDue _ h o = ⊥
 
 -- the output of this outcome, or how the call ends

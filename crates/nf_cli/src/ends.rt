@@ -7,6 +7,7 @@ use nf_chain::Event;
 use nf_job::TaskFault;
 use nf_lane::{Kept, Lane};
 use nf_lexer::LexFault;
+use nf_order::OrderRule;
 use nf_parser::ParseFault;
 use nf_value::{EvalFault, Place, Txt, Vals, Value};
 use nf_words::UsageFault;
@@ -40,6 +41,11 @@ pub enum End {
     Parse(ParseFault),
     /// `run` doesn't support this script yet. `place` is that of its first unsupported construct.
     Unbuilt {
+        place: Place,
+    },
+    /// `check` doesn't accept this script: the first order rule that it breaks in its text, and the place.
+    Order {
+        rule: OrderRule,
         place: Place,
     },
     /// The host failed: the script's file couldn't be read.
@@ -84,7 +90,8 @@ impl End {
             End::Ok => 0,
             End::TaskFailed { .. } | End::ItemFault { .. } => 1,
             End::Usage(_) => 2,
-            End::NoScript | End::Lex(_) | End::Parse(_) | End::Unbuilt { .. } => 3,
+            End::NoScript | End::Lex(_) | End::Parse(_) | End::Unbuilt { .. } | End::Order { .. } =>
+                3,
             End::HostFault | End::LaneFault | End::SinkFault => 4,
             End::Mem => 5,
         }

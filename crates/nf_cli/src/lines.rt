@@ -40,6 +40,10 @@ fn text_of_end(alloc: Global, end: &End) -> Result<String, Mem>
         End::Lex(fault) => Ok(format!(in alloc; "{fault}")?),
         End::Parse(fault) => text_of_parse(alloc, *fault),
         End::Unbuilt { place } => at_place(alloc, *place, "Unbuilt"),
+        End::Order { rule, place } => {
+            let rule = format!(in alloc; "{rule}")?;
+            at_place(alloc, *place, rule.as_str())
+        }
         End::HostFault => Ok(String::from_str(alloc, "HostFault")?),
         End::LaneFault => Ok(String::from_str(alloc, "LaneFault")?),
         End::Ok | End::SinkFault | End::Mem => Ok(String::new(alloc)),

@@ -21,7 +21,7 @@ use std::alloc::Global;
 /// The longest script that is read, in bytes (own).
 pub const SCRIPT_LIMIT: u64 = 1_048_576;
 
-/// What a command line asks for: a plan to run or a script to format. Reads the script's file by the host.
+/// What a command line asks for: a plan to run, a script to format, or that a script is accepted. Reads the script's file by the host.
 ///
 /// # Errors
 ///
@@ -62,6 +62,9 @@ fn request_of_command<H: Host, N: Natives>(
     match command {
         Command::Run(run) => request_of_file(alloc, command, run.file.as_str(), host, natives),
         Command::Fmt(fmt) => request_of_file(alloc, command, fmt.file.as_str(), host, natives),
+        Command::Check(check) => {
+            request_of_file(alloc, command, check.file.as_str(), host, natives)
+        }
     }
 }
 

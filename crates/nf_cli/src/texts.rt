@@ -5,7 +5,7 @@ ghost use Rattle.nf_ast.specs.Tops.{view_script};
 ghost use Rattle.nf_forms.specs.Values.{OverBuilt};
 ghost use Rattle.nf_forms.specs.Form.{form_of};
 ghost use Rattle.nf_cli.specs.Ends.{end_of_lex, end_of_parse};
-ghost use Rattle.nf_cli.specs.Reads.{Asks, ReadsScript, Plans, end_of_form, end_of_script};
+ghost use Rattle.nf_cli.specs.Reads.{Asks, ReadsScript, Judges, Plans, end_of_form, end_of_order, end_of_script};
 ghost use Rattle.nf_cli.specs.Work.{TextGives};
 
 use crate::ends::End;
@@ -13,6 +13,7 @@ use nf_ast::Script;
 use nf_builtins::Natives;
 use nf_forms::{FormFault, Plan, plan_of};
 use nf_lexer::{LexFault, tokens};
+use nf_order::{Accepted, OrderFault, check};
 use nf_parser::{ParseFault, script};
 use nf_words::Command;
 use std::alloc::Global;
@@ -24,6 +25,8 @@ pub enum Request {
     Run(Plan),
     /// Write the canonical text of this script.
     Format(Script),
+    /// Write that this script is accepted.
+    Accept(Accepted),
 }
 
 /// Why a text has no tree.
@@ -34,13 +37,14 @@ pub enum ScriptFault {
     Parse(ParseFault),
 }
 
-/// What a command does with the script of a text. `run` supports two forms of script so far; `fmt` takes every script.
+/// What a command does with the script of a text. `run` supports two forms of script so far; `fmt` and `check`
+/// take every script.
 ///
 /// # Errors
 ///
 /// `Lex` exactly if the text breaks a rule of the tokens, with the first such rule; `Parse` exactly if its tokens spell no
 /// script, with the place; `Unbuilt` exactly if `run` doesn't support the script, with the place of its first unsupported
-/// construct. `Mem` if there is no memory.
+/// construct; `Order` exactly if `check` doesn't accept the script, with the first broken rule. `Mem` if there is no memory.
 pub fn request_of_text<N: Natives>(
     alloc: Global,
     command: &Command,
@@ -94,6 +98,29 @@ fn request_of_script<N: Natives>(
             Ok(Request::Run(plan))
         }
         Command::Fmt(_) => Ok(Request::Format(script)),
+        Command::Check(_) => {
+            let accepted = accepted(alloc, script)?;
+            Ok(Request::Accept(accepted))
+        }
+    }
+}
+
+/// The script, if it is accepted.
+fn accepted(alloc: Global, script: Script) -> Result<Accepted, End>
+    ensures { Judges (view_script script) result }
+{
+    match check(alloc, script) {
+        Ok(accepted) => Ok(accepted),
+        Err(fault) => Err(order_end(fault)),
+    }
+}
+
+fn order_end(fault: OrderFault) -> End
+    ensures { result ≡ end_of_order fault }
+{
+    match fault {
+        OrderFault::Rule { rule, place } => End::Order { rule, place },
+        OrderFault::Mem => End::Mem,
     }
 }
 

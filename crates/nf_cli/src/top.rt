@@ -7,7 +7,7 @@ ghost use Rattle.nf_chain.specs.Machine.{starts};
 ghost use Rattle.nf_run.specs.Run.{NoneFell, OneRose};
 ghost use Rattle.nf_forms.specs.Values.{OverBuilt};
 ghost use Rattle.nf_cli.specs.Ends.{status_of};
-ghost use Rattle.nf_cli.specs.Due.{EndsOver, FmtRunsNothing, OnHostFault, OnLaneFault, OnSinkFault, Tells, WroteLine};
+ghost use Rattle.nf_cli.specs.Due.{EndsOver, OnHostFault, OnLaneFault, OnSinkFault, RunsNothing, Tells, WroteLine};
 
 use crate::ends::NfEnd;
 use crate::works::{Work, work_of_words};
@@ -28,6 +28,9 @@ pub const LANES: usize = 16;
 ///
 /// `fmt FILE` runs nothing. It writes the script's canonical text in one write, and nothing if that text is empty. It takes
 /// every script of the language, also those that `run` doesn't support.
+///
+/// `check FILE` runs nothing either. It writes the line `accepted` if the script breaks no order rule, and else the error line of
+/// the first rule that it breaks. It takes every script of the language.
 ///
 /// `natives` are the functions that the program adds to the language. A script's expressions find these and no other names.
 ///
@@ -56,13 +59,13 @@ pub fn nf_main<H: Host, N: Natives, L: Lane, O: Sink>(
     // - The history is lawful. Each Start is one run of a lane; each Finish has a job of its own that was run, and its report.
     // - If the history stops, the call ends by that stop.
     // - What was written is the report of what the script means under the history's outcomes, and the count of its Start
-    //   events; or, for `fmt`, the canonical text of the tree that the script's tokens spell.
+    //   events; or, for `fmt`, the canonical text of the tree that the script's tokens spell; or, for `check`, `accepted`.
     ensures over { (f : Files) × Tells (H.files host.old) f × OverBuilt (N.titles natives.now) (N.answer natives.now) (λ env. EndsOver env L.Done.genuine L.Done.job L.Done.told L.runs L.world (map string_bytes words.now) f result.history.items result.kept.dones.items lanes.items result.lanes.items (O.written out.old) (O.written out.new) result.end) }
     // Every end but Ok, SinkFault and Mem writes its error line, or the front of it if the sink failed. Mem writes nothing.
     ensures line { IfSome (O.written out.old) (λ before. IfSome (O.written out.new) (λ after. WroteLine result.end (Rose (O.faults out.old) (O.faults out.new)) before after)) }
 
-    // `fmt` runs nothing: no event, no job, and the lanes are unchanged.
-    ensures idle { FmtRunsNothing (map string_bytes words.now) result.history.items result.kept.dones.items lanes.items result.lanes.items }
+    // `fmt` and `check` run nothing: no event, no job, and the lanes are unchanged.
+    ensures idle { RunsNothing (map string_bytes words.now) result.history.items result.kept.dones.items lanes.items result.lanes.items }
 
     // The lanes ran once for each Start, and reveal what they revealed before.
     ensures runs { sum_by L.runs result.lanes.items ≡ sum_by L.runs lanes.items + starts result.history.items }

@@ -9,7 +9,7 @@ ghost use Rattle.nf_forms.specs.View.{view_plan};
 ghost use Rattle.nf_chain.specs.Machine.{starts as starts_of};
 ghost use Rattle.nf_run.specs.Run.{NoneFell, OneRose};
 ghost use Rattle.nf_cli.specs.Report.{report_of, summary as summary_of};
-ghost use Rattle.nf_cli.specs.Due.{FmtRunsNothing, OnHostFault, OnLaneFault, Tells};
+ghost use Rattle.nf_cli.specs.Due.{RunsNothing, OnHostFault, OnLaneFault, Tells};
 ghost use Rattle.nf_cli.specs.Outcome.{runs};
 ghost use Rattle.nf_cli.specs.Reads.{outcome_of};
 ghost use Rattle.nf_cli.specs.Work.{HasDone, HasWorked, IsEarly, IsOutputOrEnd, IsTextOrEnd, IsRefusal, end_of_run, output_text};
@@ -36,6 +36,8 @@ pub enum Output {
     Report { report: Txt, summary: Txt },
     /// Of `fmt`: the script's canonical text.
     Text(Vec<u8>),
+    /// Of `check`: that the script is accepted.
+    Accepted,
 }
 
 /// What a call has done before it writes.
@@ -49,7 +51,7 @@ pub struct Work<L: Lane> {
     pub outcome: Result<Output, End>,
 }
 
-/// Reads the script, runs or formats it, and makes the texts to be written.
+/// Reads the script; runs, formats or checks it; and makes the texts to be written.
 pub fn work_of_words<H: Host, N: Natives, L: Lane>(
     alloc: Global,
     words: &[String],
@@ -61,7 +63,7 @@ pub fn work_of_words<H: Host, N: Natives, L: Lane>(
     requires some { 1 ≤ length lanes.old.items }
     requires room { All (λ l. L.runs l < 2 ^ 62) lanes.old.items }
     ensures worked { (f : Files) × Tells (H.files host.old) f × OverBuilt (N.titles natives.now) (N.answer natives.now) (λ env. HasWorked env L.Done.genuine L.Done.job L.Done.told L.runs L.world (map string_bytes words.now) f result.history.items result.kept.dones.items lanes.old.items lanes.new.items result.outcome) }
-    ensures idle { FmtRunsNothing (map string_bytes words.now) result.history.items result.kept.dones.items lanes.old.items lanes.new.items }
+    ensures idle { RunsNothing (map string_bytes words.now) result.history.items result.kept.dones.items lanes.old.items lanes.new.items }
     ensures refusal { IfErr result.outcome IsRefusal }
     ensures runs { sum_by L.runs lanes.new.items ≡ sum_by L.runs lanes.old.items + starts_of result.history.items }
     ensures worlds { map L.world lanes.new.items ≡ map L.world lanes.old.items }
@@ -94,7 +96,7 @@ fn nothing_ran<L: Lane>(alloc: Global, outcome: Result<Output, End>) -> Work<L>
     }
 }
 
-/// Runs the plan or formats the script.
+/// Runs the plan, formats the script, or tells that it is accepted.
 fn work_of_request<N: Natives, L: Lane>(
     alloc: Global,
     request: &Request,
@@ -116,6 +118,7 @@ fn work_of_request<N: Natives, L: Lane>(
     match request {
         Request::Run(plan) => work_of_plan(alloc, plan, natives, lanes),
         Request::Format(script) => nothing_ran(alloc, text_or_end(alloc, script)),
+        Request::Accept(_) => nothing_ran(alloc, Ok(Output::Accepted)),
     }
 }
 

@@ -12,6 +12,9 @@ use crate::works::Output;
 use nf_host::{Sink, SinkFailed};
 use std::alloc::Global;
 
+/// What `check` writes of a script that is accepted.
+const ACCEPTED: &str = "accepted\n";
+
 /// Writes an output, or the error line of a failed call. Gives the end of the call.
 pub fn write<O: Sink>(alloc: Global, out: &mut O, outcome: Result<Output, End>) -> End
     requires { IfErr outcome IsRefusal }
@@ -43,6 +46,7 @@ fn write_output<O: Sink>(out: &mut O, output: &Output) -> End
             summary.as_str().as_bytes(),
         ),
         Output::Text(text) => write_text(out, text),
+        Output::Accepted => write_text(out, ACCEPTED.as_bytes()),
     }
 }
 

@@ -1,7 +1,7 @@
 -- The command of a command line, or its first wrong word.
 use Rattle.std.specs.Prelude.{◌≡◌, ℕ, ◌+◌, Bool, false, ◌==◌, ◌||◌, List, [], ◌∷◌, Option, Some, None, is_some, Result, Ok, Err, codes, bytes_eq, if◌then◌else◌}
 use Rattle.nf_words.specs.declared.command.Command.{Command}
-use Rattle.nf_words.specs.declared.command.Command.TheVariants.{Run, Fmt}
+use Rattle.nf_words.specs.declared.command.Command.TheVariants.{Run, Fmt, Check}
 use Rattle.nf_words.specs.declared.fault.UsageFault.{UsageFault}
 use Rattle.nf_words.specs.declared.fault.UsageFault.TheVariants.{NoCommand, UnknownWord, NoValue, Mem}
 
@@ -27,12 +27,16 @@ run file = Run (record { file = file })
 abbrev pub fmt : List ℕ → Command
 fmt file = Fmt (record { file = file })
 
+abbrev pub check : List ℕ → Command
+check file = Check (record { file = file })
+
 -- the command, or the first wrong word
 abbrev pub command_of : List (List ℕ) → Result Command UsageFault
 command_of [] = Err NoCommand
 command_of (command ∷ ws) =
     if bytes_eq command (codes "run") then of_file run (file_from 1 None ws)
     else if bytes_eq command (codes "fmt") then of_file fmt (file_from 1 None ws)
+    else if bytes_eq command (codes "check") then of_file check (file_from 1 None ws)
     else Err (UnknownWord 0)
 
 -- the result is what is due, unless memory ran out

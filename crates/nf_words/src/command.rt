@@ -14,6 +14,8 @@ pub enum Command {
     Run(RunWords),
     /// `fmt FILE`: write the canonical text of the script in that file.
     Fmt(FmtWords),
+    /// `check FILE`: tell whether the script in that file is accepted.
+    Check(CheckWords),
 }
 
 /// The words of `run` (own).
@@ -30,7 +32,14 @@ pub struct FmtWords {
     pub file: Txt,
 }
 
-/// Reads a command line: `run` or `fmt`, then one FILE. The first wrong word counts; a missing FILE counts only if no word is
+/// The words of `check` (own).
+#[derive(Drop)]
+pub struct CheckWords {
+    /// The path of the script as it was given. It doesn't begin with `-`; it may be empty.
+    pub file: Txt,
+}
+
+/// Reads a command line: `run`, `fmt` or `check`, then one FILE. The first wrong word counts; a missing FILE counts only if no word is
 /// wrong (own; the Nextflow reference documentation has the command `run` under "Command line").
 ///
 /// # Errors
@@ -51,6 +60,10 @@ pub fn read_words(alloc: Global, words: &[String]) -> Result<Command, UsageFault
         "fmt" => {
             let file = one_file(alloc, rest)?;
             Ok(Command::Fmt(FmtWords { file }))
+        }
+        "check" => {
+            let file = one_file(alloc, rest)?;
+            Ok(Command::Check(CheckWords { file }))
         }
         _ => Err(UsageFault::UnknownWord { at: 0 }),
     }

@@ -1,8 +1,8 @@
-//! Reads the command line: `run FILE` or `fmt FILE`.
+//! Reads the command line: `run FILE`, `fmt FILE` or `check FILE`.
 #![tactic(auto)]
 
 mod command;
 mod fault;
 
-pub use command::{Command, FmtWords, RunWords, read_words};
+pub use command::{CheckWords, Command, FmtWords, RunWords, read_words};
 pub use fault::UsageFault;

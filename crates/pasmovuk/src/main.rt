@@ -6,9 +6,10 @@ ghost use Rattle.nf_builtins.specs.Natives.{AnswersNative, program_answer};
 ghost use Rattle.nf_lane.specs.ChildLane.{runs_of};
 
 use nf_builtins::{CallFault, Natives, ProgramBook, StoredNatives, program_names, program_native};
-use nf_cli::{LANES, nf_main};
+use nf_cli::{End, LANES, NfEnd, nf_main};
 use nf_host::{FsHost, Host, Sink, StdSink};
 use nf_lane::{ChildLane, Lane};
+use nf_order::OrderRule;
 use nf_value::{Vals, Value};
 use std::alloc::{AllocError, Global};
 use std::process::{ExitCode, Processes};
@@ -19,6 +20,7 @@ const HELP: &str = "pasmovuk: runs pipelines written in a subset of Nextflow DSL
 
   run FILE     runs the script in FILE and prints its report
   fmt FILE     prints the script in FILE in its canonical layout
+  check FILE   says whether the script in FILE is accepted: whether no result of it can depend on order
   --help       prints this
   --version    prints the program's name and version
 ";
@@ -55,11 +57,12 @@ fn main(rt: HostRuntime) -> ExitCode {
         { program_native(alloc, id, args) },
     );
     let mut host = FsHost::new(&rt);
-    ExitCode::from(status(alloc, &words, &mut host, &natives, lanes, &mut out))
+    ExitCode::from(status(&rt, alloc, &words, &mut host, &natives, lanes, &mut out))
 }
 
-/// Calls `nf_main`, and gives its exit status.
-fn status<H: Host, N: Natives, L: Lane + Drop, O: Sink>(
+/// Calls `nf_main`, and gives its exit status. Of a script that isn't accepted, it says on standard error why, and what to write instead.
+fn status<R: Eprint, H: Host, N: Natives, L: Lane + Drop, O: Sink>(
+    rt: &R,
     alloc: Global,
     words: &[String],
     host: &mut H,
@@ -71,7 +74,35 @@ fn status<H: Host, N: Natives, L: Lane + Drop, O: Sink>(
     requires count { length lanes.items ≡ 16 }
     requires room { All (λ l. L.runs l < 2 ^ 62) lanes.items }
 {
-    nf_main(alloc, words, host, natives, lanes, out).status
+    let NfEnd { status, end, .. } = nf_main(alloc, words, host, natives, lanes, out);
+    if let End::Order { rule, .. } = end {
+        let _ = eprintln!(rt; "{}", advice(rule));
+    }
+    status
+}
+
+/// Why a result can depend on order where a rule is broken, and what to write instead.
+fn advice(rule: OrderRule) -> &'static str {
+    match rule {
+        OrderRule::ProcessQueues => {
+            "which item of one queue meets which of another depends on which come first: collect() one of the two, or join or combine them into one queue"
+        }
+        OrderRule::Arrival => {
+            "which items come first depends on which tasks end first: take from a list that toSortedList() gives, or give first or last a value channel"
+        }
+        OrderRule::ReduceClosure => {
+            "items come in any order, so reduce takes a + b, Math.min(a, b), Math.max(a, b), a && b or a || b: collect() the items, and map the list"
+        }
+        OrderRule::ComparingClosure => {
+            "of items that are equal by the closure the one that comes first is taken: map the items to what is compared, and leave the closure out"
+        }
+        OrderRule::GroupSize => {
+            "a group of a size is made of the items that come first: leave size: out, so that each group has all its items"
+        }
+        OrderRule::SharedState => {
+            "closures and tasks run in any order, so they share no name, and no task knows its number or folder: return what is needed, or pass it on as an item"
+        }
+    }
 }
 
 /// The lanes, each over the system's processes.

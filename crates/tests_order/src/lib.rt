@@ -1,4 +1,4 @@
-//! Tests of what stands below the check of the order rules: each public function once.
+//! Tests of the check of the order rules, and of what stands below it: each public function once.
 #![tactic(auto)]
 
 #[cfg(test)]
@@ -9,3 +9,5 @@ mod kinds;
 mod makers;
 #[cfg(test)]
 mod scopes;
+#[cfg(test)]
+mod scripts;

@@ -1,6 +1,6 @@
 use Rattle.std.proofs.Common.{map, string_bytes}
 use Rattle.nf_forms.specs.Values.{bare}
-use Rattle.nf_cli.proofs.Working.{idle_as, nothing_worked, request_worked, fmt_idles}
+use Rattle.nf_cli.proofs.Working.{idle_as, nothing_worked, request_worked, idles}
 use Rattle.nf_cli.proofs.works.work_of_words.Goals as goal
 
 pub returns-in-Ok-clause-worked : goal.returns-in-Ok-clause-worked
@@ -27,7 +27,7 @@ returns-in-Ok-clause-idle g c =
     let work = c.work_of_request in
     let w = c.in-Ok.ensures.gives in
     let built = w.2 in
-    fmt_idles D.genuine D.job D.told l.runs l.world (bare (g.N.Natives.titles c.args.natives.now) (g.N.Natives.answer c.args.natives.now) built.0)
+    idles D.genuine D.job D.told l.runs l.world (bare (g.N.Natives.titles c.args.natives.now) (g.N.Natives.answer c.args.natives.now) built.0)
     (map string_bytes c.args.words.now) w.0 c.in-Ok.request work.result.history.items work.result.kept.dones.items c.args.lanes.now.items work.new.lanes.items work.result.outcome built.2 work.ensures.done
 
 pub returns-in-Err-clause-worked : goal.returns-in-Err-clause-worked
