@@ -7,3 +7,4 @@ pub mod Places
 pub mod Runs
 pub mod Seen
 pub mod ShellLane
+pub mod Staged

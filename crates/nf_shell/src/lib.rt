@@ -12,6 +12,7 @@ mod outputs;
 mod run;
 mod seen;
 mod shell_lane;
+mod staged;
 mod store;
 
 pub use damage::Damage;

@@ -1,6 +1,6 @@
 //! What a child left in its folder: its standard output, and the files of its outputs.
 
-ghost use Rattle.std.specs.Prelude.{◌≡◌, ◌≤◌, ◌++◌, All, IfOk, OnOk, IfSome, IsTrue, Some, true, false, length, codes, option_to_list};
+ghost use Rattle.std.specs.Prelude.{◌≡◌, ◌≤◌, ◌++◌, [], All, IfOk, OnOk, IfSome, IsTrue, Some, true, false, length, codes, option_to_list};
 ghost use Rattle.nf_host.specs.Faults.{Rose, OnFailed};
 ghost use Rattle.nf_host.specs.Folders.{IsListing, folder_of, path_in};
 ghost use Rattle.nf_host.specs.Told.{Both};
@@ -10,6 +10,7 @@ ghost use Rattle.nf_shell.specs.Outputs.{AreFoundIn, AreStored, IsOutputOf, begi
 ghost use Rattle.nf_shell.specs.Over.{OkOver};
 ghost use Rattle.nf_shell.specs.Places.{IsApart, KeepsOrStores, is_stored};
 
+use crate::staged::StagedNames;
 use crate::store::{Stored, store_file};
 use nf_host::{Host, HostRefusal, Whole, path_in, read_whole};
 use nf_job::{Captured, FileRefs, Found, JobParts};
@@ -21,8 +22,24 @@ use std::alloc::Global;
 /// Whether a file of a job's folder is an output of a pattern (own; the Nextflow reference documentation has these patterns
 /// under "Process", "Output type `path`"). A pattern with `*`, `?` or alternatives matches names as `glob` does, but no
 /// staged file's; a literal pattern is the name itself. A name that begins with a dot is never an output. Takes no memory.
+#[tactic(auto, using(crate::proofs::Names::beside_staged))]
 pub fn is_output(pattern: &str, staged: &[FileRef], name: &str) -> bool
     ensures { result ≡ is_output pattern.now staged.now name.now }
+{
+    is_seen_match(pattern, name) && (is_literal(pattern) || !is_among(staged, name))
+}
+
+// The same over staged files that are found by their names.
+#[tactic(auto, using(crate::proofs::Names::beside_staged))]
+fn is_output_of(pattern: &str, staged: &StagedNames, name: &str) -> bool
+    ensures { result ≡ is_output pattern.now staged.now.files.now name.now }
+{
+    is_seen_match(pattern, name) && (is_literal(pattern) || !staged.has(name))
+}
+
+// The same where no file was staged.
+fn is_seen_match(pattern: &str, name: &str) -> bool
+    ensures { result ≡ is_output pattern.now [] name.now }
 {
     if begins_with_dot(name.as_bytes()) {
         return false;
@@ -30,7 +47,7 @@ pub fn is_output(pattern: &str, staged: &[FileRef], name: &str) -> bool
     if is_literal(pattern) {
         return pattern == name;
     }
-    glob(pattern, name) && !is_among(staged, name)
+    glob(pattern, name)
 }
 
 fn begins_with_dot(name: &[u8]) -> bool
@@ -152,10 +169,11 @@ fn found_among<H: Host>(
         v ≡ lists_found (folder_of f dir.now) parts.now.staged names.now parts.now.patterns) }
     ensures stored { OkOver (H.files host.new) result (λ g v. All (AreStored work.now g) v) }
 {
+    let staged = StagedNames::of(alloc, parts.staged.items())?;
     let mut lists = Vec::new(alloc);
     for pattern in parts.patterns.items() {
         let pattern = pattern.as_str();
-        let files = files_of(alloc, host, work, dir, pattern, parts.staged.items(), names)?;
+        let files = files_of(alloc, host, work, dir, pattern, &staged, names)?;
         lists.push(FileRefs::of(files))?;
     }
     Ok(Found::of(lists))
@@ -168,7 +186,7 @@ fn files_of<H: Host>(
     work: &str,
     dir: &str,
     pattern: &str,
-    staged: &[FileRef],
+    staged: &StagedNames,
     names: &[Txt],
 ) -> Result<Vec<FileRef>, HostRefusal>
     requires { IsApart work.now dir.now }
@@ -177,7 +195,7 @@ fn files_of<H: Host>(
     ensures no_start { H.started host.new ≡ H.started host.old }
     ensures kept { Both (H.files host.old) (H.files host.new) (KeepsOrStores work.now (scratch_in dir.now)) }
     ensures content { OkOver (H.files host.old) result (λ f v.
-        v.items ≡ files_found (folder_of f dir.now) pattern.now staged.now names.now) }
+        v.items ≡ files_found (folder_of f dir.now) pattern.now staged.now.files.now names.now) }
     ensures stored { OkOver (H.files host.new) result (λ g v. AreStored work.now g v.items) }
 {
     let mut files = Vec::new(alloc);
@@ -204,7 +222,7 @@ fn output_of<H: Host>(
     work: &str,
     dir: &str,
     pattern: &str,
-    staged: &[FileRef],
+    staged: &StagedNames,
     name: &Txt,
 ) -> Result<Option<FileRef>, HostRefusal>
     requires { IsApart work.now dir.now }
@@ -213,11 +231,11 @@ fn output_of<H: Host>(
     ensures no_start { H.started host.new ≡ H.started host.old }
     ensures kept { Both (H.files host.old) (H.files host.new) (KeepsOrStores work.now (scratch_in dir.now)) }
     ensures content { OkOver (H.files host.old) result (λ f o.
-        o ≡ file_found (folder_of f dir.now) pattern.now staged.now name.now) }
+        o ≡ file_found (folder_of f dir.now) pattern.now staged.now.files.now name.now) }
     ensures stored { OkOver (H.files host.new) result (λ g o.
         IfSome o (λ r. IsTrue (is_stored g work.now r.digest.0))) }
 {
-    if !is_output(pattern, staged, name.as_str()) {
+    if !is_output_of(pattern, staged, name.as_str()) {
         return Ok(None);
     }
     store_output(alloc, host, work, dir, name)

@@ -12,7 +12,7 @@ loop-name-init g c =
       later = omega arith;
       no_start = refl;
       kept = both_same told told (KeepsOrStores c.args.work.now (scratch_in c.args.dir.now)) (stores_all c.args.work.now (scratch_in c.args.dir.now)) refl;
-      content = content_first told c.args.dir.now c.args.pattern.now c.args.staged.now c.args.names.now c.new-files.result.items c.new-files.ensures.items;
+      content = content_first told c.args.dir.now c.args.pattern.now c.args.staged.now.files.now c.args.names.now c.new-files.result.items c.new-files.ensures.items;
       stored = stored_first told c.args.work.now c.new-files.result.items c.new-files.ensures.items;
     }
 
@@ -25,7 +25,7 @@ loop-name-preserved g c =
       later = omega (arith, c.loop-name.invariant.later, c.output_of.ensures.later);
       no_start = c.output_of.ensures.no_start ∙ c.loop-name.invariant.no_start;
       kept = both_then told now next stays stays stays (stores_then c.args.work.now (scratch_in c.args.dir.now)) c.loop-name.invariant.kept c.output_of.ensures.kept;
-      content = content_more told now c.args.work.now c.args.dir.now c.args.pattern.now c.args.staged.now c.args.names.now c.loop-name.name-index c.name-item.result c.loop-name.files.items c.push_found.new.files.items c.in_ok-file.file c.requires c.loop-name-test.true c.name-item.is
+      content = content_more told now c.args.work.now c.args.dir.now c.args.pattern.now c.args.staged.now.files.now c.args.names.now c.loop-name.name-index c.name-item.result c.loop-name.files.items c.push_found.new.files.items c.in_ok-file.file c.requires c.loop-name-test.true c.name-item.is
           c.loop-name.invariant.kept c.loop-name.invariant.content c.in_ok-file.ensures.content c.in_ok-push_found.ensures;
       stored = stored_more now next c.args.work.now c.args.dir.now c.loop-name.files.items c.push_found.new.files.items c.in_ok-file.file c.requires c.output_of.ensures.kept c.loop-name.invariant.stored c.in_ok-file.ensures.stored c.in_ok-push_found.ensures;
     }
@@ -42,4 +42,4 @@ returns-in_err-push_found-clause-kept g c =
 
 pub returns-clause-content : goal.returns-clause-content
 returns-clause-content g c =
-    content_all (g.H.Host.files c.args.host.now) c.args.dir.now c.args.pattern.now c.args.staged.now c.args.names.now c.loop-name.name-index c.loop-name.files.items c.loop-name-test.false c.loop-name.invariant.content
+    content_all (g.H.Host.files c.args.host.now) c.args.dir.now c.args.pattern.now c.args.staged.now.files.now c.args.names.now c.loop-name.name-index c.loop-name.files.items c.loop-name-test.false c.loop-name.invariant.content

@@ -28,10 +28,10 @@ loop-pattern-preserved g c =
     let parts = c.args.parts.now in
     let stays = KeepsOrStores c.args.work.now (scratch_in c.args.dir.now) in
     let made : c.push.new.self.items ≡ c.loop-pattern.lists.items ++ c.in_ok-files.files.items ∷ [] =
-    subst (λ (v : List FileRef). c.push.new.self.items ≡ c.loop-pattern.lists.items ++ v ∷ []) c.of.ensures c.in_ok-push.ensures.items in
+    subst (λ (v : List FileRef). c.push.new.self.items ≡ c.loop-pattern.lists.items ++ v ∷ []) c.of-in-loop-pattern.ensures c.in_ok-push.ensures.items in
     let content : IfSome now (λ f. c.in_ok-files.files.items ≡ files_found (folder_of f c.args.dir.now) c.pattern-item.result parts.staged c.args.names.now) =
-    subst (λ (v : List FileRef). IfSome now (λ f. c.in_ok-files.files.items ≡ files_found (folder_of f c.args.dir.now) c.pattern-item.result v c.args.names.now)) c.items.ensures
-    (subst (λ (v : List ℕ). IfSome now (λ f. c.in_ok-files.files.items ≡ files_found (folder_of f c.args.dir.now) v c.items.result.now c.args.names.now)) c.as_str-pattern.ensures c.in_ok-files.ensures.content) in
+    subst (λ (v : List FileRef). IfSome now (λ f. c.in_ok-files.files.items ≡ files_found (folder_of f c.args.dir.now) c.pattern-item.result v c.args.names.now)) (c.in_ok-staged.ensures ∙ c.items.ensures)
+    (subst (λ (v : List ℕ). IfSome now (λ f. c.in_ok-files.files.items ≡ files_found (folder_of f c.args.dir.now) v c.in_ok-staged.staged.files.now c.args.names.now)) c.as_str-pattern.ensures c.in_ok-files.ensures.content) in
     record {
       later = omega (arith, c.loop-pattern.invariant.later, c.files_of.ensures.later);
       no_start = c.files_of.ensures.no_start ∙ c.loop-pattern.invariant.no_start;
