@@ -1,6 +1,8 @@
 #!/bin/sh
 # Times the built program on 1,000 tasks, and a bare loop that starts the same 1,000 children one after another.
-# Prints both times, each the least of five runs, and their ratio.
+# Then times the lane of shells, on a file system in memory: 1,000 tasks, and the loop of floor.c that does the same but for digests; 500 and 1,000
+# staged files, and as many outputs; a file of 256 MiB that is stored, and one that is read and digested; children with 512 MiB of memory held, and
+# with none. Prints the times, each the least of five runs, and their ratios.
 # shellcheck source=bench/common.sh
 . "$(dirname "$(readlink -f "$0")")/common.sh"
 find_program
@@ -28,3 +30,50 @@ awk -v a="$(least tasks)" -v b="$(least children)" 'BEGIN {
     printf "1,000 tasks: %.0f ms; 1,000 children of a bare loop: %.0f ms\n", a / 1000, b / 1000
     printf "ratio: %.2f (due: at most 1.3)\n", a / b
 }'
+
+# ---- the lane of shells
+find_bench
+memory=$(mktemp -d /dev/shm/tasks.XXXXXX)
+trap 'rm -rf "$folder" "$memory"' EXIT
+cc -O2 -o "$folder/floor" "$top/bench/floor.c"
+bench=$(readlink -f "$bench")
+
+# a command in a new folder of the file system in memory
+anew() {
+    rm -rf "$memory/work"
+    (cd "$memory" && "$@")
+}
+
+for _ in $(seq 5); do
+    anew "$folder/floor" 1000 >>"$folder/floor-times"
+    anew benched tasks 1000 >>"$folder/lane"
+    anew benched digests 1000 >>"$folder/digests"
+    anew benched staged 500 >>"$folder/staged-half"
+    anew benched staged 1000 >>"$folder/staged"
+    anew benched outputs 500 >>"$folder/outputs-half"
+    anew benched outputs 1000 >>"$folder/outputs"
+    anew benched children 0 >>"$folder/none-held"
+    anew benched children 512 >>"$folder/held"
+done
+head -c 268435456 /dev/zero >"$memory/big"
+for _ in $(seq 5); do
+    anew benched digest 1 >>"$folder/digest"
+    anew benched store 1 >>"$folder/store"
+done
+
+# prints the ratio of two times, and the most that it may be
+compared() {
+    echo "$1: $(ms "$(least "$3")") ms; $2: $(ms "$(least "$4")") ms; ratio $(ratio "$(least "$3")" "$(least "$4")") (due: at most $5)"
+}
+compared "1,000 tasks on the lane" "by a bare loop" lane floor-times 1.25
+echo "of these, 1,000 digests of outputs: $(ms "$(least digests)") ms"
+compared "1,000 staged files" "500" staged staged-half 2.2
+compared "1,000 outputs" "500" outputs outputs-half 2.2
+compared "storing 256 MiB" "reading and digesting them" store digest 1.1
+compared "200 children with 512 MiB held" "with none" held none-held 1.1
+# shellcheck disable=SC3045 # dash, bash and busybox have it
+if (ulimit -v 16384 && anew benched store 1) >/dev/null; then
+    echo "storing 256 MiB takes less than 16 MiB of memory"
+else
+    echo "storing 256 MiB takes more than 16 MiB of memory"
+fi

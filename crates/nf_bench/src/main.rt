@@ -1,10 +1,12 @@
 //! Times layers that the program doesn't reach. `nf_bench OPERATION COUNT` does one operation: on a list of COUNT numbers, on a text that repeats
-//! a few bytes COUNT times, by pushing COUNT items into an operator (COUNT pairs into `join`), or by a closure that maps lists of COUNT numbers. It
-//! prints what came of it, and on standard error how many microseconds the operation took. With no words it prints the names of the operations.
+//! a few bytes COUNT times, by pushing COUNT items into an operator (COUNT pairs into `join`), by a closure that maps lists of COUNT numbers, or by tasks
+//! of a shell. It prints what came of it, and on standard error how many microseconds the operation took. With no words it prints the names of the
+//! operations.
 #![tactic(auto)]
 
 mod closures;
 mod operators;
+mod tasks;
 mod texts;
 mod values;
 
@@ -12,14 +14,15 @@ use anyhow::{Context, Result, bail};
 use nf_value::{Vals, Value};
 use std::alloc::{AllocError, Global};
 use std::env;
-use std::rt::{Clock, Env};
+use std::process::Processes;
+use std::rt::{Clock, Env, Files};
 use std::time::Instant;
 
 fn main(rt: HostRuntime) -> Result<()> {
     run(&rt)
 }
 
-fn run<R: Env + Clock + AllocGlobal + Print + Eprint>(rt: &R) -> Result<()> {
+fn run<R: Env + Clock + Files + Processes + AllocGlobal + Print + Eprint>(rt: &R) -> Result<()> {
     let mut words = env::args(rt)?.skip(1);
     let Some(operation) = words.next() else {
         return print_operations(rt);
@@ -34,15 +37,23 @@ fn print_operations<R: Print>(rt: &R) -> Result<()> {
     println!(rt; "texts: lex-names lex-holes lex-brackets lex-strings")?;
     println!(rt; "operators: unique join")?;
     println!(rt; "closures: closure")?;
+    println!(rt; "tasks: tasks digests staged outputs store digest children")?;
     Ok(())
 }
 
-fn operate<R: Clock + AllocGlobal + Print + Eprint>(
+fn operate<R: Clock + Files + Processes + AllocGlobal + Print + Eprint>(
     rt: &R,
     operation: &str,
     count: u32,
 ) -> Result<()> {
     match operation {
+        "tasks" => tasks::tasks(rt, count),
+        "digests" => tasks::digests(rt, count),
+        "staged" => tasks::staged(rt, count),
+        "outputs" => tasks::outputs(rt, count),
+        "store" => tasks::store(rt),
+        "digest" => tasks::digest(rt),
+        "children" => tasks::children(rt, count),
         "lex-names" => texts::lex(rt, "a_name1\n", count),
         "lex-holes" => texts::lex(rt, "\"${", count),
         "lex-brackets" => texts::lex(rt, "({[", count),
