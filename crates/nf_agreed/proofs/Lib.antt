@@ -1,0 +1,11 @@
+mod Either
+mod Merging
+mod Unbound
+mod Arms
+mod Assigning
+mod Naming
+mod Setting
+mod Results
+mod Outputs
+mod Uses
+mod Operators
