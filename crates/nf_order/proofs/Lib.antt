@@ -9,3 +9,4 @@ pub mod Expressions
 pub mod Naming
 pub mod Indexes
 pub mod Ending
+pub mod Receivers

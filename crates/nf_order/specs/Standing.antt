@@ -1,6 +1,7 @@
 -- How judging goes on in the code: from the state in which a part begins to the state in which what follows it begins.
 use denote.Param.Weighed.{most}
 use Rattle.std.specs.Prelude.{◌≡◌, ◌≤◌, length, ℕ, zero, suc, Bool, true, false, ◌||◌, List, [], ◌∷◌, ◌++◌, map, Option, Some, None, option_map}
+use Rattle.std.specs.Option.{is_none}
 use Rattle.nf_value.specs.declared.place.Place.{Place}
 use Rattle.nf_builtins.specs.Natives.{is_among}
 use Rattle.nf_ast.specs.declared.expr.Prefix.{Prefix}
@@ -215,6 +216,10 @@ is_task (definition.workflow b) = true
 abbrev pub is_free_task : Option Shaped → Definition → Bool
 is_free_task (Some v) d = false
 is_free_task None d = is_task d
+
+-- no name and colon stand before an argument
+abbrev pub is_unnamed : Given → Bool
+is_unnamed g = is_none g.option
 
 -- the name before an argument's colon
 abbrev pub option_name : Option (Place × List ℕ) → Option (List ℕ)

@@ -10,6 +10,7 @@ ghost use Rattle.nf_order.specs.Standing.{Gives, around_of, call_now, led_from, 
 
 use crate::around::{Around, State};
 use crate::natives::is_source_or_method;
+use crate::receiver::take_receiver;
 use crate::subject::{Head, Subject, read_head};
 use crate::workflows::run;
 use nf_ast::WorkflowBody;
@@ -27,22 +28,22 @@ pub(crate) fn settle(subject: Subject, around: &Around<'_>, state: &mut State) -
     let Subject { head, args } = subject;
     match args {
         None => read_head(head, around, state),
-        Some(args) => called(head, &args, around, state),
+        Some(args) => called(head, args, around, state),
     }
 }
 
 #[cycle(judge)]
 pub(crate) fn called(
     head: Head,
-    args: &[Given],
+    args: Vec<Given>,
     around: &Around<'_>,
     state: &mut State,
 ) -> Result<Shape, Mem>
-    ensures { IfOk result (λ v. Gives (call_now (around_of around.now) head args.now) state.old v state.new) }
+    ensures { IfOk result (λ v. Gives (call_now (around_of around.now) head args.items) state.old v state.new) }
 {
     match head {
         Head::Value(shape) => {
-            let is_unknown = shape.kinds().unknown || any_unknown(args);
+            let is_unknown = shape.kinds().unknown || any_unknown(&args);
             Ok(Shape::alone(Kinds::plain_unless(is_unknown)))
         }
         Head::Name(place, name) => call(place, &name, args, around, state),
@@ -51,11 +52,11 @@ pub(crate) fn called(
             place,
             name.as_str(),
             shape,
-            args,
+            &args,
             &mut state.scope,
             &mut state.broken,
         ),
-        Head::Source(name) => Ok(Shape::alone(source_call(name.as_str(), args))),
+        Head::Source(name) => Ok(Shape::alone(source_call(name.as_str(), &args))),
     }
 }
 
@@ -64,15 +65,15 @@ pub(crate) fn called(
 pub(crate) fn call(
     place: Place,
     name: &Txt,
-    args: &[Given],
+    args: Vec<Given>,
     around: &Around<'_>,
     state: &mut State,
 ) -> Result<Shape, Mem>
-    ensures { IfOk result (λ v. Gives (call_of ((around_of around.now).callee name.now) place name.now args.now) state.old v state.new) }
+    ensures { IfOk result (λ v. Gives (call_of ((around_of around.now).callee name.now) place name.now args.items) state.old v state.new) }
 {
     match find_definition(around.tops, name.as_str()) {
         Definition::Nothing => undefined(place, name, args, around, state),
-        Definition::Function => Ok(Shape::alone(Kinds::plain_unless(any_unknown(args)))),
+        Definition::Function => Ok(Shape::alone(Kinds::plain_unless(any_unknown(&args)))),
         Definition::Process(process) => {
             let names = output_names(around.alloc, &process.outputs)?;
             process_call(
@@ -80,12 +81,12 @@ pub(crate) fn call(
                 place,
                 name,
                 names,
-                args,
+                &args,
                 &mut state.scope,
                 &mut state.broken,
             )
         }
-        Definition::Workflow(workflow) => enter(workflow, name, args, around, state),
+        Definition::Workflow(workflow) => enter(workflow, name, &args, around, state),
     }
 }
 
@@ -93,11 +94,11 @@ pub(crate) fn call(
 fn undefined(
     place: Place,
     name: &Txt,
-    args: &[Given],
+    args: Vec<Given>,
     around: &Around<'_>,
     state: &mut State,
 ) -> Result<Shape, Mem>
-    ensures { IfOk result (λ v. Gives (call_of (by_tables name.now) place name.now args.now) state.old v state.new) }
+    ensures { IfOk result (λ v. Gives (call_of (by_tables name.now) place name.now args.items) state.old v state.new) }
 {
     if operator_named(name.as_str()).is_some() {
         return operator_on(place, name, args, around, state);
@@ -105,30 +106,30 @@ fn undefined(
     if is_source_or_method(around.alloc, name.as_str())? {
         return Ok(Shape::alone(Kinds::unknown()));
     }
-    Ok(Shape::alone(Kinds::plain_unless(any_unknown(args))))
+    Ok(Shape::alone(Kinds::plain_unless(any_unknown(&args))))
 }
 
 /// `view(ch)` is `ch.view()`; a plain value becomes a value channel.
 fn operator_on(
     place: Place,
     name: &Txt,
-    args: &[Given],
+    args: Vec<Given>,
     around: &Around<'_>,
     state: &mut State,
 ) -> Result<Shape, Mem>
-    ensures { IfOk result (λ v. Gives (operator_on_by place name.now args.now) state.old v state.new) }
+    ensures { IfOk result (λ v. Gives (operator_on_by place name.now args.items) state.old v state.new) }
 {
-    match args {
-        [] => Ok(Shape::alone(Kinds::unknown())),
-        [first, rest @ ..] => {
-            let kinds = first.shape.kinds().as_channel();
-            let shape = first.shape.copy(around.alloc)?.with_kinds(kinds);
+    let mut others = args;
+    match take_receiver(&mut others) {
+        None => Ok(Shape::alone(Kinds::unknown())),
+        Some(receiver) => {
+            let kinds = receiver.shape.kinds().as_channel();
             member_call(
                 around.alloc,
                 place,
                 name.as_str(),
-                shape,
-                rest,
+                receiver.shape.with_kinds(kinds),
+                &others,
                 &mut state.scope,
                 &mut state.broken,
             )

@@ -71,7 +71,7 @@ fn with_member(
     match args {
         None => member_of_head(head, place, name, around, state),
         Some(args) => {
-            let shape = called(head, &args, around, state)?;
+            let shape = called(head, args, around, state)?;
             Subject::member(shape, place, name)
         }
     }
@@ -307,7 +307,7 @@ fn callable(before: Subject, around: &Around<'_>, state: &mut State) -> Result<H
     let Subject { head, args } = before;
     match args {
         None => Ok(head),
-        Some(args) => Ok(Head::Value(called(head, &args, around, state)?)),
+        Some(args) => Ok(Head::Value(called(head, args, around, state)?)),
     }
 }
 

@@ -28,7 +28,7 @@ pub(crate) fn pipe_first(
     let Subject { head, args } = first;
     match args {
         None => first_head(head, around, state),
-        Some(args) => called(head, &args, around, state),
+        Some(args) => called(head, args, around, state),
     }
 }
 
@@ -47,7 +47,7 @@ fn first_name(place: Place, name: Txt, around: &Around<'_>, state: &mut State) -
     ensures { IfOk result (λ v. Gives (uncalled (around_of around.now) (heads.Name place name)).head state.old v state.new) }
 {
     if is_free_task(around, state, name.as_str()) {
-        return call(place, &name, &[], around, state);
+        return call(place, &name, Vec::new(around.alloc), around, state);
     }
     state.scope.read(around.alloc, name.as_str())
 }
@@ -86,7 +86,7 @@ pub(crate) fn pipe_to(
     match head {
         Head::Name(place, name) => {
             let given = with_first(left, args, around)?;
-            call(place, &name, &given, around, state)
+            call(place, &name, given, around, state)
         }
         other => beside(left, Subject { head: other, args }, around, state),
     }

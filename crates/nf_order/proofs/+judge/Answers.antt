@@ -5,6 +5,7 @@ use Rattle.nf_slips.specs.Definitions.{definition_in}
 use Rattle.nf_order.specs.declared.around.State.{State}
 use Rattle.nf_order.proofs.Entering.{called_as, in_if, unknown_there, task_at_head, name_at_head, statements_alone, not_among}
 use Rattle.nf_builtins.specs.Natives.{is_among}
+use Rattle.nf_kinds.specs.declared.args.Given.{Given}
 use Rattle.nf_opkinds.specs.Operators.{Call}
 use Rattle.nf_order.specs.Accepted.{around, entered_with, emitted, emitted_one}
 use Rattle.nf_order.specs.Standing.{led_from, around_of, after_operands, rest, Gives, Stands, plain_subject, uncalled, chain_of, IsRead, after_operand, option_name, call_now, after_parts, IsCalledBy, after_index, is_free_task}
@@ -43,15 +44,18 @@ pub calls::call-returns-in-Nothing : goal.calls::call-returns-in-Nothing
 calls::call-returns-in-Nothing t0 c =
     let n = c.args.name.now in
     let d : definition.nothing ≡ definition_in n (trees (map view_top c.args.around.now.tops.now)) = search rules in
-    called_as c.args.around.now c.args.place n c.args.args.now definition.nothing c.undefined.result c.args.state.now c.undefined.new.state d c.undefined.ensures
+    called_as c.args.around.now c.args.place n c.args.args.items definition.nothing c.undefined.result c.args.state.now c.undefined.new.state d c.undefined.ensures
 
 pub calls::call-returns-in_ok-names-in-Process : goal.calls::call-returns-in_ok-names-in-Process
 calls::call-returns-in_ok-names-in-Process t0 c =
     let n = c.args.name.now in
     let ns = c.in_ok-names-in-Process.names.items in
+    let xs = c.deref-in-Process.result.now in
     let new : State = record { scope = c.process_call.new.scope; broken = c.process_call.new.broken } in
     let d : definition.process ns ≡ definition_in n (trees (map view_top c.args.around.now.tops.now)) = search rules in
-    called_as c.args.around.now c.args.place n c.args.args.now (definition.process ns) c.process_call.result c.args.state.now new d c.process_call.ensures
+    let same : xs ≡ c.args.args.items = search rules in
+    subst (λ (gs : List Given). IfOk c.process_call.result (λ v. Gives (call_of ((around_of c.args.around.now).callee n) c.args.place n gs) c.args.state.now v new)) same
+    (called_as c.args.around.now c.args.place n xs (definition.process ns) c.process_call.result c.args.state.now new d c.process_call.ensures)
 
 pub calls::entered-returns-clause-gives : goal.calls::entered-returns-clause-gives
 calls::entered-returns-clause-gives t0 c =
