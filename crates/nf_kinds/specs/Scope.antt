@@ -1,5 +1,6 @@
 -- What the names of a workflow's body stand for.
-use Rattle.std.specs.Prelude.{ℕ, ◌-◌, Bool, true, false, not, ◌||◌, List, [], ◌∷◌, ◌++◌, length, drop, codes, Option, Some, None, if◌then◌else◌}
+use Rattle.std.specs.Prelude.{ℕ, ◌-◌, Bool, true, false, not, ◌&&◌, ◌||◌, List, [], ◌∷◌, ◌++◌, length, drop, codes, Option, Some, None, if◌then◌else◌}
+use Rattle.std.specs.List.{list_any}
 use Rattle.std.specs.Str.{bytes_eq}
 use Rattle.nf_kinds.specs.declared.kinds.Kinds.{Kinds}
 use Rattle.nf_kinds.specs.Kinds.{Shaped, alone, merged, unknown_kind, plain_unless}
@@ -43,6 +44,25 @@ missing_names xs (b ∷ bs) = if is_bound b.0 xs then missing_names xs bs else b
 abbrev pub merged_names : Bindings → Bindings → Bindings
 merged_names xs bs = both_names xs bs ++ missing_names xs bs
 
+-- the names of the first that the second hasn't
+abbrev pub names_only : Bindings → Bindings → List (List ℕ)
+names_only [] bs = []
+names_only (a ∷ xs) bs = if is_bound a.0 bs then names_only xs bs else a.0 ∷ names_only xs bs
+
+-- ---- names of a list
+
+abbrev pub is_named : List ℕ → List (List ℕ) → Bool
+is_named n ns = list_any (λ m. bytes_eq m n) ns
+
+-- those of the first that the second hasn't
+abbrev pub others : List (List ℕ) → List (List ℕ) → List (List ℕ)
+others [] ns = []
+others (m ∷ ms) ns = if is_named m ns then others ms ns else m ∷ others ms ns
+
+abbrev pub without : List ℕ → List (List ℕ) → List (List ℕ)
+without n [] = []
+without n (m ∷ ns) = if bytes_eq m n then without n ns else m ∷ without n ns
+
 -- ---- a body
 
 pub record Scope : Type 0 where
@@ -50,11 +70,13 @@ pub record Scope : Type 0 where
   pub locals : Bindings
   -- names of the workflow's scope: those that it takes, and those that were assigned
   pub names : Bindings
+  -- those of them that one arm of an `if` alone bound: after the other arm nothing may bind them
+  pub half_bound : List (List ℕ)
   -- the processes and workflows that were called, with their outputs
   pub calls : Bindings
 
 abbrev pub started : Bindings → Scope
-started names = record { locals = []; names = names; calls = [] }
+started names = record { locals = []; names = names; half_bound = []; calls = [] }
 
 abbrev pub defined : List ℕ → Shaped → Scope → Scope
 defined n k s = record s { locals = (n, k) ∷ s.locals }
@@ -67,7 +89,7 @@ all_defined (n ∷ ns) k s = all_defined ns k (defined n k s)
 abbrev pub assigned : List ℕ → Shaped → Scope → Scope
 assigned n k s =
     if is_bound n s.locals then record s { locals = rebound n k s.locals }
-    else record s { names = (n, k) ∷ s.names }
+    else record s { names = (n, k) ∷ s.names; half_bound = without n s.half_bound }
 
 abbrev pub call_made : List ℕ → Shaped → Scope → Scope
 call_made n k s = record s { calls = (n, k) ∷ s.calls }
@@ -85,6 +107,7 @@ abbrev pub after_both : Scope → Scope → Scope
 after_both a b = record {
   locals = aligned a.locals b.locals;
   names = merged_names a.names b.names;
+  half_bound = a.half_bound ++ others b.half_bound a.half_bound ++ names_only a.names b.names ++ names_only b.names a.names;
   calls = merged_names a.calls b.calls;
 }
 
@@ -107,10 +130,19 @@ or_later (Some s) o = Some s
 abbrev pub bound_in : List ℕ → Scope → Option Shaped
 bound_in n s = or_later (shape_in n s.locals) (shape_in n s.names)
 
-abbrev pub or_given : Option Shaped → List ℕ → Shaped
-or_given (Some s) n = s
-or_given None n = alone (given_kind n)
+-- it stands for that after one arm alone
+abbrev pub is_half_bound : List ℕ → Scope → Bool
+is_half_bound n s = not (is_bound n s.locals) && is_named n s.half_bound
+
+-- what is bound, or what nothing binds
+abbrev pub bound_or : Bool → Shaped → Shaped → Shaped
+bound_or true v free = merged v free
+bound_or false v free = v
+
+abbrev pub or_given : Bool → Option Shaped → List ℕ → Shaped
+or_given half (Some s) n = bound_or half s (alone (given_kind n))
+or_given half None n = alone (given_kind n)
 
 -- what a name stands for
 abbrev pub read_name : List ℕ → Scope → Shaped
-read_name n s = or_given (bound_in n s) n
+read_name n s = or_given (is_half_bound n s) (bound_in n s) n

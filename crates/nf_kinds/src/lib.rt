@@ -10,4 +10,4 @@ mod scope;
 pub use args::{ClosureFacts, Given, any_queue, any_unknown};
 pub use fault::{Broken, OrderRule, earliest, note_if};
 pub use kinds::{Key, Kinds, Output, Shape, output_in, some_output};
-pub use scope::BodyScope;
+pub use scope::{BodyScope, given_kinds};

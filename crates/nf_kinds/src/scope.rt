@@ -14,6 +14,7 @@ use std::marker::Model;
 pub struct BodyScope {
     locals: Vec<(Txt, Shape)>,
     names: Vec<(Txt, Shape)>,
+    half_bound: Vec<Txt>,
     calls: Vec<(Txt, Shape)>,
 }
 
@@ -22,7 +23,7 @@ impl Model for BodyScope {
 
     ghost Value = { Scope };
 
-    ghost view = { λ s. record { locals = s.locals.items; names = s.names.items; calls = s.calls.items } };
+    ghost view = { λ s. record { locals = s.locals.items; names = s.names.items; half_bound = s.half_bound.items; calls = s.calls.items } };
 }
 
 impl BodyScope {
@@ -33,6 +34,7 @@ impl BodyScope {
         BodyScope {
             locals: Vec::new(alloc),
             names,
+            half_bound: Vec::new(alloc),
             calls: Vec::new(alloc),
         }
     }
@@ -47,11 +49,21 @@ impl BodyScope {
         shape_in(name, &self.names)
     }
 
+    /// Whether one arm of an `if` alone bound a name, so that it may also be what nothing binds.
+    pub fn is_half_bound(&self, name: &str) -> bool
+        ensures { result ≡ spec.is_half_bound name.now self.now }
+    {
+        !is_bound(name, &self.locals) && is_named(name, &self.half_bound)
+    }
+
     /// What a name stands for.
     pub fn read(&self, alloc: Global, name: &str) -> Result<Shape, Mem>
         ensures { IfOk result (λ s. s ≡ spec.read_name name.now self.now) }
     {
         match self.bound(name) {
+            Some(shape) if self.is_half_bound(name) => {
+                shape.merged(alloc, &Shape::alone(given_kinds(name)))
+            }
             Some(shape) => shape.copy(alloc),
             None => Ok(Shape::alone(given_kinds(name))),
         }
@@ -62,6 +74,9 @@ impl BodyScope {
         ensures { result ≡ (spec.read_name name.now self.now).kinds.unknown }
     {
         match self.bound(name) {
+            Some(shape) if self.is_half_bound(name) => {
+                shape.kinds().either(given_kinds(name)).unknown
+            }
             Some(shape) => shape.kinds().unknown,
             None => given_kinds(name).unknown,
         }
@@ -100,6 +115,7 @@ impl BodyScope {
             self.locals = rebound(alloc, name, shape, &self.locals)?;
             return Ok(());
         }
+        self.half_bound = without(alloc, name.as_str(), &self.half_bound)?;
         self.names.insert(0, (name.copy()?, shape))?;
         Ok(())
     }
@@ -135,6 +151,7 @@ impl BodyScope {
         Ok(BodyScope {
             locals: copies(alloc, &self.locals)?,
             names: copies(alloc, &self.names)?,
+            half_bound: copies_of_names(alloc, &self.half_bound)?,
             calls: copies(alloc, &self.calls)?,
         })
     }
@@ -143,6 +160,7 @@ impl BodyScope {
     pub fn merge(&mut self, alloc: Global, first: &BodyScope) -> Result<(), Mem>
         ensures { OnOk result (self.new ≡ spec.after_both first.now self.old) }
     {
+        self.half_bound = half_bound_after(alloc, first, self)?;
         self.locals = aligned(alloc, &first.locals, &self.locals)?;
         self.names = merged_names(alloc, &first.names, &self.names)?;
         self.calls = merged_names(alloc, &first.calls, &self.calls)?;
@@ -150,7 +168,20 @@ impl BodyScope {
     }
 }
 
-fn given_kinds(name: &str) -> Kinds
+/// The names that one arm alone bound, where the arms ended so.
+fn half_bound_after(alloc: Global, first: &BodyScope, second: &BodyScope) -> Result<Vec<Txt>, Mem>
+    ensures { IfOk result (λ v. v.items ≡ (spec.after_both first.now second.now).half_bound) }
+{
+    let mut out = Vec::new(alloc);
+    add_names(&first.half_bound, &mut out)?;
+    add_others(&second.half_bound, &first.half_bound, &mut out)?;
+    add_names_only(&first.names, &second.names, &mut out)?;
+    add_names_only(&second.names, &first.names, &mut out)?;
+    Ok(out)
+}
+
+/// What a name is where nothing binds it: `params` and the names of folders stand for plain values, any other is unknown.
+pub fn given_kinds(name: &str) -> Kinds
     ensures { result ≡ spec.given_kind name.now }
 {
     Kinds::plain_unless(!is_given(name))
@@ -290,6 +321,72 @@ fn add_missing(
     for (name, shape) in second {
         if !is_bound(name.as_str(), first) {
             out.push((name.copy()?, shape.copy(alloc)?))?;
+        }
+    }
+    Ok(())
+}
+
+/// Whether a name is one of these.
+fn is_named(name: &str, names: &[Txt]) -> bool
+    ensures { result ≡ spec.is_named name.now names.now }
+{
+    names.iter().any(|other| other.as_str() == name)
+}
+
+/// The other names.
+fn without(alloc: Global, name: &str, names: &[Txt]) -> Result<Vec<Txt>, Mem>
+    ensures { IfOk result (λ v. v.items ≡ spec.without name.now names.now) }
+{
+    let mut out = Vec::new(alloc);
+    for other in names {
+        if other.as_str() != name {
+            out.push(other.copy()?)?;
+        }
+    }
+    Ok(out)
+}
+
+/// Adds names to others.
+fn add_names(names: &[Txt], out: &mut Vec<Txt>) -> Result<(), Mem>
+    ensures { OnOk result (out.new.items ≡ out.old.items ++ names.now) }
+{
+    for name in names {
+        out.push(name.copy()?)?;
+    }
+    Ok(())
+}
+
+/// Adds those names that others don't have.
+fn add_others(names: &[Txt], others: &[Txt], out: &mut Vec<Txt>) -> Result<(), Mem>
+    ensures { OnOk result (out.new.items ≡ out.old.items ++ spec.others names.now others.now) }
+{
+    for name in names {
+        if !is_named(name.as_str(), others) {
+            out.push(name.copy()?)?;
+        }
+    }
+    Ok(())
+}
+
+fn copies_of_names(alloc: Global, names: &[Txt]) -> Result<Vec<Txt>, Mem>
+    ensures { IfOk result (λ v. v.items ≡ names.now) }
+{
+    let mut out = Vec::new(alloc);
+    add_names(names, &mut out)?;
+    Ok(out)
+}
+
+/// Adds the names of the first that the second hasn't.
+fn add_names_only(
+    first: &[(Txt, Shape)],
+    second: &[(Txt, Shape)],
+    out: &mut Vec<Txt>,
+) -> Result<(), Mem>
+    ensures { OnOk result (out.new.items ≡ out.old.items ++ spec.names_only first.now second.now) }
+{
+    for (name, _) in first {
+        if !is_bound(name.as_str(), second) {
+            out.push(name.copy()?)?;
         }
     }
     Ok(())

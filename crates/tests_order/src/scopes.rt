@@ -1,7 +1,7 @@
 //! The scope of a body, and the rules that are broken in it.
 
 use crate::makers::{PLACE, txt};
-use nf_kinds::{BodyScope, Broken, Kinds, OrderRule, Shape, earliest, note_if};
+use nf_kinds::{BodyScope, Broken, Kinds, OrderRule, Shape, earliest, given_kinds, note_if};
 use std::alloc::Global;
 use std::test::Fail;
 
@@ -43,6 +43,23 @@ fn arms_are_merged(rt: HostRuntime) -> Result<(), Fail> {
     scope.merge(alloc, &arm)?;
     let after = scope.read(alloc, "x")?.kinds();
     assert_eq!(rt; after, value.either(Kinds::channel(true)));
+    Ok(())
+}
+
+#[test]
+fn names_of_one_arm_may_be_unbound(rt: HostRuntime) -> Result<(), Fail> {
+    let alloc = rt.alloc();
+    let value = Kinds::channel(false);
+    let mut scope = body(alloc)?;
+    let mut arm = scope.copy(alloc)?;
+    arm.assign(alloc, &txt(alloc, "params")?, Shape::alone(value))?;
+    scope.merge(alloc, &arm)?;
+    assert!(rt; scope.is_half_bound("params"));
+    assert!(rt; !scope.is_half_bound("x"));
+    let after = scope.read(alloc, "params")?.kinds();
+    assert_eq!(rt; after, value.either(given_kinds("params")));
+    scope.assign(alloc, &txt(alloc, "params")?, Shape::alone(value))?;
+    assert!(rt; !scope.is_half_bound("params"));
     Ok(())
 }
 
