@@ -18,7 +18,7 @@ use Rattle.nf_kinds.specs.declared.fault.OrderRule.TheVariants as rule
 use Rattle.nf_kinds.specs.declared.fault.Broken.{Broken}
 use Rattle.nf_kinds.specs.Fault.{breaks_if}
 use Rattle.nf_kinds.specs.Kinds.{Shaped, alone, known, unknown_kind, is_channel, plain_unless}
-use Rattle.nf_kinds.specs.Scope.{assigned}
+use Rattle.nf_kinds.specs.Scope.{Scope, assigned, after_both}
 use Rattle.nf_kinds.specs.Walk.{Walk, came, gives}
 use Rattle.nf_kinds.specs.declared.args.Given.{Given}
 use Rattle.nf_kinds.specs.Args.{any_unknown, any_queue}
@@ -99,14 +99,19 @@ other_call p n k args =
     if k.unknown || any_unknown args then breaks_none unknown_kind
     else operator_or_method p n k args
 
--- `set { name }` gives what it is called on, and the name stands for all of it
+-- `set { name }` gives what it is called on, and the name stands for all of it. If that may be a plain value too, the name may also stay what it was, as
+-- after `false && x.set { name }`.
 abbrev pub is_setting : Option OpRow → Bool
 is_setting None = false
 is_setting (Some r) = is_name_use r.closure
 
+abbrev pub set_to : Bool → List ℕ → Shaped → Scope → Scope
+set_to true n v s = after_both s (assigned n v s)
+set_to false n v s = assigned n v s
+
 abbrev pub named_by : Option (List ℕ) → Shaped → Walk Shaped
 named_by None v s = came v s []
-named_by (Some n) v s = came v (assigned n v s) []
+named_by (Some n) v s = came v (set_to v.kinds.plain n v s) []
 
 -- of a plain value it is a method
 abbrev pub can_be_set : Shaped → Bool

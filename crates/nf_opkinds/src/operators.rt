@@ -200,9 +200,21 @@ fn bind(alloc: Global, name: &Option<Txt>, shape: &Shape, scope: &mut BodyScope)
     ensures { OnOk result (spec.named_by name.now shape.now scope.old ≡ came shape.now scope.new []) }
 {
     match name {
-        Some(name) => scope.assign(alloc, name, shape.copy(alloc)?),
+        Some(name) => set(alloc, name, shape, scope),
         None => Ok(()),
     }
+}
+
+/// Has a name stand for all of this. If this may be a plain value too, the name may also stay what it was.
+fn set(alloc: Global, name: &Txt, shape: &Shape, scope: &mut BodyScope) -> Result<(), Mem>
+    ensures { OnOk result (scope.new ≡ spec.set_to shape.now.kinds.plain name.now shape.now scope.old) }
+{
+    let before = scope.copy(alloc)?;
+    scope.assign(alloc, name, shape.copy(alloc)?)?;
+    if shape.kinds().plain {
+        scope.merge(alloc, &before)?;
+    }
+    Ok(())
 }
 
 /// Whether it is more than a plain value, whose methods aren't operators.
