@@ -6,12 +6,13 @@ ghost use Rattle.nf_builtins.specs.Natives.{is_among};
 ghost use Rattle.nf_slips.specs.Memory.{body_depth, weight};
 ghost use Rattle.nf_order.specs.Callees.{call_of, entered as entered_by, operator_on as operator_on_by, unless_unknown as unless_unknown_by};
 ghost use Rattle.nf_order.specs.Natives.{by_tables};
-ghost use Rattle.nf_order.specs.Standing.{Gives, around_of, call_now, led_from, rest as rest_of};
+ghost use Rattle.nf_order.specs.Standing.{Gives, around_of, call_now, free_now, half_now, led_from, rest as rest_of};
+ghost use Rattle.nf_opkinds.specs.Operators.{member_call as member_call_by};
 
 use crate::around::{Around, State};
 use crate::natives::is_source_or_method;
 use crate::receiver::take_receiver;
-use crate::subject::{Head, Subject, read_head};
+use crate::subject::{Free, Head, Subject, read_head};
 use crate::workflows::run;
 use nf_ast::WorkflowBody;
 use nf_kinds::{Given, Kinds, Shape, any_unknown};
@@ -47,17 +48,77 @@ pub(crate) fn called(
             Ok(Shape::alone(Kinds::plain_unless(is_unknown)))
         }
         Head::Name(place, name) => call(place, &name, args, around, state),
-        Head::Member(shape, place, name) => member_call(
-            around.alloc,
-            place,
-            name.as_str(),
-            shape,
-            &args,
-            &mut state.scope,
-            &mut state.broken,
-        ),
+        Head::Member(shape, place, name) => {
+            method_call(shape, place, &name, &args, around, state)
+        }
         Head::Source(name) => Ok(Shape::alone(source_call(name.as_str(), &args))),
+        Head::HalfBound(shape, free, place, name) => {
+            half_bound_call(shape, free, place, &name, &args, around, state)
+        }
     }
+}
+
+/// `m.name(..)`, where one arm of an `if` alone bound m to this; each way begins in the scope before both.
+fn half_bound_call(
+    shape: Shape,
+    free: Free,
+    place: Place,
+    name: &Txt,
+    args: &[Given],
+    around: &Around<'_>,
+    state: &mut State,
+) -> Result<Shape, Mem>
+    ensures { IfOk result (λ v. Gives (half_now shape free place name.now args.now) state.old v state.new) }
+{
+    let before = state.scope.copy(around.alloc)?;
+    let bound = method_call(shape, place, name, args, around, state)?;
+    let ended = std::mem::replace(&mut state.scope, before);
+    let other = free_call(free, place, name, args, around, state)?;
+    state.scope.merge(around.alloc, &ended)?;
+    bound.merged(around.alloc, &other)
+}
+
+/// `m.name(..)`, where nothing in the body binds m.
+fn free_call(
+    free: Free,
+    place: Place,
+    name: &Txt,
+    args: &[Given],
+    around: &Around<'_>,
+    state: &mut State,
+) -> Result<Shape, Mem>
+    ensures { IfOk result (λ v. Gives (free_now free place name.now args.now) state.old v state.new) }
+{
+    match free {
+        Free::Channel => Ok(Shape::alone(source_call(name.as_str(), args))),
+        Free::Output(shape) => {
+            let is_unknown = shape.kinds().unknown || any_unknown(args);
+            Ok(Shape::alone(Kinds::plain_unless(is_unknown)))
+        }
+        Free::Word(shape) => method_call(shape, place, name, args, around, state),
+    }
+}
+
+/// A call of what stands before a dot.
+fn method_call(
+    shape: Shape,
+    place: Place,
+    name: &Txt,
+    args: &[Given],
+    around: &Around<'_>,
+    state: &mut State,
+) -> Result<Shape, Mem>
+    ensures { IfOk result (λ v. Gives (member_call_by place name.now shape args.now) state.old v state.new) }
+{
+    member_call(
+        around.alloc,
+        place,
+        name.as_str(),
+        shape,
+        args,
+        &mut state.scope,
+        &mut state.broken,
+    )
 }
 
 /// A call by a name.
@@ -124,15 +185,8 @@ fn operator_on(
         None => Ok(Shape::alone(Kinds::unknown())),
         Some(receiver) => {
             let kinds = receiver.shape.kinds().as_channel();
-            member_call(
-                around.alloc,
-                place,
-                name.as_str(),
-                receiver.shape.with_kinds(kinds),
-                &others,
-                &mut state.scope,
-                &mut state.broken,
-            )
+            let shape = receiver.shape.with_kinds(kinds);
+            method_call(shape, place, name, &others, around, state)
         }
     }
 }
