@@ -7,21 +7,24 @@ use Rattle.nf_ast.specs.Tree.{Tree, empty}
 use Rattle.nf_kinds.specs.declared.args.Given.{Given}
 use Rattle.nf_kinds.specs.declared.kinds.Key.TheVariants as key
 use Rattle.nf_kinds.specs.declared.kinds.Kinds.{Kinds}
-use Rattle.nf_kinds.specs.Kinds.{Shaped, alone, output_of, unknown_kind}
-use Rattle.nf_kinds.specs.Scope.{Scope, bound_in, shape_in}
+use Rattle.nf_kinds.specs.Kinds.{Shaped, alone, merged, output_of, unknown_kind}
+use Rattle.nf_kinds.specs.Scope.{Scope, bound_in, bound_or, is_half_bound, shape_in}
 use Rattle.nf_kinds.specs.Args.{any_unknown}
 use Rattle.nf_kinds.specs.Walk.{Walk, came, after, then_by, ◌>>=◌, gives}
 use Rattle.nf_opkinds.specs.Operators.{member_call}
 use Rattle.nf_opkinds.specs.Calls.{source_call}
 use Rattle.nf_order.specs.declared.around.State.{State}
+use Rattle.nf_order.specs.declared.subject.Free.{Free}
+use Rattle.nf_order.specs.declared.subject.Free.TheVariants as free
 use Rattle.nf_order.specs.declared.subject.Head.{Head}
 use Rattle.nf_order.specs.declared.subject.Head.TheVariants as head
 use Rattle.nf_order.specs.declared.subject.Subject.{Subject}
 use Rattle.nf_order.specs.Callees.{Around, call_of}
-use Rattle.nf_order.specs.Parts.{Arg, Part, all_given, beside, called_out, called_thing, expression, free_kind, is_channel_word, member_of, method_of, name_member, name_method, of_call, of_closed, of_name, of_property, or_part, out_or_method, part_of, plain_by, indexed, with_method}
-use Rattle.nf_order.specs.Standing.{Gives, IsCalledBy, Leads, Stands, args_or_none, call_now, called_by, called_with, after_index, named_by, piped_now, rest, rest_by, uncalled}
+use Rattle.nf_order.specs.Parts.{Arg, Part, all_given, beside, called_out, called_thing, expression, free_kind, free_member, free_method, is_channel_word, member_of, method_of, name_member, name_method, of_call, of_closed, of_name, of_property, or_part, out_or_method, part_of, plain_by, indexed, with_method}
+use Rattle.nf_order.specs.Standing.{Gives, IsCalledBy, Leads, Stands, args_or_none, call_now, called_by, called_with, after_index, free_head, free_now, free_part, half_now, IsFree, named_by, piped_now, rest, rest_by, uncalled}
 use Rattle.nf_order.proofs.Walks.{after_none, alike, given_back, goes, if_ok, leads_on, regroups, still, then_alike, then_gives, then_twice}
-use Rattle.nf_order.proofs.Standing.{expression_stands, method_stands}
+use Rattle.nf_order.proofs.Standing.{beside_leads, expression_stands, method_stands, stands_on, stands_still}
+use Rattle.nf_order.proofs.Ways.{either_alike}
 
 -- ---- arguments in a row
 
@@ -106,6 +109,7 @@ uncalled_called a (head.Value v) s = record {
 uncalled_called a (head.Name p n) s = record { called = λ xs. refl; named = λ g xs. name_named a p n g xs s }
 uncalled_called a (head.Member v p n) s = record { called = λ xs. refl; named = λ g xs. beside_row a (head.Member v p n) g xs s }
 uncalled_called a (head.Source n) s = record { called = λ xs. refl; named = λ g xs. beside_row a (head.Source n) g xs s }
+uncalled_called a (head.HalfBound v f p n) s = record { called = λ xs. refl; named = λ g xs. beside_row a (head.HalfBound v f p n) g xs s }
 
 pub result_called : (a : Around) (h : Head) (gs : List Given) (v : Shaped) (old new : State) → Gives (call_now a h gs) old v new → IsCalledBy a (called_with a h gs) (head.Value v) old new
 result_called a h gs v old new e = record {
@@ -157,6 +161,7 @@ uncalled_closed a (head.Value v) s = let c = uncalled_called a (head.Value v) s 
 uncalled_closed a (head.Name p n) s = let c = uncalled_called a (head.Name p n) s in record { closed = c.called; piped_closed = c.named }
 uncalled_closed a (head.Member v p n) s = let c = uncalled_called a (head.Member v p n) s in record { closed = c.called; piped_closed = c.named }
 uncalled_closed a (head.Source n) s = let c = uncalled_called a (head.Source n) s in record { closed = c.called; piped_closed = c.named }
+uncalled_closed a (head.HalfBound v f p n) s = let c = uncalled_called a (head.HalfBound v f p n) s in record { closed = c.called; piped_closed = c.named }
 
 rest_closed : (a : Around) (h : Head) (o : Option (List Given)) (s : State) → IsClosedBy a (rest_by a h o) h (args_or_none o) s
 rest_closed a h None s = uncalled_closed a h s
@@ -209,24 +214,92 @@ head_member a (head.Value u) v p n s i e = member_stands a (gives u) v p n s s (
 head_member a (head.Name q m) v p n s i e = absurd i
 head_member a (head.Member u q m) v p n s i e = let w = (uncalled a (head.Member u q m)).thing in member_stands a w v p n s s (still w v s e)
 head_member a (head.Source m) v p n s i e = let w = (uncalled a (head.Source m)).thing in member_stands a w v p n s s (still w v s e)
+head_member a (head.HalfBound u f q m) v p n s i e = let w = (uncalled a (head.HalfBound u f q m)).thing in member_stands a w v p n s s (still w v s e)
 
--- ---- a part of what is a word, and nothing binds
+-- ---- a part of what is a name
 
-pub word_member : (a : Around) (q p : Place) (m n : List ℕ) (s : State) → bound_in m s.scope ≡ None → is_channel_word m ≡ false → called_out s.scope m n ≡ None → Stands (of_property empty (of_name a q m) p n) (uncalled a (head.Member (alone (free_kind m)) p n)) s s
-word_member a q p m n s free word out =
-    let k = alone (output_of (key.Called n) (alone (free_kind m))) in
-    let thing : (of_name a q m).member n s.scope ≡ came k s.scope [] =
-    ap (λ b. came (name_member b s.scope m n) s.scope []) free
-    ∙ ap (λ b. came (if b then alone unknown_kind else or_part (called_out s.scope m n) m n) s.scope []) word
-    ∙ ap (λ o. came (or_part o m n) s.scope []) out in
-    let method : (xs : List Arg) → (of_name a q m).method p n xs s.scope ≡ called_by a (head.Member (alone (free_kind m)) p n) xs s.scope = λ xs.
-    ap (λ b. (all_given xs >>= name_method b s.scope m p n) s.scope) free
-    ∙ then_alike (name_method None s.scope m p n) (member_call p n (alone (free_kind m))) (all_given xs s.scope) (λ gs r.
-    ap (λ b. (if b then gives (alone (source_call n gs)) else out_or_method (called_out s.scope m n) m p n gs) r) word
-    ∙ ap (λ o. out_or_method o m p n gs r) out) in
-    method_stands (expression empty ((of_name a q m).member n)) (expression empty (gives k)) ((of_name a q m).method p n) (called_by a (head.Member (alone (free_kind m)) p n)) s s
+value_called : (a : Around) (v : Shaped) (s : State) → Stands (with_method (called_by a (head.Value v)) (expression empty (gives v))) (uncalled a (head.Value v)) s s
+value_called a v s =
+    let m = called_by a (head.Value v) in
+    let c : (xs : List Arg) → Leads (m xs) (called_thing (gives v) xs) s s = λ xs. sym (thing_called a (gives v) v s s xs (here v s)) in
+    let e = stands_still (expression empty (gives v)) s in
+    record {
+      thing = e.thing;
+      head = e.head;
+      member = e.member;
+      method = e.method;
+      called = c;
+      closed = c;
+      named = λ g xs. beside_leads g (m xs) (called_thing (gives v) xs) s s (c xs);
+      piped = e.piped;
+      piped_closed = λ g xs. beside_leads g (m xs) (called_thing (gives v) xs) s s (c xs);
+      done = e.done;
+    }
+
+-- what nothing binds
+abbrev free_word : Around → Free → Place → List ℕ → Part
+free_word a f p n = with_method (called_by a (free_head f p n)) (expression empty (gives (free_part f n)))
+
+free_called : (a : Around) (f : Free) (p : Place) (n : List ℕ) (s : State) → Stands (free_word a f p n) (uncalled a (free_head f p n)) s s
+free_called a free.Channel p n s = stands_still (free_word a free.Channel p n) s
+free_called a (free.Output v) p n s = value_called a v s
+free_called a (free.Word v) p n s = stands_still (free_word a (free.Word v) p n) s
+
+free_call_now : (a : Around) (f : Free) (p : Place) (n : List ℕ) (gs : List Given) → call_now a (free_head f p n) gs ≡ free_now f p n gs
+free_call_now a free.Channel p n gs = refl
+free_call_now a (free.Output v) p n gs = refl
+free_call_now a (free.Word v) p n gs = refl
+
+-- a part that is this in the scope where it stands, and is called so
+word_stands : (a : Around) (h : Head) (q p : Place) (m n : List ℕ) (k : Shaped) (s : State) → (of_name a q m).member n s.scope ≡ came k s.scope [] → ((xs : List Arg) → (of_name a q m).method p n xs s.scope ≡ called_by a h xs s.scope) → Stands (of_property empty (of_name a q m) p n) (with_method (called_by a h) (expression empty (gives k))) s s
+word_stands a h q p m n k s thing method =
+    method_stands (expression empty ((of_name a q m).member n)) (expression empty (gives k)) ((of_name a q m).method p n) (called_by a h) s s
     (λ xs. ap (after s.broken.items) (method xs))
     (expression_stands empty empty ((of_name a q m).member n) (gives k) s s (ap (after s.broken.items) thing))
+
+pub free_stands : (a : Around) (q p : Place) (m n : List ℕ) (f : Free) (s : State) → bound_in m s.scope ≡ None → IsFree s.scope m n f → Stands (of_property empty (of_name a q m) p n) (uncalled a (free_head f p n)) s s
+free_stands a q p m n f s none is =
+    let half = is_half_bound m s.scope in
+    let h = free_head f p n in
+    let thing : (of_name a q m).member n s.scope ≡ came (free_part f n) s.scope [] =
+    ap (λ b. came (name_member half b s.scope m n) s.scope []) none ∙ ap (λ v. came v s.scope []) is.part in
+    let method : (xs : List Arg) → (of_name a q m).method p n xs s.scope ≡ called_by a h xs s.scope = λ xs.
+    ap (λ b. (all_given xs >>= name_method half b s.scope m p n) s.scope) none
+    ∙ then_alike (name_method half None s.scope m p n) (call_now a h) (all_given xs s.scope) (λ gs r. is.call p gs r ∙ ap (λ w. w r) (sym (free_call_now a f p n gs))) in
+    stands_on (of_property empty (of_name a q m) p n) (free_word a f p n) (uncalled a h) s s s (word_stands a h q p m n (free_part f n) s thing method) (free_called a f p n s)
+
+-- what is bound
+pub bound_stands : (a : Around) (q p : Place) (m n : List ℕ) (v : Shaped) (s : State) → bound_in m s.scope ≡ Some v → is_half_bound m s.scope ≡ false → Stands (of_property empty (of_name a q m) p n) (uncalled a (head.Member v p n)) s s
+bound_stands a q p m n v s some whole =
+    let k = alone (output_of (key.Called n) v) in
+    let thing : (of_name a q m).member n s.scope ≡ came k s.scope [] =
+    ap (λ b. came (name_member (is_half_bound m s.scope) b s.scope m n) s.scope []) some ∙ ap (λ h. came (bound_or h k (free_member s.scope m n)) s.scope []) whole in
+    let method : (xs : List Arg) → (of_name a q m).method p n xs s.scope ≡ called_by a (head.Member v p n) xs s.scope = λ xs.
+    ap (λ b. (all_given xs >>= name_method (is_half_bound m s.scope) b s.scope m p n) s.scope) some
+    ∙ ap (λ h. (all_given xs >>= name_method h (Some v) s.scope m p n) s.scope) whole in
+    word_stands a (head.Member v p n) q p m n k s thing method
+
+-- what one arm alone bound
+pub half_stands : (a : Around) (q p : Place) (m n : List ℕ) (v : Shaped) (f : Free) (s : State) → bound_in m s.scope ≡ Some v → is_half_bound m s.scope ≡ true → IsFree s.scope m n f → Stands (of_property empty (of_name a q m) p n) (uncalled a (head.HalfBound v f p n)) s s
+half_stands a q p m n v f s some half is =
+    let k = alone (output_of (key.Called n) v) in
+    let thing : (of_name a q m).member n s.scope ≡ came (merged k (free_part f n)) s.scope [] =
+    ap (λ b. came (name_member (is_half_bound m s.scope) b s.scope m n) s.scope []) some
+    ∙ ap (λ h. came (bound_or h k (free_member s.scope m n)) s.scope []) half
+    ∙ ap (λ u. came (merged k u) s.scope []) is.part in
+    let method : (xs : List Arg) → (of_name a q m).method p n xs s.scope ≡ called_by a (head.HalfBound v f p n) xs s.scope = λ xs.
+    ap (λ b. (all_given xs >>= name_method (is_half_bound m s.scope) b s.scope m p n) s.scope) some
+    ∙ ap (λ h. (all_given xs >>= name_method h (Some v) s.scope m p n) s.scope) half
+    ∙ then_alike (name_method true (Some v) s.scope m p n) (half_now v f p n) (all_given xs s.scope)
+    (λ gs r. either_alike (member_call p n v gs) (free_method s.scope m p n gs) (free_now f p n gs) r (is.call p gs r)) in
+    word_stands a (head.HalfBound v f p n) q p m n (merged k (free_part f n)) s thing method
+
+pub some_word : {E : Type 0} (a : Around) (h : Head) (p : Place) (m n : List ℕ) (r : Result Subject E) (s : State) → ((q : Place) → Stands (of_property empty (of_name a q m) p n) (uncalled a h) s s) → IfOk r (λ x. x ≡ record { head = h; args = None }) → IfOk r (λ x. (q : Place) → Stands (of_property empty (of_name a q m) p n) (rest a x) s s)
+some_word a h p m n r s is g =
+    if_ok r (λ x. x ≡ record { head = h; args = None }) (λ x. (q : Place) → Stands (of_property empty (of_name a q m) p n) (rest a x) s s)
+    (λ x e q. is_subject a (of_property empty (of_name a q m) p n) (record { head = h; args = None }) x s s (is q) e) g
+
+-- ---- what nothing binds before a dot
 
 none_or : {A : Type 0} (b : Bool) (o : Option A) → o ≡ None → (if b then o else None) ≡ None
 none_or true o h = h
@@ -237,6 +310,24 @@ no_call s m n h = none_or (bytes_eq n (codes "out")) (shape_in m s.calls) h
 
 pub not_out : (s : Scope) (m n : List ℕ) → bytes_eq n (codes "out") ≡ false → called_out s m n ≡ None
 not_out s m n h = ap (λ b. if b then shape_in m s.calls else None) h
+
+pub channel_is_free : (s : Scope) (m n : List ℕ) → is_channel_word m ≡ true → IsFree s m n free.Channel
+channel_is_free s m n word = record {
+  part = ap (λ b. if b then alone unknown_kind else or_part (called_out s m n) m n) word;
+  call = λ p gs r. ap (λ b. (if b then gives (alone (source_call n gs)) else out_or_method (called_out s m n) m p n gs) r) word;
+}
+
+pub output_is_free : (s : Scope) (m n : List ℕ) (v : Shaped) → is_channel_word m ≡ false → called_out s m n ≡ Some v → IsFree s m n (free.Output v)
+output_is_free s m n v word out = record {
+  part = ap (λ b. if b then alone unknown_kind else or_part (called_out s m n) m n) word ∙ ap (λ o. or_part o m n) out;
+  call = λ p gs r. ap (λ b. (if b then gives (alone (source_call n gs)) else out_or_method (called_out s m n) m p n gs) r) word ∙ ap (λ o. out_or_method o m p n gs r) out;
+}
+
+pub word_is_free : (s : Scope) (m n : List ℕ) (v : Shaped) → is_channel_word m ≡ false → called_out s m n ≡ None → v ≡ alone (free_kind m) → IsFree s m n (free.Word v)
+word_is_free s m n v word out is = record {
+  part = ap (λ b. if b then alone unknown_kind else or_part (called_out s m n) m n) word ∙ ap (λ o. or_part o m n) out ∙ ap (λ u. alone (output_of (key.Called n) u)) (sym is);
+  call = λ p gs r. ap (λ b. (if b then gives (alone (source_call n gs)) else out_or_method (called_out s m n) m p n gs) r) word ∙ ap (λ o. out_or_method o m p n gs r) out ∙ ap (λ u. member_call p n u gs r) (sym is);
+}
 
 -- ---- an index
 
@@ -255,14 +346,9 @@ no_name (head.Value v) f = tt
 no_name (head.Name p n) f = f p n refl
 no_name (head.Member v p n) f = tt
 no_name (head.Source n) f = tt
+no_name (head.HalfBound v g p n) f = tt
 
 pub named_head : {E : Type 0} (a : Around) (h : Head) (q : Place) (m : List ℕ) (p : Place) (n : List ℕ) (r : Result Subject E) (s : State) → h ≡ head.Name q m → IfOk r (λ x. (o : Place) → Stands (of_property empty (uncalled a (head.Name o m)) p n) (rest a x) s s) → IfOk r (λ x. Stands (of_property empty (uncalled a h) p n) (rest a x) s s)
 named_head a h q m p n r s is g =
     if_ok r (λ x. (o : Place) → Stands (of_property empty (uncalled a (head.Name o m)) p n) (rest a x) s s) (λ x. Stands (of_property empty (uncalled a h) p n) (rest a x) s s)
     (λ x t. subst (λ (k : Head). Stands (of_property empty (uncalled a k) p n) (rest a x) s s) (sym is) (t q)) g
-
-pub word_result : {E : Type 0} (a : Around) (p : Place) (m n : List ℕ) (v : Shaped) (r : Result Subject E) (s : State) → bound_in m s.scope ≡ None → is_channel_word m ≡ false → called_out s.scope m n ≡ None → v ≡ alone (free_kind m) → IfOk r (λ x. x ≡ record { head = head.Member v p n; args = None }) → IfOk r (λ x. (q : Place) → Stands (of_property empty (of_name a q m) p n) (rest a x) s s)
-word_result a p m n v r s free word out is g =
-    if_ok r (λ x. x ≡ record { head = head.Member v p n; args = None }) (λ x. (q : Place) → Stands (of_property empty (of_name a q m) p n) (rest a x) s s)
-    (λ x e q. is_subject a (of_property empty (of_name a q m) p n) (record { head = head.Member v p n; args = None }) x s s
-    (subst (λ (w : Shaped). Stands (of_property empty (of_name a q m) p n) (uncalled a (head.Member w p n)) s s) (sym is) (word_member a q p m n s free word out)) e) g

@@ -15,7 +15,7 @@ use Rattle.nf_kinds.specs.declared.args.Given.{Given}
 use Rattle.nf_kinds.specs.declared.fault.Broken.{Broken}
 use Rattle.nf_kinds.specs.declared.kinds.Kinds.{Kinds}
 use Rattle.nf_kinds.specs.Kinds.{Shaped, alone}
-use Rattle.nf_kinds.specs.Scope.{Scope, bound_in, call_made, given_kind, or_given, read_name}
+use Rattle.nf_kinds.specs.Scope.{Scope, call_made, given_kind}
 use Rattle.nf_kinds.specs.Walk.{Out, came, Walk, after, gives}
 use Rattle.nf_opkinds.specs.Operators.{Call}
 use Rattle.nf_opkinds.specs.Results.{shape_of}
@@ -27,9 +27,9 @@ use Rattle.nf_order.specs.declared.around.State.{State}
 use Rattle.nf_order.specs.declared.around.Around as held
 use Rattle.nf_order.specs.Callees.{Around, Callee, a_function, an_operator, no_callee, call_of, entered, unless_unknown}
 use Rattle.nf_order.specs.Natives.{source_names, method_names}
-use Rattle.nf_order.specs.Parts.{head_of, name_head, of_name, part_of}
-use Rattle.nf_order.specs.Standing.{Gives, around_of, is_free_task, is_task, led_from, led_to, outputs_by, taken_kind}
-use Rattle.nf_order.proofs.Walks.{if_ok, maps, moves, still}
+use Rattle.nf_order.specs.Parts.{head_of, part_of}
+use Rattle.nf_order.specs.Standing.{Gives, around_of, is_task, led_from, led_to, outputs_by, taken_kind}
+use Rattle.nf_order.proofs.Walks.{maps, moves, still}
 
 -- by its definition
 pub callee_is : (k : ℕ) (tops : Tree) (fs within : List (List ℕ)) (n : List ℕ) → (around k tops fs within).callee n ≡ callee_by (definition_in n tops) n (led_to k tops fs within n)
@@ -147,27 +147,18 @@ other_head definition.function n f p h = refl
 other_head (definition.process ns) n f p h = absurd (false≢true (sym h))
 other_head (definition.workflow b) n f p h = absurd (false≢true (sym h))
 
-called_head : (o : Option Shaped) (d : Definition) (n : List ℕ) (f : Tree → List Given → Call) (p : Place) (s : Scope) → is_free_task o d ≡ true → name_head o (callee_by d n f) p n s ≡ call_of (callee_by d n f) p n [] s
-called_head (Some v) d n f p s h = absurd (false≢true h)
-called_head None d n f p s h = ap (λ w. w s) (task_head d n f p h)
-
-read_at_head : (o : Option Shaped) (d : Definition) (n : List ℕ) (f : Tree → List Given → Call) (p : Place) (s : Scope) → is_free_task o d ≡ false → name_head o (callee_by d n f) p n s ≡ came (or_given o n) s []
-read_at_head (Some v) d n f p s h = refl
-read_at_head None d n f p s h = ap (λ w. w s) (other_head d n f p h)
-
-pub task_at_head : {E : Type 0} (a : held.Around) (p : Place) (n : List ℕ) (r : Result Shaped E) (old new : State) → is_free_task (bound_in n old.scope) (definition_in n (trees (map view_top a.tops.now))) ≡ true → IfOk r (λ v. Gives (call_of ((around_of a).callee n) p n []) old v new) → IfOk r (λ v. Gives (of_name (around_of a) p n).head old v new)
+pub task_at_head : {E : Type 0} (a : held.Around) (p : Place) (n : List ℕ) (r : Result Shaped E) (old new : State) → is_task (definition_in n (trees (map view_top a.tops.now))) ≡ true → IfOk r (λ v. Gives (call_of ((around_of a).callee n) p n []) old v new) → IfOk r (λ v. Gives (head_of ((around_of a).callee n) p n) old v new)
 task_at_head a p n r old new h g =
     let d = definition_in n (trees (map view_top a.tops.now)) in
-    let is : (of_name (around_of a) p n).head old.scope ≡ call_of ((around_of a).callee n) p n [] old.scope =
-    ap (λ c. name_head (bound_in n old.scope) c p n old.scope) (sym (callee_of a n d refl)) ∙ called_head (bound_in n old.scope) d n (led_from a n) p old.scope h ∙ ap (λ c. call_of c p n [] old.scope) (callee_of a n d refl) in
-    if_ok r (λ v. Gives (call_of ((around_of a).callee n) p n []) old v new) (λ v. Gives (of_name (around_of a) p n).head old v new) (λ v e. ap (after old.broken.items) is ∙ e) g
+    let is : head_of ((around_of a).callee n) p n ≡ call_of ((around_of a).callee n) p n [] =
+    ap (λ c. head_of c p n) (sym (callee_of a n d refl)) ∙ task_head d n (led_from a n) p h ∙ ap (λ c. call_of c p n []) (callee_of a n d refl) in
+    subst (λ (w : Walk Shaped). IfOk r (λ v. Gives w old v new)) (sym is) g
 
-pub name_at_head : {E : Type 0} (a : held.Around) (p : Place) (n : List ℕ) (r : Result Shaped E) (s : State) → is_free_task (bound_in n s.scope) (definition_in n (trees (map view_top a.tops.now))) ≡ false → IfOk r (λ v. v ≡ read_name n s.scope) → IfOk r (λ v. Gives (of_name (around_of a) p n).head s v s)
-name_at_head a p n r s h g =
+pub name_at_head : (a : held.Around) (p : Place) (n : List ℕ) (v : Shaped) (s : State) → is_task (definition_in n (trees (map view_top a.tops.now))) ≡ false → v ≡ alone (given_kind n) → Gives (head_of ((around_of a).callee n) p n) s v s
+name_at_head a p n v s h e =
     let d = definition_in n (trees (map view_top a.tops.now)) in
-    let is : (of_name (around_of a) p n).head s.scope ≡ came (read_name n s.scope) s.scope [] =
-    ap (λ c. name_head (bound_in n s.scope) c p n s.scope) (sym (callee_of a n d refl)) ∙ read_at_head (bound_in n s.scope) d n (led_from a n) p s.scope h in
-    if_ok r (λ v. v ≡ read_name n s.scope) (λ v. Gives (of_name (around_of a) p n).head s v s) (λ v e. still (of_name (around_of a) p n).head v s (is ∙ ap (λ u. came u s.scope []) (sym e))) g
+    let is : head_of ((around_of a).callee n) p n ≡ gives (alone (given_kind n)) = ap (λ c. head_of c p n) (sym (callee_of a n d refl)) ∙ other_head d n (led_from a n) p h in
+    still (head_of ((around_of a).callee n) p n) v s (ap (λ w. w s.scope) is ∙ ap (λ u. came u s.scope []) (sym e))
 
 pub unknown_there : (a : held.Around) → (around_of a).unknown ≡ a.unknown.now
 unknown_there a = unknown_is a.left (trees (map view_top a.tops.now)) a.unknown.now a.within.now

@@ -64,6 +64,7 @@ rest_done a (head.Value v) None = refl
 rest_done a (head.Name p n) None = refl
 rest_done a (head.Member v p n) None = refl
 rest_done a (head.Source n) None = refl
+rest_done a (head.HalfBound v f p n) None = refl
 rest_done a h (Some gs) = refl
 
 pub done_gives : (a : Around) (p : Part) (x : Subject) (v : Shaped) (old mid new : State) → Stands p (rest a x) old mid → Gives (rest a x).thing mid v new → Gives p.done old tt new

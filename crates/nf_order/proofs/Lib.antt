@@ -9,3 +9,5 @@ pub mod Expressions
 pub mod Naming
 pub mod Indexes
 pub mod Ending
+pub mod Ways
+pub mod Receivers

@@ -14,7 +14,7 @@ use Rattle.nf_order.specs.Parts.{Arg, Part, all_given, plain_by, beside, called_
 use Rattle.nf_order.specs.Standing.{Leads, Stands}
 use Rattle.nf_order.proofs.Walks.{leads_on}
 
-beside_leads : (g : Given) (w u : Walk Shaped) (old new : State) → Leads w u old new → Leads (beside g w) (beside g u) old new
+pub beside_leads : (g : Given) (w u : Walk Shaped) (old new : State) → Leads w u old new → Leads (beside g w) (beside g u) old new
 beside_leads g w u old new h = leads_on w u (λ v. plain_by (g.shape.kinds.unknown || v.kinds.unknown)) old new h
 
 called_leads : (w u : Walk Shaped) (xs : List Arg) (old new : State) → Leads w u old new → Leads (called_thing w xs) (called_thing u xs) old new

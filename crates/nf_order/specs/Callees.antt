@@ -1,5 +1,5 @@
 -- What a name calls in a workflow's body, and what its call gives.
-use Rattle.std.specs.Prelude.{ℕ, List, [], ◌∷◌, Option, if◌then◌else◌}
+use Rattle.std.specs.Prelude.{ℕ, List, [], ◌∷◌, Option, Some, None, if◌then◌else◌}
 use Rattle.nf_value.specs.declared.place.Place.{Place}
 use Rattle.nf_kinds.specs.Kinds.{Shaped, alone, as_channel, unknown_kind, plain_unless}
 use Rattle.nf_kinds.specs.Scope.{call_made}
@@ -37,10 +37,32 @@ entered n xs k s = came (unless_unknown xs k.gives) (call_made n (unless_unknown
 abbrev pub channelled : Shaped → Shaped
 channelled v = record v { kinds = as_channel v.kinds }
 
--- `view(ch)` is `ch.view()`
+-- ---- operators, as `view(ch)`: the first argument without a name is what it is called on
+
+pub record Receiver : Type 0 where
+  pub of : Given
+  pub others : List Given
+
+abbrev pub and_other : Given → Option Receiver → Option Receiver
+and_other x (Some r) = Some (record r { others = x ∷ r.others })
+and_other x None = None
+
+abbrev pub receiver_or : Option (List ℕ) → Given → List Given → Option Receiver → Option Receiver
+receiver_or None x xs later = Some (record { of = x; others = xs })
+receiver_or (Some n) x xs later = and_other x later
+
+abbrev pub receiver : List Given → Option Receiver
+receiver [] = None
+receiver (x ∷ xs) = receiver_or x.option x xs (receiver xs)
+
+abbrev pub operator_for : Place → List ℕ → Option Receiver → Walk Shaped
+operator_for p n (Some r) = member_call p n (channelled r.of.shape) r.others
+operator_for p n None = gives (alone unknown_kind)
+
 abbrev pub operator_on : Place → List ℕ → List Given → Walk Shaped
-operator_on p n [] = gives (alone unknown_kind)
-operator_on p n (x ∷ xs) = member_call p n (channelled x.shape) xs
+operator_on p n xs = operator_for p n (receiver xs)
+
+-- ---- all calls by name
 
 abbrev pub call_of : Callee → Place → List ℕ → List Given → Walk Shaped
 call_of (a_process ns) p n xs = process_call p n ns xs

@@ -1,5 +1,5 @@
 -- What the parts of a workflow's body come to, by where they stand: what each may be, the scope after it, and the rules that it breaks.
-use Rattle.std.specs.Prelude.{ℤ, pos, negsuc, ℕ, zero, suc, Bool, false, ◌||◌, List, [], ◌∷◌, ◌++◌, codes, Option, Some, None, if◌then◌else◌}
+use Rattle.std.specs.Prelude.{ℤ, pos, negsuc, ℕ, zero, suc, Bool, true, false, ◌||◌, List, [], ◌∷◌, ◌++◌, codes, Option, Some, None, if◌then◌else◌}
 use Rattle.std.specs.Str.{bytes_eq}
 use Rattle.nf_value.specs.declared.place.Place.{Place}
 use Rattle.nf_ast.specs.declared.operators.InfixOperator.{InfixOperator}
@@ -13,7 +13,7 @@ use Rattle.nf_names_used.specs.Uses.{uses, no_names}
 use Rattle.nf_kinds.specs.declared.kinds.Kinds.{Kinds}
 use Rattle.nf_kinds.specs.declared.kinds.Key.TheVariants as key
 use Rattle.nf_kinds.specs.Kinds.{Shaped, alone, merged, unknown_kind, plain_kind, plain_unless, output_of, some_output_of, part_by}
-use Rattle.nf_kinds.specs.Scope.{Scope, defined, all_defined, assigned, left_by, after_both, bound_in, read_name, shape_in, given_kind}
+use Rattle.nf_kinds.specs.Scope.{Scope, defined, all_defined, assigned, left_by, after_both, bound_in, is_half_bound, bound_or, read_name, shape_in, given_kind}
 use Rattle.nf_kinds.specs.Walk.{Out, came, Walk, ◌>>=◌, gives, with_scope}
 use Rattle.nf_kinds.specs.declared.args.Given.{Given}
 use Rattle.nf_kinds.specs.Args.{any_unknown}
@@ -119,6 +119,24 @@ passed = record (plain empty) { done = gives tt }
 abbrev pub statement : Walk (Unit {0}) → Part
 statement w = record passed { done = w }
 
+-- ---- two ways
+
+-- each begins in the scope before both
+abbrev pub both_ends : {A B : Type 0} → Out A → Out B → Out (A × B)
+both_ends (came x s fs) (came y t gs) = came (x, y) (after_both s t) (fs ++ gs)
+
+abbrev pub both : {A B : Type 0} → Walk A → Walk B → Walk (A × B)
+both m n s = both_ends (m s) (n s)
+
+-- what one or the other gives
+abbrev pub either_way : Walk Shaped → Walk Shaped → Walk Shaped
+either_way m n = both m n >>= λ x. gives (merged x.0 x.1)
+
+-- what a name gives that is bound, and where one arm of an `if` alone bound it, also what it gives where nothing binds it
+abbrev pub bound_or_free : Bool → Walk Shaped → Walk Shaped → Walk Shaped
+bound_or_free true m n = either_way m n
+bound_or_free false m n = m
+
 -- ---- names
 
 abbrev pub is_channel_word : List ℕ → Bool
@@ -139,9 +157,9 @@ or_part None n m = alone (output_of (key.Called m) (alone (free_kind n)))
 abbrev pub free_member : Scope → List ℕ → List ℕ → Shaped
 free_member s n m = if is_channel_word n then alone unknown_kind else or_part (called_out s n m) n m
 
-abbrev pub name_member : Option Shaped → Scope → List ℕ → List ℕ → Shaped
-name_member (Some v) s n m = alone (output_of (key.Called m) v)
-name_member None s n m = free_member s n m
+abbrev pub name_member : Bool → Option Shaped → Scope → List ℕ → List ℕ → Shaped
+name_member half (Some v) s n m = bound_or half (alone (output_of (key.Called m) v)) (free_member s n m)
+name_member half None s n m = free_member s n m
 
 -- what a call gave isn't called
 abbrev pub out_or_method : Option Shaped → List ℕ → Place → List ℕ → List Given → Walk Shaped
@@ -152,9 +170,9 @@ out_or_method None n q m gs = member_call q m (alone (free_kind n)) gs
 abbrev pub free_method : Scope → List ℕ → Place → List ℕ → List Given → Walk Shaped
 free_method s n q m gs = if is_channel_word n then gives (alone (source_call m gs)) else out_or_method (called_out s n m) n q m gs
 
-abbrev pub name_method : Option Shaped → Scope → List ℕ → Place → List ℕ → List Given → Walk Shaped
-name_method (Some v) s n q m gs = member_call q m v gs
-name_method None s n q m gs = free_method s n q m gs
+abbrev pub name_method : Bool → Option Shaped → Scope → List ℕ → Place → List ℕ → List Given → Walk Shaped
+name_method half (Some v) s n q m gs = bound_or_free half (member_call q m v gs) (free_method s n q m gs)
+name_method half None s n q m gs = free_method s n q m gs
 
 -- the name of a process or a workflow at the head of a pipe is its call
 abbrev pub head_of : Callee → Place → List ℕ → Walk Shaped
@@ -162,18 +180,18 @@ head_of (a_process ns) p n = call_of (a_process ns) p n []
 head_of (a_workflow f) p n = call_of (a_workflow f) p n []
 head_of k p n = gives (alone (given_kind n))
 
-abbrev pub name_head : Option Shaped → Callee → Place → List ℕ → Walk Shaped
-name_head (Some v) k p n = gives v
-name_head None k p n = head_of k p n
+abbrev pub name_head : Bool → Option Shaped → Callee → Place → List ℕ → Walk Shaped
+name_head half (Some v) k p n = bound_or_free half (gives v) (head_of k p n)
+name_head half None k p n = head_of k p n
 
 abbrev pub named_call : Around → Place → List ℕ → Walk (List Given) → Walk Shaped
 named_call a p n w = w >>= call_of (a.callee n) p n
 
 abbrev pub of_name : Around → Place → List ℕ → Part
 of_name a p n = record (expression (tree.name p n) (λ s. came (read_name n s) s [])) {
-  head = λ s. name_head (bound_in n s) (a.callee n) p n s;
-  member = λ m s. came (name_member (bound_in n s) s n m) s [];
-  method = λ q m xs s. (all_given xs >>= name_method (bound_in n s) s n q m) s;
+  head = λ s. name_head (is_half_bound n s) (bound_in n s) (a.callee n) p n s;
+  member = λ m s. came (name_member (is_half_bound n s) (bound_in n s) s n m) s [];
+  method = λ q m xs s. (all_given xs >>= name_method (is_half_bound n s) (bound_in n s) s n q m) s;
   called = λ xs. named_call a p n (all_given xs);
   closed = λ xs. named_call a p n (all_given xs);
   named = λ g xs. named_call a p n (all_given xs >>= λ gs. gives (g ∷ gs));
@@ -261,13 +279,6 @@ indexed i v k = if k.unknown then unknown_kind else index_kind i v
 abbrev pub of_binary : InfixOperator → Tree → Part → Part → Part
 of_binary infix_operator.Pipe t a b = expression t (a.head >>= λ v. b.piped (handed v))
 of_binary k t a b = expression t (a.thing >>= λ v. b.thing >>= λ w. plain_by (v.kinds.unknown || w.kinds.unknown))
-
--- each arm begins in the scope before both
-abbrev pub both_ends : {A B : Type 0} → Out A → Out B → Out (A × B)
-both_ends (came x s fs) (came y t gs) = came (x, y) (after_both s t) (fs ++ gs)
-
-abbrev pub both : {A B : Type 0} → Walk A → Walk B → Walk (A × B)
-both m n s = both_ends (m s) (n s)
 
 abbrev pub chosen : Walk Shaped → Walk Shaped → Walk Shaped → Walk Shaped
 chosen c a b = c >>= λ k. both a b >>= λ x. gives (if k.kinds.unknown then alone unknown_kind else merged x.0 x.1)

@@ -1,6 +1,7 @@
 -- How judging goes on in the code: from the state in which a part begins to the state in which what follows it begins.
 use denote.Param.Weighed.{most}
 use Rattle.std.specs.Prelude.{◌≡◌, ◌≤◌, length, ℕ, zero, suc, Bool, true, false, ◌||◌, List, [], ◌∷◌, ◌++◌, map, Option, Some, None, option_map}
+use Rattle.std.specs.Option.{is_none}
 use Rattle.nf_value.specs.declared.place.Place.{Place}
 use Rattle.nf_builtins.specs.Natives.{is_among}
 use Rattle.nf_ast.specs.declared.expr.Prefix.{Prefix}
@@ -16,7 +17,8 @@ use Rattle.nf_kinds.specs.declared.args.Given.{Given}
 use Rattle.nf_kinds.specs.declared.kinds.Key.TheVariants as key
 use Rattle.nf_kinds.specs.declared.kinds.Kinds.{Kinds}
 use Rattle.nf_kinds.specs.Args.{any_unknown}
-use Rattle.nf_kinds.specs.Kinds.{Shaped, alone, as_channel, unknown_kind, plain_unless, output_of}
+use Rattle.nf_kinds.specs.Kinds.{Shaped, alone, as_channel, merged, unknown_kind, plain_unless, output_of}
+use Rattle.nf_kinds.specs.Scope.{Scope}
 use Rattle.nf_kinds.specs.Walk.{Walk, ◌>>=◌, gives, after, Comes}
 use Rattle.nf_opkinds.specs.Operators.{Call, member_call}
 use Rattle.nf_opkinds.specs.Calls.{source_call}
@@ -24,13 +26,15 @@ use Rattle.nf_slips.specs.Definitions as definition
 use Rattle.nf_slips.specs.Definitions.{Definition, main_of, emits_of}
 use Rattle.nf_order.specs.declared.around.State.{State}
 use Rattle.nf_order.specs.declared.around.Around as held
+use Rattle.nf_order.specs.declared.subject.Free.{Free}
+use Rattle.nf_order.specs.declared.subject.Free.TheVariants as free
 use Rattle.nf_order.specs.declared.subject.Head.{Head}
 use Rattle.nf_order.specs.declared.subject.Head.TheVariants as head
 use Rattle.nf_order.specs.declared.subject.Subject.{Subject}
 use Rattle.nf_order.specs.declared.parts.Index.{Index}
 use Rattle.nf_order.specs.declared.parts.Index.TheVariants as index
 use Rattle.nf_order.specs.Callees.{Around, call_of}
-use Rattle.nf_order.specs.Parts.{Arg, Part, all_given, plain_by, beside, expression, with_method, of_name, of_property, of_safe_property, of_call, of_closed, of_binary, part_of, indexed, Reading, number, negative, other, marked}
+use Rattle.nf_order.specs.Parts.{Arg, Part, all_given, plain_by, beside, expression, with_method, either_way, free_member, free_method, of_name, of_property, of_safe_property, of_call, of_closed, of_binary, part_of, indexed, Reading, number, negative, other, marked}
 use Rattle.nf_order.specs.Accepted.{around, emitted, entered_with, led_back, unless_within}
 
 -- what is around a body
@@ -74,11 +78,37 @@ pub record Stands (p q : Part) (old new : State) : Type 0 where
 
 -- ---- expressions that may still be called
 
+-- what stands before a dot that nothing in the body binds: a part of it, and its call
+abbrev pub free_part : Free → List ℕ → Shaped
+free_part free.Channel n = alone unknown_kind
+free_part (free.Output v) n = v
+free_part (free.Word v) n = alone (output_of (key.Called n) v)
+
+abbrev pub free_now : Free → Place → List ℕ → List Given → Walk Shaped
+free_now free.Channel p n gs = gives (alone (source_call n gs))
+free_now (free.Output v) p n gs = plain_by (v.kinds.unknown || any_unknown gs)
+free_now (free.Word v) p n gs = member_call p n v gs
+
+abbrev pub free_head : Free → Place → List ℕ → Head
+free_head free.Channel p n = head.Source n
+free_head (free.Output v) p n = head.Value v
+free_head (free.Word v) p n = head.Member v p n
+
+-- the name m stands for this before `.n`, where nothing binds it
+pub record IsFree (s : Scope) (m n : List ℕ) (f : Free) : Type 0 where
+  pub part : free_member s m n ≡ free_part f n
+  pub call : (p : Place) (gs : List Given) (r : Scope) → free_method s m p n gs r ≡ free_now f p n gs r
+
+-- what one arm of an `if` alone bound gives by a call
+abbrev pub half_now : Shaped → Free → Place → List ℕ → List Given → Walk Shaped
+half_now v f p n gs = either_way (member_call p n v gs) (free_now f p n gs)
+
 abbrev pub call_now : Around → Head → List Given → Walk Shaped
 call_now a (head.Value v) gs = plain_by (v.kinds.unknown || any_unknown gs)
 call_now a (head.Name p n) gs = call_of (a.callee n) p n gs
 call_now a (head.Member v p n) gs = member_call p n v gs
 call_now a (head.Source n) gs = gives (alone (source_call n gs))
+call_now a (head.HalfBound v f p n) gs = half_now v f p n gs
 
 abbrev pub piped_now : Around → Head → Given → List Given → Walk Shaped
 piped_now a (head.Name p n) g gs = call_of (a.callee n) p n (g ∷ gs)
@@ -102,6 +132,8 @@ uncalled a (head.Value v) = expression empty (gives v)
 uncalled a (head.Name p n) = of_name a p n
 uncalled a (head.Member v p n) = with_method (called_by a (head.Member v p n)) (expression empty (gives (alone (output_of (key.Called n) v))))
 uncalled a (head.Source n) = with_method (called_by a (head.Source n)) (expression empty (gives (alone unknown_kind)))
+uncalled a (head.HalfBound v f p n) =
+    with_method (called_by a (head.HalfBound v f p n)) (expression empty (gives (merged (alone (output_of (key.Called n) v)) (free_part f n))))
 
 -- what is called with these arguments; a closure may still follow
 abbrev pub called_with : Around → Head → List Given → Part
@@ -211,10 +243,9 @@ is_task definition.function = false
 is_task (definition.process ns) = true
 is_task (definition.workflow b) = true
 
--- nothing in the body has the name
-abbrev pub is_free_task : Option Shaped → Definition → Bool
-is_free_task (Some v) d = false
-is_free_task None d = is_task d
+-- no name and colon stand before an argument
+abbrev pub is_unnamed : Given → Bool
+is_unnamed g = is_none g.option
 
 -- the name before an argument's colon
 abbrev pub option_name : Option (Place × List ℕ) → Option (List ℕ)

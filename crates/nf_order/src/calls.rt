@@ -6,11 +6,13 @@ ghost use Rattle.nf_builtins.specs.Natives.{is_among};
 ghost use Rattle.nf_slips.specs.Memory.{body_depth, weight};
 ghost use Rattle.nf_order.specs.Callees.{call_of, entered as entered_by, operator_on as operator_on_by, unless_unknown as unless_unknown_by};
 ghost use Rattle.nf_order.specs.Natives.{by_tables};
-ghost use Rattle.nf_order.specs.Standing.{Gives, around_of, call_now, led_from, rest as rest_of};
+ghost use Rattle.nf_order.specs.Standing.{Gives, around_of, call_now, free_now, half_now, led_from, rest as rest_of};
+ghost use Rattle.nf_opkinds.specs.Operators.{member_call as member_call_by};
 
 use crate::around::{Around, State};
 use crate::natives::is_source_or_method;
-use crate::subject::{Head, Subject, read_head};
+use crate::receiver::take_receiver;
+use crate::subject::{Free, Head, Subject, read_head};
 use crate::workflows::run;
 use nf_ast::WorkflowBody;
 use nf_kinds::{Given, Kinds, Shape, any_unknown};
@@ -27,36 +29,96 @@ pub(crate) fn settle(subject: Subject, around: &Around<'_>, state: &mut State) -
     let Subject { head, args } = subject;
     match args {
         None => read_head(head, around, state),
-        Some(args) => called(head, &args, around, state),
+        Some(args) => called(head, args, around, state),
     }
 }
 
 #[cycle(judge)]
 pub(crate) fn called(
     head: Head,
+    args: Vec<Given>,
+    around: &Around<'_>,
+    state: &mut State,
+) -> Result<Shape, Mem>
+    ensures { IfOk result (λ v. Gives (call_now (around_of around.now) head args.items) state.old v state.new) }
+{
+    match head {
+        Head::Value(shape) => {
+            let is_unknown = shape.kinds().unknown || any_unknown(&args);
+            Ok(Shape::alone(Kinds::plain_unless(is_unknown)))
+        }
+        Head::Name(place, name) => call(place, &name, args, around, state),
+        Head::Member(shape, place, name) => {
+            method_call(shape, place, &name, &args, around, state)
+        }
+        Head::Source(name) => Ok(Shape::alone(source_call(name.as_str(), &args))),
+        Head::HalfBound(shape, free, place, name) => {
+            half_bound_call(shape, free, place, &name, &args, around, state)
+        }
+    }
+}
+
+/// `m.name(..)`, where one arm of an `if` alone bound m to this; each way begins in the scope before both.
+fn half_bound_call(
+    shape: Shape,
+    free: Free,
+    place: Place,
+    name: &Txt,
     args: &[Given],
     around: &Around<'_>,
     state: &mut State,
 ) -> Result<Shape, Mem>
-    ensures { IfOk result (λ v. Gives (call_now (around_of around.now) head args.now) state.old v state.new) }
+    ensures { IfOk result (λ v. Gives (half_now shape free place name.now args.now) state.old v state.new) }
 {
-    match head {
-        Head::Value(shape) => {
+    let before = state.scope.copy(around.alloc)?;
+    let bound = method_call(shape, place, name, args, around, state)?;
+    let ended = std::mem::replace(&mut state.scope, before);
+    let other = free_call(free, place, name, args, around, state)?;
+    state.scope.merge(around.alloc, &ended)?;
+    bound.merged(around.alloc, &other)
+}
+
+/// `m.name(..)`, where nothing in the body binds m.
+fn free_call(
+    free: Free,
+    place: Place,
+    name: &Txt,
+    args: &[Given],
+    around: &Around<'_>,
+    state: &mut State,
+) -> Result<Shape, Mem>
+    ensures { IfOk result (λ v. Gives (free_now free place name.now args.now) state.old v state.new) }
+{
+    match free {
+        Free::Channel => Ok(Shape::alone(source_call(name.as_str(), args))),
+        Free::Output(shape) => {
             let is_unknown = shape.kinds().unknown || any_unknown(args);
             Ok(Shape::alone(Kinds::plain_unless(is_unknown)))
         }
-        Head::Name(place, name) => call(place, &name, args, around, state),
-        Head::Member(shape, place, name) => member_call(
-            around.alloc,
-            place,
-            name.as_str(),
-            shape,
-            args,
-            &mut state.scope,
-            &mut state.broken,
-        ),
-        Head::Source(name) => Ok(Shape::alone(source_call(name.as_str(), args))),
+        Free::Word(shape) => method_call(shape, place, name, args, around, state),
     }
+}
+
+/// A call of what stands before a dot.
+fn method_call(
+    shape: Shape,
+    place: Place,
+    name: &Txt,
+    args: &[Given],
+    around: &Around<'_>,
+    state: &mut State,
+) -> Result<Shape, Mem>
+    ensures { IfOk result (λ v. Gives (member_call_by place name.now shape args.now) state.old v state.new) }
+{
+    member_call(
+        around.alloc,
+        place,
+        name.as_str(),
+        shape,
+        args,
+        &mut state.scope,
+        &mut state.broken,
+    )
 }
 
 /// A call by a name.
@@ -64,15 +126,15 @@ pub(crate) fn called(
 pub(crate) fn call(
     place: Place,
     name: &Txt,
-    args: &[Given],
+    args: Vec<Given>,
     around: &Around<'_>,
     state: &mut State,
 ) -> Result<Shape, Mem>
-    ensures { IfOk result (λ v. Gives (call_of ((around_of around.now).callee name.now) place name.now args.now) state.old v state.new) }
+    ensures { IfOk result (λ v. Gives (call_of ((around_of around.now).callee name.now) place name.now args.items) state.old v state.new) }
 {
     match find_definition(around.tops, name.as_str()) {
         Definition::Nothing => undefined(place, name, args, around, state),
-        Definition::Function => Ok(Shape::alone(Kinds::plain_unless(any_unknown(args)))),
+        Definition::Function => Ok(Shape::alone(Kinds::plain_unless(any_unknown(&args)))),
         Definition::Process(process) => {
             let names = output_names(around.alloc, &process.outputs)?;
             process_call(
@@ -80,12 +142,12 @@ pub(crate) fn call(
                 place,
                 name,
                 names,
-                args,
+                &args,
                 &mut state.scope,
                 &mut state.broken,
             )
         }
-        Definition::Workflow(workflow) => enter(workflow, name, args, around, state),
+        Definition::Workflow(workflow) => enter(workflow, name, &args, around, state),
     }
 }
 
@@ -93,11 +155,11 @@ pub(crate) fn call(
 fn undefined(
     place: Place,
     name: &Txt,
-    args: &[Given],
+    args: Vec<Given>,
     around: &Around<'_>,
     state: &mut State,
 ) -> Result<Shape, Mem>
-    ensures { IfOk result (λ v. Gives (call_of (by_tables name.now) place name.now args.now) state.old v state.new) }
+    ensures { IfOk result (λ v. Gives (call_of (by_tables name.now) place name.now args.items) state.old v state.new) }
 {
     if operator_named(name.as_str()).is_some() {
         return operator_on(place, name, args, around, state);
@@ -105,33 +167,26 @@ fn undefined(
     if is_source_or_method(around.alloc, name.as_str())? {
         return Ok(Shape::alone(Kinds::unknown()));
     }
-    Ok(Shape::alone(Kinds::plain_unless(any_unknown(args))))
+    Ok(Shape::alone(Kinds::plain_unless(any_unknown(&args))))
 }
 
 /// `view(ch)` is `ch.view()`; a plain value becomes a value channel.
 fn operator_on(
     place: Place,
     name: &Txt,
-    args: &[Given],
+    args: Vec<Given>,
     around: &Around<'_>,
     state: &mut State,
 ) -> Result<Shape, Mem>
-    ensures { IfOk result (λ v. Gives (operator_on_by place name.now args.now) state.old v state.new) }
+    ensures { IfOk result (λ v. Gives (operator_on_by place name.now args.items) state.old v state.new) }
 {
-    match args {
-        [] => Ok(Shape::alone(Kinds::unknown())),
-        [first, rest @ ..] => {
-            let kinds = first.shape.kinds().as_channel();
-            let shape = first.shape.copy(around.alloc)?.with_kinds(kinds);
-            member_call(
-                around.alloc,
-                place,
-                name.as_str(),
-                shape,
-                rest,
-                &mut state.scope,
-                &mut state.broken,
-            )
+    let mut others = args;
+    match take_receiver(&mut others) {
+        None => Ok(Shape::alone(Kinds::unknown())),
+        Some(receiver) => {
+            let kinds = receiver.shape.kinds().as_channel();
+            let shape = receiver.shape.with_kinds(kinds);
+            method_call(shape, place, name, &others, around, state)
         }
     }
 }

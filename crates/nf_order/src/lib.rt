@@ -9,6 +9,7 @@ mod fault;
 mod natives;
 mod parts;
 mod pipes;
+mod receiver;
 mod stmts;
 mod subject;
 mod workflows;

@@ -1,23 +1,22 @@
 //! Judges the parts after an expression: properties, indexes, calls and closures.
 
-ghost use Rattle.std.specs.Prelude.{◌≡◌, ◌++◌, ◌∷◌, [], map, option_map, None, IfOk, if◌then◌else◌};
+ghost use Rattle.std.specs.Prelude.{◌≡◌, ◌++◌, ◌∷◌, [], map, option_map, Some, IfOk, if◌then◌else◌};
 ghost use Rattle.nf_ast.specs.Tree.{empty};
 ghost use Rattle.nf_ast.specs.View.{view, view_arg, view_closure, view_postfix, trees};
-ghost use Rattle.nf_kinds.specs.Kinds.{alone as alone_of};
 ghost use Rattle.nf_kinds.specs.Scope.{bound_in};
 ghost use Rattle.nf_slips.specs.Forms.{facts_of};
 ghost use Rattle.nf_slips.specs.Memory.{view_form};
 ghost use Rattle.nf_value.specs.declared.place.Place.{Place};
 ghost use Rattle.nf_order.specs.Parts as spec;
 ghost use Rattle.nf_order.specs.declared.subject.Head.TheVariants as heads;
-ghost use Rattle.nf_order.specs.Standing.{Gives, IsCalledBy, Stands, around_of, after_index, after_part, after_parts, args_or_none, marked_by, option_name as option_name_of, rest as rest_of, uncalled, view_index};
+ghost use Rattle.nf_order.specs.Standing.{Gives, IsCalledBy, IsFree, Stands, around_of, after_index, after_part, after_parts, args_or_none, marked_by, option_name as option_name_of, rest as rest_of, uncalled, view_index};
 
 use crate::around::{Around, State};
 use crate::calls::{called, settle};
 use crate::exprs::value;
-use crate::subject::{Head, Subject, read_head};
+use crate::subject::{Free, Head, Subject, read_head};
 use nf_ast::{Arg, ClosureExpr, Expr, Postfix, Prefix, PrefixOperator};
-use nf_kinds::{ClosureFacts, Given, Key, Kinds, Shape};
+use nf_kinds::{ClosureFacts, Given, Key, Kinds, Shape, given_kinds};
 use nf_slips::{Form, closure_kinds, facts, read_form};
 use nf_value::{Mem, Place, Txt};
 
@@ -71,7 +70,7 @@ fn with_member(
     match args {
         None => member_of_head(head, place, name, around, state),
         Some(args) => {
-            let shape = called(head, &args, around, state)?;
+            let shape = called(head, args, around, state)?;
             Subject::member(shape, place, name)
         }
     }
@@ -124,46 +123,55 @@ fn part_of_name(
     match state.scope.bound(object.as_str()) {
         Some(shape) => {
             let shape = shape.copy(around.alloc)?;
-            Subject::member(shape, place, name)
+            part_of_bound(shape, object, place, name, around, state)
         }
-        None => part_of_word(object, place, name, around, state),
+        None => {
+            let free = free_object(object, name, around, state)?;
+            Subject::free(free, place, name)
+        }
     }
 }
 
-/// `channel.name`, `Math.name`, `P.out` and the like.
-fn part_of_word(
+/// `m.name`, where m is bound to this, perhaps in one arm of an `if` alone.
+fn part_of_bound(
+    shape: Shape,
     object: &Txt,
     place: Place,
     name: &Txt,
     around: &Around<'_>,
     state: &State,
 ) -> Result<Subject, Mem>
-    requires free { bound_in object.now state.now.scope ≡ None }
+    requires bound { bound_in object.now state.now.scope ≡ Some shape }
     ensures { IfOk result (λ x. (p : Place) → Stands (spec.of_property empty (uncalled (around_of around.now) (heads.Name p object.now)) place name.now) (rest_of (around_of around.now) x) state.now state.now) }
 {
+    if state.scope.is_half_bound(object.as_str()) {
+        let free = free_object(object, name, around, state)?;
+        return Subject::half_bound(shape, free, place, name);
+    }
+    Subject::member(shape, place, name)
+}
+
+/// `channel`, `Math`, `P.out` and the like before `.name`, where nothing in the body binds the word.
+fn free_object(object: &Txt, name: &Txt, around: &Around<'_>, state: &State) -> Result<Free, Mem>
+    ensures { IfOk result (λ f. IsFree state.now.scope object.now name.now f) }
+{
     if object.as_str() == "channel" || object.as_str() == "Channel" {
-        return Ok(Subject::of(Head::Source(name.copy()?)));
+        return Ok(Free::Channel);
     }
     match state.scope.call(object.as_str()) {
-        Some(shape) if name.as_str() == "out" => {
-            Ok(Subject::of(Head::Value(shape.copy(around.alloc)?)))
-        }
-        _ => {
-            let shape = free_shape(object, around, state)?;
-            Subject::member(shape, place, name)
-        }
+        Some(shape) if name.as_str() == "out" => Ok(Free::Output(shape.copy(around.alloc)?)),
+        _ => Ok(Free::Word(Shape::alone(free_kinds(object.as_str())))),
     }
 }
 
 /// What a name is before a dot that nothing binds in the body.
-fn free_shape(object: &Txt, around: &Around<'_>, state: &State) -> Result<Shape, Mem>
-    requires free { bound_in object.now state.now.scope ≡ None }
-    ensures { IfOk result (λ v. v ≡ alone_of (spec.free_kind object.now)) }
+fn free_kinds(object: &str) -> Kinds
+    ensures { result ≡ spec.free_kind object.now }
 {
-    if object.as_str() == "Math" {
-        return Ok(Shape::alone(Kinds::plain()));
+    if object == "Math" {
+        return Kinds::plain();
     }
-    state.scope.read(around.alloc, object.as_str())
+    given_kinds(object)
 }
 
 /// `e[i]`.
@@ -307,7 +315,7 @@ fn callable(before: Subject, around: &Around<'_>, state: &mut State) -> Result<H
     let Subject { head, args } = before;
     match args {
         None => Ok(head),
-        Some(args) => Ok(Head::Value(called(head, &args, around, state)?)),
+        Some(args) => Ok(Head::Value(called(head, args, around, state)?)),
     }
 }
 

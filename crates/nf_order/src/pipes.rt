@@ -1,18 +1,19 @@
 //! Judges pipes: `a | f` is `f(a)`.
 
 ghost use Rattle.std.specs.Prelude.{◌≡◌, ◌∷◌, ◌||◌, [], map, option_map, IfOk};
-ghost use Rattle.nf_kinds.specs.Scope.{bound_in};
+ghost use Rattle.nf_kinds.specs.Scope.{bound_in, is_half_bound};
+ghost use Rattle.nf_kinds.specs.Walk.{gives};
 ghost use Rattle.nf_ast.specs.Tops.{view_top};
 ghost use Rattle.nf_ast.specs.View.{trees};
 ghost use Rattle.nf_slips.specs.Definitions.{definition_in};
-ghost use Rattle.nf_order.specs.Parts.{beside as beside_by, handed};
+ghost use Rattle.nf_order.specs.Parts.{beside as beside_by, bound_or_free, handed, head_of};
 ghost use Rattle.nf_order.specs.declared.subject.Head.TheVariants as heads;
-ghost use Rattle.nf_order.specs.Standing.{Gives, around_of, uncalled, args_or_none, is_free_task as is_free_task_by, is_task as is_task_by, rest as rest_of};
+ghost use Rattle.nf_order.specs.Standing.{Gives, around_of, uncalled, args_or_none, is_task as is_task_by, rest as rest_of};
 
 use crate::around::{Around, State};
 use crate::calls::{call, called, settle};
 use crate::subject::{Head, Subject, plain_of, read_head};
-use nf_kinds::{Given, Shape};
+use nf_kinds::{Given, Shape, given_kinds};
 use nf_slips::{Definition, find_definition};
 use nf_value::{Mem, Place, Txt};
 
@@ -28,7 +29,7 @@ pub(crate) fn pipe_first(
     let Subject { head, args } = first;
     match args {
         None => first_head(head, around, state),
-        Some(args) => called(head, &args, around, state),
+        Some(args) => called(head, args, around, state),
     }
 }
 
@@ -46,20 +47,51 @@ fn first_head(head: Head, around: &Around<'_>, state: &mut State) -> Result<Shap
 fn first_name(place: Place, name: Txt, around: &Around<'_>, state: &mut State) -> Result<Shape, Mem>
     ensures { IfOk result (λ v. Gives (uncalled (around_of around.now) (heads.Name place name)).head state.old v state.new) }
 {
-    if is_free_task(around, state, name.as_str()) {
-        return call(place, &name, &[], around, state);
+    match bound_shape(&name, around, state)? {
+        None => free_name(place, &name, around, state),
+        Some(shape) => bound_name(shape, place, &name, around, state),
     }
-    state.scope.read(around.alloc, name.as_str())
 }
 
-/// Whether a name is that of a process or a workflow, and nothing in the body has it.
-fn is_free_task(around: &Around<'_>, state: &State, name: &str) -> bool
-    ensures { result ≡ is_free_task_by (bound_in name.now state.now.scope) (definition_in name.now (trees (map view_top around.now.tops.now))) }
+/// What binds a name.
+fn bound_shape(name: &Txt, around: &Around<'_>, state: &State) -> Result<Option<Shape>, Mem>
+    ensures { IfOk result (λ o. o ≡ bound_in name.now state.now.scope) }
 {
-    match state.scope.bound(name) {
-        Some(_) => false,
-        None => is_task(around, name),
+    match state.scope.bound(name.as_str()) {
+        Some(shape) => Ok(Some(shape.copy(around.alloc)?)),
+        None => Ok(None),
     }
+}
+
+/// A name that is bound to this, perhaps in one arm of an `if` alone.
+#[cycle(judge)]
+fn bound_name(
+    shape: Shape,
+    place: Place,
+    name: &Txt,
+    around: &Around<'_>,
+    state: &mut State,
+) -> Result<Shape, Mem>
+    ensures { IfOk result (λ v. Gives (bound_or_free (is_half_bound name.now state.old.scope) (gives shape) (head_of ((around_of around.now).callee name.now) place name.now)) state.old v state.new) }
+{
+    if !state.scope.is_half_bound(name.as_str()) {
+        return Ok(shape);
+    }
+    let before = state.scope.copy(around.alloc)?;
+    let other = free_name(place, name, around, state)?;
+    state.scope.merge(around.alloc, &before)?;
+    shape.merged(around.alloc, &other)
+}
+
+/// A name that nothing in the body binds.
+#[cycle(judge)]
+fn free_name(place: Place, name: &Txt, around: &Around<'_>, state: &mut State) -> Result<Shape, Mem>
+    ensures { IfOk result (λ v. Gives (head_of ((around_of around.now).callee name.now) place name.now) state.old v state.new) }
+{
+    if is_task(around, name.as_str()) {
+        return call(place, name, Vec::new(around.alloc), around, state);
+    }
+    Ok(Shape::alone(given_kinds(name.as_str())))
 }
 
 /// Whether a name is that of a process or a workflow.
@@ -86,7 +118,7 @@ pub(crate) fn pipe_to(
     match head {
         Head::Name(place, name) => {
             let given = with_first(left, args, around)?;
-            call(place, &name, &given, around, state)
+            call(place, &name, given, around, state)
         }
         other => beside(left, Subject { head: other, args }, around, state),
     }

@@ -1,10 +1,11 @@
 //! Expressions that may still be called.
 
-ghost use Rattle.std.specs.Prelude.{◌≡◌, ◌||◌, [], None, Some, IfOk};
+ghost use Rattle.std.specs.Prelude.{◌≡◌, ℕ, List, ◌||◌, [], None, Some, IfOk};
+ghost use Rattle.nf_kinds.specs.declared.kinds.Key.TheVariants as keys;
 ghost use Rattle.nf_kinds.specs.Kinds.{alone, plain_unless};
 ghost use Rattle.nf_kinds.specs.Walk.{came};
 ghost use Rattle.nf_order.specs.declared.subject.Head.TheVariants as heads;
-ghost use Rattle.nf_order.specs.Standing.{around_of, uncalled};
+ghost use Rattle.nf_order.specs.Standing.{around_of, free_head, free_part, uncalled};
 
 use crate::around::{Around, State};
 use nf_kinds::{Given, Key, Kinds, Shape};
@@ -21,6 +22,19 @@ pub(crate) enum Head {
     Member(Shape, Place, Txt),
     /// `channel.name`.
     Source(Txt),
+    /// `m.name`, where one arm of an `if` alone bound m: with what it is bound to, and what it is where nothing binds it.
+    HalfBound(Shape, Free, Place, Txt),
+}
+
+/// What stands before a dot that nothing in the body binds.
+#[derive(Drop)]
+pub(crate) enum Free {
+    /// The word `channel`.
+    Channel,
+    /// What the call of a process or a workflow gave, of which `out` is read.
+    Output(Shape),
+    /// Any other word.
+    Word(Shape),
 }
 
 /// An expression as far as its parts are read: a closure may still follow its arguments.
@@ -54,6 +68,24 @@ impl Subject {
         Ok(Subject::of(Head::Member(shape, place, name.copy()?)))
     }
 
+    /// `m.name`, where nothing in the body binds m.
+    pub fn free(free: Free, place: Place, name: &Txt) -> Result<Subject, Mem>
+        ensures { IfOk result (λ x. x ≡ record { head = free_head free place name.now; args = None }) }
+    {
+        match free {
+            Free::Channel => Ok(Subject::of(Head::Source(name.copy()?))),
+            Free::Output(shape) => Ok(Subject::of(Head::Value(shape))),
+            Free::Word(shape) => Subject::member(shape, place, name),
+        }
+    }
+
+    /// `m.name`, where one arm of an `if` alone bound m to this.
+    pub fn half_bound(shape: Shape, free: Free, place: Place, name: &Txt) -> Result<Subject, Mem>
+        ensures { IfOk result (λ x. x ≡ record { head = heads.HalfBound shape free place name.now; args = None }) }
+    {
+        Ok(Subject::of(Head::HalfBound(shape, free, place, name.copy()?)))
+    }
+
     /// What is called with these arguments.
     pub fn called(head: Head, args: Vec<Given>) -> Subject
         ensures { result ≡ record { head = head; args = Some args } }
@@ -74,6 +106,22 @@ pub(crate) fn read_head(head: Head, around: &Around<'_>, state: &State) -> Resul
         Head::Name(_, name) => state.scope.read(around.alloc, name.as_str()),
         Head::Member(shape, _, name) => Ok(Shape::alone(shape.output(&Key::Called(name)))),
         Head::Source(_) => Ok(Shape::alone(Kinds::unknown())),
+        Head::HalfBound(shape, free, _, name) => {
+            let key = Key::Called(name);
+            let bound = Shape::alone(shape.output(&key));
+            bound.merged(around.alloc, &read_free(free, &key))
+        }
+    }
+}
+
+/// A part of what nothing binds.
+fn read_free(free: Free, key: &Key) -> Shape
+    ensures { (n : List ℕ) → key.now ≡ keys.Called n → result ≡ free_part free n }
+{
+    match free {
+        Free::Channel => Shape::alone(Kinds::unknown()),
+        Free::Output(shape) => shape,
+        Free::Word(shape) => Shape::alone(shape.output(key)),
     }
 }
 

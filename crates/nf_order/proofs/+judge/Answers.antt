@@ -5,25 +5,27 @@ use Rattle.nf_slips.specs.Definitions.{definition_in}
 use Rattle.nf_order.specs.declared.around.State.{State}
 use Rattle.nf_order.proofs.Entering.{called_as, in_if, unknown_there, task_at_head, name_at_head, statements_alone, not_among}
 use Rattle.nf_builtins.specs.Natives.{is_among}
+use Rattle.nf_kinds.specs.declared.args.Given.{Given}
 use Rattle.nf_opkinds.specs.Operators.{Call}
 use Rattle.nf_order.specs.Accepted.{around, entered_with, emitted, emitted_one}
-use Rattle.nf_order.specs.Standing.{led_from, around_of, after_operands, rest, Gives, Stands, plain_subject, uncalled, chain_of, IsRead, after_operand, option_name, call_now, after_parts, IsCalledBy, after_index, is_free_task}
+use Rattle.nf_order.specs.Standing.{led_from, around_of, after_operands, rest, Gives, Stands, plain_subject, uncalled, chain_of, IsRead, after_operand, option_name, call_now, after_parts, IsCalledBy, after_index, is_task}
 use Rattle.nf_order.proofs.Walks.{if_ok, maps}
+use Rattle.nf_order.proofs.Ways.{either_gives}
 use Rattle.nf_order.proofs.Chaining.{operands_step, infix_result, postfix_result, prefix_some, same_result, joined_stands, no_pipe, operand_as, piped_stands, parts_step}
 use Rattle.std.proofs.lemmas.List.{nil_from_length}
 use Rattle.nf_ast.specs.declared.expr.Expr.{the_lemmas, size-Expr}
 use Rattle.nf_order.proofs.Arms.{second_none, second_result, turns_some, arms_result, turn_elvis, turned_as, left_on, read_as, read_goes, arms_turn, choice_stands, define_all_gives}
 use Rattle.nf_order.proofs.Rows.{first_of, row_step}
 use Rattle.nf_kinds.specs.Kinds.{alone, plain_unless, merged, unknown_kind}
-use Rattle.nf_order.specs.Parts.{part_of, handed, of_safe_property, all_given, of_call, index_kind, indexed, of_property, in_braces}
-use Rattle.nf_order.proofs.Calling.{is_result, is_subject, rest_uncalled, rest_result, member_stands, args_stand, index_stands, result_member}
+use Rattle.nf_order.specs.Parts.{part_of, handed, of_safe_property, all_given, of_call, index_kind, indexed, of_property, in_braces, bound_or_free, head_of}
+use Rattle.nf_order.proofs.Calling.{here, is_result, is_subject, rest_uncalled, rest_result, member_stands, args_stand, index_stands, result_member}
 use Rattle.nf_order.proofs.Expressions.{closure_stands, of_tree, row_stands, done_on, argument_as, emitted_as}
 use Rattle.nf_ast.specs.declared.operators.BranchOperator.{BranchOperator}
-use Rattle.nf_kinds.specs.Scope.{after_both, bound_in, read_name}
+use Rattle.nf_kinds.specs.Scope.{after_both, is_half_bound}
 use Rattle.nf_ast.specs.declared.operators.InfixOperator.{InfixOperator}
 use Rattle.nf_ast.specs.Tree.{empty}
 use Rattle.nf_slips.specs.Forms.{form_of, facts_of, is_expression, name_of}
-use Rattle.nf_kinds.specs.Walk.{came, after}
+use Rattle.nf_kinds.specs.Walk.{came, after, gives}
 use Rattle.nf_order.specs.Callees.{call_of}
 use Rattle.std.proofs.lemmas.Result.{on_ok_weaker}
 use denote.Param.Weighed.{most}
@@ -43,15 +45,18 @@ pub calls::call-returns-in-Nothing : goal.calls::call-returns-in-Nothing
 calls::call-returns-in-Nothing t0 c =
     let n = c.args.name.now in
     let d : definition.nothing ≡ definition_in n (trees (map view_top c.args.around.now.tops.now)) = search rules in
-    called_as c.args.around.now c.args.place n c.args.args.now definition.nothing c.undefined.result c.args.state.now c.undefined.new.state d c.undefined.ensures
+    called_as c.args.around.now c.args.place n c.args.args.items definition.nothing c.undefined.result c.args.state.now c.undefined.new.state d c.undefined.ensures
 
 pub calls::call-returns-in_ok-names-in-Process : goal.calls::call-returns-in_ok-names-in-Process
 calls::call-returns-in_ok-names-in-Process t0 c =
     let n = c.args.name.now in
     let ns = c.in_ok-names-in-Process.names.items in
+    let xs = c.deref-in-Process.result.now in
     let new : State = record { scope = c.process_call.new.scope; broken = c.process_call.new.broken } in
     let d : definition.process ns ≡ definition_in n (trees (map view_top c.args.around.now.tops.now)) = search rules in
-    called_as c.args.around.now c.args.place n c.args.args.now (definition.process ns) c.process_call.result c.args.state.now new d c.process_call.ensures
+    let same : xs ≡ c.args.args.items = search rules in
+    subst (λ (gs : List Given). IfOk c.process_call.result (λ v. Gives (call_of ((around_of c.args.around.now).callee n) c.args.place n gs) c.args.state.now v new)) same
+    (called_as c.args.around.now c.args.place n xs (definition.process ns) c.process_call.result c.args.state.now new d c.process_call.ensures)
 
 pub calls::entered-returns-clause-gives : goal.calls::entered-returns-clause-gives
 calls::entered-returns-clause-gives t0 c =
@@ -452,22 +457,34 @@ pipes::beside-returns t0 c =
     let is : c.plain_of.result ≡ alone (plain_unless (l.kinds.unknown || v.kinds.unknown)) = search rules in
     maps w (λ u. alone (plain_unless (l.kinds.unknown || u.kinds.unknown))) v old new g ∙ ap (λ u. came u new.scope new.broken.items) (sym is)
 
-pub pipes::first_name-returns-then-is_free_task : goal.pipes::first_name-returns-then-is_free_task
-pipes::first_name-returns-then-is_free_task t0 c =
-    let s = c.args.state.now in
-    let p = c.args.place in
-    let n = c.args.name in
-    let free : is_free_task (bound_in n s.scope) (definition_in n (trees (map view_top c.args.around.now.tops.now))) ≡ true = search rules in
-    let g : IfOk c.call.result (λ v. Gives (call_of ((around_of c.args.around.now).callee n) p n []) s v c.call.new.state) = search rules in
-    task_at_head c.args.around.now p n c.call.result s c.call.new.state free g
+pub pipes::bound_name-returns : goal.pipes::bound_name-returns
+pipes::bound_name-returns t0 c =
+    let n = c.args.name.now in
+    let v = c.args.shape in
+    let w = head_of ((around_of c.args.around.now).callee n) c.args.place n in
+    let old = c.args.state.now in
+    let late = c.free_name.new.state in
+    let new : State = record { scope = c.merge.new.self; broken = late.broken } in
+    let x = c.in_ok-other.other in
+    let half : is_half_bound n old.scope ≡ true = search rules in
+    let second : Gives w old x late = search rules in
+    let both : new.scope ≡ after_both old.scope late.scope = search rules in
+    if_ok c.merged.result (λ z. z ≡ merged v x) (λ z. Gives (bound_or_free (is_half_bound n old.scope) (gives v) w) old z new)
+    (λ z e. ap (λ b. after old.broken.items (bound_or_free b (gives v) w old.scope)) half ∙ either_gives (gives v) w v x z old old old late new (here v old) refl refl second both refl e) (search rules)
 
-pub pipes::first_name-returns : goal.pipes::first_name-returns
-pipes::first_name-returns t0 c =
-    let s = c.args.state.now in
-    let n = c.args.name in
-    let free : is_free_task (bound_in n s.scope) (definition_in n (trees (map view_top c.args.around.now.tops.now))) ≡ false = search rules in
-    let g : IfOk c.read.result (λ v. v ≡ read_name n s.scope) = search rules in
-    name_at_head c.args.around.now c.args.place n c.read.result s free g
+pub pipes::free_name-returns-then-is_task : goal.pipes::free_name-returns-then-is_task
+pipes::free_name-returns-then-is_task t0 c =
+    let n = c.args.name.now in
+    let old = c.args.state.now in
+    let task : is_task (definition_in n (trees (map view_top c.args.around.now.tops.now))) ≡ true = search rules in
+    let g : IfOk c.call.result (λ v. Gives (call_of ((around_of c.args.around.now).callee n) c.args.place n []) old v c.call.new.state) = search rules in
+    task_at_head c.args.around.now c.args.place n c.call.result old c.call.new.state task g
+
+pub pipes::free_name-returns : goal.pipes::free_name-returns
+pipes::free_name-returns t0 c =
+    let n = c.args.name.now in
+    let task : is_task (definition_in n (trees (map view_top c.args.around.now.tops.now))) ≡ false = search rules in
+    name_at_head c.args.around.now c.args.place n c.alone.result c.args.state.now task (search rules)
 
 pub stmts::choice-returns-in_ok-choice-in-len1-up : goal.stmts::choice-returns-in_ok-choice-in-len1-up
 stmts::choice-returns-in_ok-choice-in-len1-up t0 c =
