@@ -15,7 +15,7 @@ use std::alloc::Global;
 use std::test::Fail;
 
 /// A source of the item 7, and `view`, which reads it.
-fn viewed(alloc: Global) -> Result<Graph, Mem>
+pub(crate) fn viewed(alloc: Global) -> Result<Graph, Mem>
     ensures { IfOk result (λ g. g ≡ viewed_nodes) }
 {
     let source = Node {
@@ -29,7 +29,7 @@ fn viewed(alloc: Global) -> Result<Graph, Mem>
 }
 
 /// A process without ports, and `view`, which reads it.
-fn tasked(alloc: Global) -> Result<Graph, Mem>
+pub(crate) fn tasked(alloc: Global) -> Result<Graph, Mem>
     ensures { IfOk result (λ g. g ≡ task_nodes) }
 {
     let process = Node {

@@ -1,0 +1,4 @@
+pub mod Staying
+pub mod Distinct
+pub mod Entering
+pub mod Legals

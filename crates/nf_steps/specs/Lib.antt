@@ -1,0 +1,3 @@
+pub mod Run
+pub mod Steps
+pub mod Echo
