@@ -4,3 +4,4 @@ pub mod Turns
 pub mod Still
 pub mod Serving
 pub mod Attempting
+pub mod Whole

@@ -22,7 +22,7 @@ use Rattle.nf_machine.specs.declared.event.Cause.{Cause}
 use Rattle.nf_machine.specs.declared.stop.Stop.{Stop}
 use Rattle.nf_machine.specs.State as machine
 use Rattle.nf_machine.specs.State.{Spot, State}
-use Rattle.nf_machine.specs.Step.{Given, do_close, do_pass, inputs_of as inputs_in, limit, passed_on, step, ticket_at, take_at, takes}
+use Rattle.nf_machine.specs.Step.{Given, do_close, do_pass, inputs_of as inputs_in, limit, passed_on, step, ticket_at, take_at}
 use Rattle.nf_machine.specs.Event.{answer_of, charge_stop}
 use Rattle.nf_machine.specs.Legal.{IsOperatorKind, IsProcessKind}
 use Rattle.nf_machine.specs.Legal as legal
