@@ -1,11 +1,14 @@
 //! The lane over a host in memory.
 
-use crate::tasks::{Ending, WORK, child_of, digest_of, end_of, job_of, store_at, txt};
-use nf_host::{Host, HostRefusal, MemHost, SharedHost, Whole, read_whole};
-use nf_job::Job;
-use nf_lane::Lane;
-use nf_shell::{Damage, ShellLane, is_output, job_folder, stored_path};
-use nf_value::Mem;
+use crate::tasks::{Ending, WORK, child_of, digest_of, end_of, job_of, report_of, store_at, txt};
+use nf_host::{Digested, Host, HostRefusal, MemHost, SharedHost, Whole, read_whole};
+use nf_job::{Job, Report};
+use nf_lane::{Lane, Look};
+use nf_shell::{
+    Damage, ShellLane, found_digest, has_digest, is_in_store, is_output, job_folder, store_file,
+    stored_path,
+};
+use nf_value::{Digest, Mem};
 use std::alloc::Global;
 use std::sync::Wait;
 use std::test::Fail;
@@ -127,28 +130,50 @@ fn each_call_fails_in_turn(rt: HostRuntime) -> Result<(), Fail> {
     Ok(())
 }
 
-/// Whether this is the damage of the file `two`, in whose place one of the text `3` was found.
-fn is_of_two(damage: &Damage) -> bool {
-    match damage.found {
-        Some(found) => {
-            damage.name.as_str() == "two"
-                && damage.due.0 == digest_of("2").0
-                && found.0 == digest_of("3").0
-        }
+/// Whether this is the damage of the file `two`, in whose place a file of this digest was found, or none.
+fn is_of_two(damage: &Damage, found: Option<Digest>) -> bool {
+    damage.name.as_str() == "two"
+        && damage.due.0 == digest_of("2").0
+        && are_same(damage.found, found)
+}
+
+fn are_same(first: Option<Digest>, second: Option<Digest>) -> bool {
+    match first {
+        Some(digest) => is_of(second, digest),
+        None => second.is_none(),
+    }
+}
+
+fn is_of(found: Option<Digest>, digest: Digest) -> bool {
+    match found {
+        Some(found) => found.0 == digest.0,
         None => false,
     }
 }
 
-/// Whether a run whose second staged file is damaged fails, and the lane tells that.
-fn tells_the_damage(alloc: Global, host: MemHost) -> Result<bool, Mem> {
+/// Whether these are the damages of the file `two` alone.
+fn are_of_two(damages: &[Damage], found: Option<Digest>) -> bool {
+    match damages {
+        [damage] => is_of_two(damage, found),
+        _ => false,
+    }
+}
+
+/// Whether a run over a host whose second staged file is damaged fails, and the lane tells what it found in its place.
+fn tells_the_damage<H: Host + Drop>(
+    alloc: Global,
+    host: H,
+    found: Option<Digest>,
+) -> Result<bool, Mem> {
     let job = task(alloc)?;
     let work = txt(alloc, WORK)?;
     let mut lane = ShellLane::new(alloc, host, work);
     let end = end_of(alloc, &mut lane, &job, 3, "12", FOUND);
-    match lane.damages() {
-        [damage] => Ok(matches!(end, Ending::Failed) && lane.faults() == 1 && is_of_two(damage)),
-        _ => Ok(false),
-    }
+    Ok(tells_of_two(&lane, end, found))
+}
+
+fn tells_of_two<H: Host + Drop>(lane: &ShellLane<H>, end: Ending, found: Option<Digest>) -> bool {
+    matches!(end, Ending::Failed) && lane.faults() == 1 && are_of_two(lane.damages(), found)
 }
 
 #[test]
@@ -156,9 +181,68 @@ fn a_damaged_file(rt: HostRuntime) -> Result<(), Fail> {
     let alloc = rt.alloc();
     let mut host = host_of(alloc)?;
     store_at(alloc, &mut host, &digest_of("2"), "3")?;
-    let tells = tells_the_damage(alloc, host)?;
+    let tells = tells_the_damage(alloc, host, Some(digest_of("3")))?;
     assert!(rt; tells);
     Ok(())
+}
+
+#[test]
+fn a_lost_file(rt: HostRuntime) -> Result<(), Fail> {
+    let alloc = rt.alloc();
+    let mut host = MemHost::new(alloc);
+    store_at(alloc, &mut host, &digest_of("1"), "1")?;
+    let tells = tells_the_damage(alloc, host, None)?;
+    assert!(rt; tells);
+    Ok(())
+}
+
+/// The name of the file of a report that a lane misses, if it misses one.
+fn is_missing<L: Lane>(alloc: Global, lane: &mut L, report: &Report, name: &str) -> bool {
+    match lane.look(alloc, report) {
+        Ok(Look::Gone { name: missing }) => missing.as_str() == name,
+        Ok(Look::There(_)) | Err(_) => false,
+    }
+}
+
+#[test]
+fn a_look_for_a_lost_file(rt: HostRuntime) -> Result<(), Fail> {
+    let alloc = rt.alloc();
+    let report = report_of(alloc, &[("one", "1"), ("other", "3"), ("two", "2")])?;
+    let work = txt(alloc, WORK)?;
+    let mut lane = ShellLane::new(alloc, host_of(alloc)?, work);
+    let missing = is_missing(alloc, &mut lane, &report, "other");
+    assert!(rt; missing);
+    Ok(())
+}
+
+/// The path of a file before it is stored, and the one at which it is copied first.
+const NEW: &str = "new";
+
+const SCRATCH: &str = "new.part";
+
+#[test]
+fn a_file_is_stored(rt: HostRuntime) -> Result<(), Fail> {
+    let alloc = rt.alloc();
+    let mut host = MemHost::new(alloc);
+    host.put(NEW, b"today")?;
+    let stored = store_file(alloc, &mut host, WORK, NEW, SCRATCH)?;
+    assert_eq!(rt; stored.map_or(0, |stored| stored.len), 5);
+    let there = is_in_store(alloc, &mut host, WORK, &digest_of("today"))?;
+    assert!(rt; there);
+    let none = store_file(alloc, &mut host, WORK, SCRATCH, NEW)?;
+    assert!(rt; none.is_none());
+    Ok(())
+}
+
+#[test]
+fn what_is_found(rt: HostRuntime) {
+    let due = digest_of("1");
+    let whole = Digested::Whole {
+        digest: due,
+        len: 1,
+    };
+    assert!(rt; has_digest(whole, &due));
+    assert!(rt; found_digest(whole).is_some());
 }
 
 /// The places of the digest of no bytes (FIPS 180-4).

@@ -18,10 +18,14 @@ type Row = (
     &'static [(&'static str, &'static str)],
 );
 
-/// What a shell does with these scripts (POSIX, "Shell Command Language"; 2.8.2 for signals): it writes to both outputs and reads
-/// its input and a staged file, exits with 3, is ended by a signal (128 and the signal's number), leaves no output, leaves a folder
-/// in an output's place, stops at a command that fails, leaves a file in a folder and a symbolic link. A signal that ends the
-/// child itself leaves no exit code.
+/// The names in a job's folder when the shell lists them.
+const NAMES: &str = ".command.err\n.command.in\n.command.out\n.command.sh\nl.txt\none.in\n";
+
+/// What a shell does with these scripts (POSIX, "Shell Command Language"): it writes to both outputs and reads its input and a
+/// staged file, exits with 3, is ended by a signal (128 and the signal's number in dash and bash; POSIX, 2.8.2, says above 128
+/// only), leaves no output, leaves a folder in an output's place, stops at a command that fails, leaves a file in a folder and a
+/// symbolic link. A signal that ends the child itself leaves no exit code. The last two rows are one job, whose second try finds
+/// nothing of its first.
 const ROWS: &[Row] = &[
     (
         "cat; cat one.in; echo no >&2; printf b > b.txt; printf a > a.txt",
@@ -40,6 +44,18 @@ const ROWS: &[Row] = &[
         0,
         "",
         &[],
+    ),
+    (
+        "ls -A > l.txt; printf a > a.txt",
+        0,
+        "",
+        &[("a.txt", "a"), ("l.txt", NAMES)],
+    ),
+    (
+        "ls -A > l.txt; printf a > a.txt",
+        0,
+        "",
+        &[("a.txt", "a"), ("l.txt", NAMES)],
     ),
 ];
 

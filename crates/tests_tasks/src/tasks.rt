@@ -3,7 +3,7 @@
 ghost use Rattle.std.specs.Prelude.{◌≡◌, ◌<◌, ◌^◌, IfOk};
 
 use nf_host::{Child, Host, HostRefusal, write_file};
-use nf_job::{Captured, FileRefs, Job, JobParts, Report, Txts, make_job};
+use nf_job::{Captured, FileRefs, Found, Job, JobParts, Report, Txts, make_job};
 use nf_lane::{Finished, Lane, Look};
 use nf_shell::stored_path;
 use nf_value::{Bytes, Digest, FileRef, Mem, Txt};
@@ -32,6 +32,26 @@ pub fn file_of(alloc: Global, name: &str, text: &str) -> Result<FileRef, Mem> {
     })
 }
 
+/// Files by their names and texts.
+fn files_of(alloc: Global, texts: &[(&str, &str)]) -> Result<FileRefs, Mem> {
+    let mut files = Vec::new(alloc);
+    for (name, text) in texts.iter().copied() {
+        files.push(file_of(alloc, name, text)?)?;
+    }
+    Ok(FileRefs::of(files))
+}
+
+/// A report of these files, by their names and texts, for one pattern.
+pub fn report_of(alloc: Global, texts: &[(&str, &str)]) -> Result<Report, Mem> {
+    let mut lists = Vec::new(alloc);
+    lists.push(files_of(alloc, texts)?)?;
+    Ok(Report {
+        exit: 0,
+        captured: Captured::None,
+        found: Found::of(lists),
+    })
+}
+
 /// The job of a script with these staged files, by their names and texts, and these patterns of outputs. It reads `in`, and its
 /// standard output is wanted.
 pub fn job_of(
@@ -40,15 +60,12 @@ pub fn job_of(
     staged: &[(&str, &str)],
     patterns: &[&str],
 ) -> Result<Job, Mem> {
-    let mut files = Vec::new(alloc);
-    for (name, text) in staged.iter().copied() {
-        files.push(file_of(alloc, name, text)?)?;
-    }
+    let files = files_of(alloc, staged)?;
     let mut texts = Vec::new(alloc);
     for pattern in patterns.iter().copied() {
         texts.push(txt(alloc, pattern)?)?;
     }
-    let parts = parts_of(alloc, script, FileRefs::of(files), Txts::of(texts))?;
+    let parts = parts_of(alloc, script, files, Txts::of(texts))?;
     make_job(alloc, parts)
 }
 
