@@ -24,7 +24,8 @@ breaks_if b r p = if b then breaks r p ∷ [] else []
 abbrev pub is_before : Broken → Broken → Bool
 is_before a b =
     nat_lt a.place.line b.place.line || ((a.place.line == b.place.line)
-    && (nat_lt a.place.col b.place.col || ((a.place.col == b.place.col) && nat_lt (rule_number a.rule) (rule_number b.rule))))
+    && (nat_lt a.place.col b.place.col
+    || ((a.place.col == b.place.col) && nat_lt (rule_number a.rule) (rule_number b.rule))))
 
 -- none of these comes before it
 abbrev pub IsFirst : Broken → List Broken → Type 0

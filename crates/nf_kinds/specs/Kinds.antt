@@ -1,4 +1,5 @@
--- What an expression in a workflow's body may be: a plain value, a value channel, a queue, a call's result with its outputs, or unknown.
+-- What an expression in a workflow's body may be: a plain value, a value channel, a queue, a call's result with its
+-- outputs, or unknown.
 use Rattle.std.specs.Prelude.{◌==◌, Bool, true, false, ◌||◌, not, List, [], ◌∷◌, ◌++◌, Option, Some, None, if◌then◌else◌}
 use Rattle.std.specs.Str.{bytes_eq}
 use Rattle.nf_kinds.specs.declared.kinds.Kinds.{Kinds}

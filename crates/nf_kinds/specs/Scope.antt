@@ -107,7 +107,8 @@ abbrev pub after_both : Scope → Scope → Scope
 after_both a b = record {
   locals = aligned a.locals b.locals;
   names = merged_names a.names b.names;
-  half_bound = a.half_bound ++ others b.half_bound a.half_bound ++ names_only a.names b.names ++ names_only b.names a.names;
+  half_bound =
+      a.half_bound ++ others b.half_bound a.half_bound ++ names_only a.names b.names ++ names_only b.names a.names;
   calls = merged_names a.calls b.calls;
 }
 

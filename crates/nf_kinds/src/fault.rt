@@ -7,21 +7,23 @@ ghost use Rattle.nf_kinds.specs.Texts.{rule_text};
 use nf_value::{Mem, Place};
 use std::fmt;
 
-/// An order rule (own): what a script may not do, so that its result doesn't depend on the order in which items arrive. Displayed as `Order rule 1`.
+/// An order rule (own): what a script may not do, so that its result doesn't depend on the order in which items
+/// arrive. Displayed as `Order rule 1`.
 #[derive(Debug, Clone, Copy, PartialEq, Eq)]
 pub enum OrderRule {
     /// A process takes at most one queue. At the process's name in the call.
     ProcessQueues = 1,
     /// No operator gives the order of arrival, as `first` of a queue does. At the operator's name.
     Arrival = 2,
-    /// The closure of `reduce` is `a + b`, `Math.min(a, b)`, `Math.max(a, b)`, `a && b` or `a || b`, with its two parameters in either order. At `reduce`.
+    /// The closure of `reduce` is `a + b`, `Math.min(a, b)`, `Math.max(a, b)`, `a && b` or `a || b`, with its two
+    /// parameters in either order. At `reduce`.
     ReduceClosure = 3,
     /// `unique`, `min`, `max` and `toSortedList` take no closure. At the operator's name.
     ComparingClosure = 4,
     /// `groupTuple` takes no `size:`. At the operator's name.
     GroupSize = 5,
-    /// A closure or function assigns to names of its own alone, and a process reads no `task.index`, `task.hash` or `task.workDir`. At the name that is
-    /// assigned to, or at `task`.
+    /// A closure or function assigns to names of its own alone, and a process reads no `task.index`, `task.hash` or
+    /// `task.workDir`. At the name that is assigned to, or at `task`.
     SharedState = 6,
 }
 

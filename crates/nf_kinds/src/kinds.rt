@@ -1,4 +1,5 @@
-//! What an expression in a workflow's body may be: a plain value, a value channel, a queue, or a call's result with its outputs.
+//! What an expression in a workflow's body may be: a plain value, a value channel, a queue, or a call's result with
+//! its outputs.
 
 ghost use Rattle.std.specs.Prelude.{◌≡◌, ◌++◌, not, Some, is_some, IfOk, OnOk};
 ghost use Rattle.nf_kinds.specs.Kinds as spec;
@@ -7,7 +8,8 @@ use nf_value::{Mem, Txt};
 use std::alloc::Global;
 use std::marker::Model;
 
-/// What something may be, as far as it is known. Before a run it isn't known which arm of an `if` is taken, so it may be several of these.
+/// What something may be, as far as it is known. Before a run it isn't known which arm of an `if` is taken, so it may
+/// be several of these.
 #[derive(Debug, Clone, Copy, PartialEq, Eq)]
 pub struct Kinds {
     /// It is unknown: nothing binds a name in it.

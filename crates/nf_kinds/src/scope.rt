@@ -23,7 +23,12 @@ impl Model for BodyScope {
 
     ghost Value = { Scope };
 
-    ghost view = { λ s. record { locals = s.locals.items; names = s.names.items; half_bound = s.half_bound.items; calls = s.calls.items } };
+    ghost view = { λ s. record {
+      locals = s.locals.items;
+      names = s.names.items;
+      half_bound = s.half_bound.items;
+      calls = s.calls.items;
+    } };
 }
 
 impl BodyScope {
@@ -180,7 +185,8 @@ fn half_bound_after(alloc: Global, first: &BodyScope, second: &BodyScope) -> Res
     Ok(out)
 }
 
-/// What a name is where nothing binds it: `params` and the names of folders stand for plain values, any other is unknown.
+/// What a name is where nothing binds it: `params` and the names of folders stand for plain values, any other is
+/// unknown.
 pub fn given_kinds(name: &str) -> Kinds
     ensures { result ≡ spec.given_kind name.now }
 {

@@ -20,7 +20,8 @@ abbrev pub shared_by : List Use → List Broken
 shared_by [] = []
 shared_by (u ∷ us) = if is_assigned u.kind then breaks rule.SharedState u.place ∷ shared_by us else shared_by us
 
--- A name that is read and unknown, or one that is called as a function: fs are the names that a table has and the script doesn't define.
+-- A name that is read and unknown, or one that is called as a function: fs are the names that a table has and the
+-- script doesn't define.
 abbrev pub is_unknown_as : UseKind → List (List ℕ) → List ℕ → Scope → Bool
 is_unknown_as kind.Name fs n s = (read_name n s).kinds.unknown
 is_unknown_as kind.Function fs n s = is_among n fs

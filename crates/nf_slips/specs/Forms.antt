@@ -129,7 +129,11 @@ abbrev pub no_facts : Facts
 no_facts = record { labels = []; name = None; is_total = false }
 
 abbrev pub facts_in : Tree → Facts
-facts_in (tree.closure p ps b) = record { labels = labels_in (form_of b); name = name_alone ps (sole_of (form_of b)); is_total = is_total_over (params_in ps) (sole_of (form_of b)) }
+facts_in (tree.closure p ps b) = record {
+  labels = labels_in (form_of b);
+  name = name_alone ps (sole_of (form_of b));
+  is_total = is_total_over (params_in ps) (sole_of (form_of b));
+}
 facts_in t = no_facts
 
 abbrev pub facts_of : FormTree → Option Facts

@@ -103,9 +103,13 @@ weight (t ∷ ts) ns = top_weight t ns + weight ts ns
 
 -- the definition of a workflow that isn't entered is a part of what is left of a top, and so of the script
 abbrev pub IsTopLighter : Top → List ℕ → Definition → Type 0
-IsTopLighter t n (d.Workflow b) = (ns : List (List ℕ)) → is_among n ns ≡ false → suc (body_depth b.now) + top_weight t (ns ++ n ∷ []) ≤ top_weight t ns
+IsTopLighter t n (d.Workflow b) =
+    (ns : List (List ℕ)) → is_among n ns ≡ false
+    → suc (body_depth b.now) + top_weight t (ns ++ n ∷ []) ≤ top_weight t ns
 IsTopLighter t n _ = Unit {0}
 
 abbrev pub IsLighter : List Top → List ℕ → Definition → Type 0
-IsLighter tops n (d.Workflow b) = (ns : List (List ℕ)) → is_among n ns ≡ false → suc (body_depth b.now) + weight tops (ns ++ n ∷ []) ≤ weight tops ns
+IsLighter tops n (d.Workflow b) =
+    (ns : List (List ℕ)) → is_among n ns ≡ false
+    → suc (body_depth b.now) + weight tops (ns ++ n ∷ []) ≤ weight tops ns
 IsLighter tops n _ = Unit {0}

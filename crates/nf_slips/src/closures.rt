@@ -14,9 +14,9 @@ use nf_names_used::{Use, UseKind, closure_uses};
 use nf_value::{Mem, Txt};
 use std::alloc::Global;
 
-/// What a closure in a workflow's body may be (own): a plain value, or unknown where it uses an unknown name. `unknown` has the names that a table has and
-/// the script doesn't define: no function can be called by them. Adds the rule that it breaks by each assignment to a name that isn't its own, and none
-/// where it is unknown.
+/// What a closure in a workflow's body may be (own): a plain value, or unknown where it uses an unknown name.
+/// `unknown` has the names that a table has and the script doesn't define: no function can be called by them. Adds the
+/// rule that it breaks by each assignment to a name that isn't its own, and none where it is unknown.
 ///
 /// # Errors
 ///
@@ -28,8 +28,10 @@ pub fn closure_kinds(
     scope: &BodyScope,
     broken: &mut Vec<Broken>,
 ) -> Result<Kinds, Mem>
-    ensures kinds { IfOk result (λ k. k ≡ closure_kind unknown.now (uses (view_closure closure.now) no_names) scope.now) }
-    ensures broken { OnOk result (broken.new.items ≡ broken.old.items ++ closure_broken unknown.now (uses (view_closure closure.now) no_names) scope.now) }
+    ensures kinds { IfOk result (λ k. k
+        ≡ closure_kind unknown.now (uses (view_closure closure.now) no_names) scope.now) }
+    ensures broken { OnOk result (broken.new.items ≡ broken.old.items
+        ++ closure_broken unknown.now (uses (view_closure closure.now) no_names) scope.now) }
 {
     let uses = closure_uses(alloc, closure)?;
     if has_unknown(unknown, &uses, scope) {

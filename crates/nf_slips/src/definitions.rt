@@ -24,7 +24,8 @@ pub enum Definition<'a> {
     Function,
 }
 
-/// The first definition of a name: where several have it, that is the one which is meant (own). Takes no memory, and time by the number of definitions.
+/// The first definition of a name: where several have it, that is the one which is meant (own). Takes no memory, and
+/// time by the number of definitions.
 pub fn find_definition<'a>(tops: &'a [Top], name: &str) -> Definition<'a>
     ensures found { view_definition result ≡ spec.definition_in name.now (trees (map view_top tops.now)) }
     ensures lighter { IsLighter tops.now name.now result }
@@ -62,7 +63,8 @@ fn named_workflow<'a>(name: &str, workflow: &'a Workflow) -> Definition<'a>
     }
 }
 
-/// The first workflow without a name, with which a run begins (Nextflow reference documentation, "Workflows", "Entry workflow").
+/// The first workflow without a name, with which a run begins (Nextflow reference documentation, "Workflows", "Entry
+/// workflow").
 pub fn entry(tops: &[Top]) -> Option<&WorkflowBody>
     ensures { view_entry result ≡ spec.entry_in (trees (map view_top tops.now)) }
 {
@@ -76,8 +78,8 @@ pub fn entry(tops: &[Top]) -> Option<&WorkflowBody>
     None
 }
 
-/// The names that the outputs of a process are emitted under, where they have one (Nextflow reference documentation, "Processes", "Naming outputs"). Of two
-/// `emit:` of an output the last counts (own).
+/// The names that the outputs of a process are emitted under, where they have one (Nextflow reference documentation,
+/// "Processes", "Naming outputs"). Of two `emit:` of an output the last counts (own).
 ///
 /// # Errors
 ///

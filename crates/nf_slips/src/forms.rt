@@ -153,7 +153,8 @@ fn member<'a>(before: Form<'a>, name: &str) -> Form<'a>
 }
 
 fn called<'a>(before: Form<'a>, pair: Form<'a>) -> Form<'a>
-    ensures { (args : spec.FormTree) → view_form pair.entry ≡ spec.pair_form args → view_form result ≡ spec.called_form (view_form before.entry) args }
+    ensures { (args : spec.FormTree) → view_form pair.entry ≡ spec.pair_form args
+        → view_form result ≡ spec.called_form (view_form before.entry) args }
 {
     match before {
         Form::Extreme => pair,
@@ -256,7 +257,8 @@ fn stmt_form(stmt: &Stmt) -> Form<'_>
 
 /// The name that a closure without an arrow is.
 fn name_alone(params: &Option<Vec<(Place, Txt)>>, sole: Form<'_>) -> Result<Option<Txt>, Mem>
-    ensures { IfOk result (λ n. n ≡ spec.name_alone (params_tree (option_map (λ v. v.items) params.now)) (view_form sole.entry)) }
+    ensures { IfOk result (λ n. n
+        ≡ spec.name_alone (params_tree (option_map (λ v. v.items) params.now)) (view_form sole.entry)) }
 {
     match params {
         Some(_) => Ok(None),
@@ -279,7 +281,8 @@ pub fn name_of(form: Form<'_>) -> Result<Option<Txt>, Mem>
 }
 
 fn is_total_over(params: &Option<Vec<(Place, Txt)>>, sole: Form<'_>) -> bool
-    ensures { result ≡ spec.is_total_over (spec.params_in (params_tree (option_map (λ v. v.items) params.now))) (view_form sole.entry) }
+    ensures { result ≡ spec.is_total_over (spec.params_in (params_tree (option_map (λ v. v.items) params.now)))
+        (view_form sole.entry) }
 {
     match params {
         Some(names) => is_total_of(names, sole),

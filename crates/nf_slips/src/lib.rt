@@ -1,4 +1,5 @@
-//! What a script defines, the forms of its expressions, and what its functions, processes and closures share with others.
+//! What a script defines, the forms of its expressions, and what its functions, processes and closures share with
+//! others.
 #![tactic(auto)]
 
 mod closures;

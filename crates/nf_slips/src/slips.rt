@@ -20,8 +20,8 @@ use std::alloc::Global;
 
 // ---- processes
 
-/// Adds what a process breaks: each assignment in a closure to a name that isn't the closure's own, and each read of `task.index`, `task.hash` and
-/// `task.workDir` (own). All its text counts but its stub, which isn't run.
+/// Adds what a process breaks: each assignment in a closure to a name that isn't the closure's own, and each read of
+/// `task.index`, `task.hash` and `task.workDir` (own). All its text counts but its stub, which isn't run.
 ///
 /// # Errors
 ///
@@ -191,7 +191,8 @@ fn add_parts(
     rest: &[Postfix],
     out: &mut Vec<Broken>,
 ) -> Result<(), Mem>
-    ensures { OnOk result (out.new.items ≡ out.old.items ++ spec.parts_slips (view_form head.entry) (map view_postfix rest.now)) }
+    ensures { OnOk result (out.new.items ≡ out.old.items
+        ++ spec.parts_slips (view_form head.entry) (map view_postfix rest.now)) }
 {
     let mut before = head;
     for part in rest {
@@ -208,7 +209,8 @@ fn add_part(
     part: &Postfix,
     out: &mut Vec<Broken>,
 ) -> Result<(), Mem>
-    ensures { OnOk result (out.new.items ≡ out.old.items ++ spec.part_slips_of (view_form before.entry) (view_postfix part.now)) }
+    ensures { OnOk result (out.new.items ≡ out.old.items
+        ++ spec.part_slips_of (view_form before.entry) (view_postfix part.now)) }
 {
     match part {
         Postfix::Property(_, name) | Postfix::SafeProperty(_, name) => {
