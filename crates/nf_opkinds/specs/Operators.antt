@@ -22,7 +22,7 @@ use Rattle.nf_kinds.specs.Scope.{Scope, assigned, after_both}
 use Rattle.nf_kinds.specs.Walk.{Walk, came, gives}
 use Rattle.nf_kinds.specs.declared.args.Given.{Given}
 use Rattle.nf_kinds.specs.Args.{any_unknown, any_queue}
-use Rattle.nf_opkinds.specs.Results.{shape_of, all_of_kind}
+use Rattle.nf_opkinds.specs.Results.{shape_of, all_of_kind, or_plain}
 use Rattle.nf_opkinds.specs.Closures.{has_closure, has_other_closure, has_option, first_closure, labels_by, name_by}
 
 -- the result is the order of arrival
@@ -66,8 +66,9 @@ is_queue_given g.AsInputs k args = k.queue || any_queue args
 abbrev pub kind_given : OpRow → Kinds → List Given → Kinds
 kind_given r k args = known k.plain (not (is_queue_given r.gives k args)) (is_queue_given r.gives k args)
 
+-- an output for each label; what may be a plain value too may have a method of that name
 abbrev pub labelled : Kinds → List Given → Shaped
-labelled k args = shape_of (all_of_kind k (map Some (labels_by (first_closure args))))
+labelled k args = or_plain k.plain (shape_of (all_of_kind k (map Some (labels_by (first_closure args)))))
 
 -- labels are outputs
 abbrev pub given_by_use : ClosureUse → Kinds → List Given → Shaped
@@ -85,7 +86,10 @@ breaks_none k = record { gives = alone k; broken = [] }
 -- A name that no operator has is unknown. What may be a plain value too may have a method of that name.
 abbrev pub operated : Option OpRow → Place → Kinds → List Given → Call
 operated None p k args = breaks_none (plain_unless (not k.plain))
-operated (Some r) p k args = record { gives = given_by_use r.closure (kind_given r k args) args; broken = rules_of r p k args }
+operated (Some r) p k args = record {
+  gives = given_by_use r.closure (kind_given r k args) args;
+  broken = rules_of r p k args;
+}
 
 -- an operator of a channel, and else a method
 abbrev pub operator_or_method : Place → List ℕ → Kinds → List Given → Call
@@ -99,8 +103,8 @@ other_call p n k args =
     if k.unknown || any_unknown args then breaks_none unknown_kind
     else operator_or_method p n k args
 
--- `set { name }` gives what it is called on, and the name stands for all of it. If that may be a plain value too, the name may also stay what it was, as
--- after `false && x.set { name }`.
+-- `set { name }` gives what it is called on, and the name stands for all of it. If that may be a plain value too, the
+-- name may also stay what it was, as after `false && x.set { name }`.
 abbrev pub is_setting : Option OpRow → Bool
 is_setting None = false
 is_setting (Some r) = is_name_use r.closure

@@ -1,9 +1,9 @@
 -- Results of calls with their outputs.
-use Rattle.std.specs.Prelude.{ℕ, ◌+◌, List, [], ◌∷◌, ◌++◌, map, Option, Some, None}
+use Rattle.std.specs.Prelude.{ℕ, ◌+◌, Bool, true, false, List, [], ◌∷◌, ◌++◌, map, Option, Some, None}
 use Rattle.nf_kinds.specs.declared.kinds.Kinds.{Kinds}
 use Rattle.nf_kinds.specs.declared.kinds.Key.TheVariants as key
 use Rattle.nf_kinds.specs.declared.kinds.Output.{Output}
-use Rattle.nf_kinds.specs.Kinds.{Shaped, no_kind}
+use Rattle.nf_kinds.specs.Kinds.{Shaped, alone, merged, no_kind, plain_kind}
 
 abbrev pub named_output : Option (List ℕ) → Kinds → List Output
 named_output None k = []
@@ -29,3 +29,8 @@ shape_of os = record { kinds = whole_kind os; outputs = Some (outputs_from 0 os)
 
 abbrev pub all_of_kind : Kinds → List (Option (List ℕ)) → List (Option (List ℕ) × Kinds)
 all_of_kind k ns = map (λ n. (n, k)) ns
+
+-- if so, it may be a plain value too
+abbrev pub or_plain : Bool → Shaped → Shaped
+or_plain true v = merged v (alone plain_kind)
+or_plain false v = v

@@ -8,4 +8,4 @@ mod results;
 
 pub use calls::{is_queue_source, process_call, source_call};
 pub use operators::member_call;
-pub use results::shape_of;
+pub use results::{or_plain, shape_of};

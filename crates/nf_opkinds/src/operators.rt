@@ -6,7 +6,7 @@ ghost use Rattle.nf_kinds.specs.Walk.{came, Comes};
 ghost use Rattle.nf_opkinds.specs.Operators as spec;
 
 use crate::closures::{closure_name, has_closure, has_option, has_other_closure, labels};
-use crate::results::{all_of_kind, shape_of};
+use crate::results::{all_of_kind, or_plain, shape_of};
 use nf_bag::Row;
 use nf_kinds::{
     BodyScope, Broken, Given, Kinds, OrderRule, Shape, any_queue, any_unknown, note_if,
@@ -97,12 +97,12 @@ fn given_shape(alloc: Global, row: OpRow, kinds: Kinds, args: &[Given]) -> Resul
     }
 }
 
-/// Outputs of one kind, one for each label.
+/// Outputs of one kind, one for each label. What may be a plain value too may have a method of that name.
 fn labelled(alloc: Global, kinds: Kinds, args: &[Given]) -> Result<Shape, Mem>
     ensures { IfOk result (λ v. v ≡ spec.labelled kinds args.now) }
 {
     let outputs = all_of_kind(alloc, kinds, labels(alloc, args)?)?;
-    shape_of(alloc, &outputs)
+    or_plain(alloc, kinds.plain, shape_of(alloc, &outputs)?)
 }
 
 /// A call of an operator, if there is one of the name; what may be a plain value too may have a method of that name.
@@ -114,7 +114,8 @@ fn operated(
     args: &[Given],
     broken: &mut Vec<Broken>,
 ) -> Result<Shape, Mem>
-    ensures gives { IfOk result (λ v. v ≡ (spec.operated (row_of name.now operator_rows) place kinds args.now).gives) }
+    ensures gives { IfOk result (λ v. v
+        ≡ (spec.operated (row_of name.now operator_rows) place kinds args.now).gives) }
     ensures broken { OnOk result (broken.new.items ≡ broken.old.items
         ++ (spec.operated (row_of name.now operator_rows) place kinds args.now).broken) }
 {

@@ -69,3 +69,14 @@ pub(crate) fn all_of_kind(
     }
     Ok(outputs)
 }
+
+/// The same, which may be a plain value too if `may_be_plain` (own): so it is of what has a method of an operator's
+/// name.
+pub fn or_plain(alloc: Global, may_be_plain: bool, shape: Shape) -> Result<Shape, Mem>
+    ensures { IfOk result (λ s. s ≡ spec.or_plain may_be_plain shape) }
+{
+    if may_be_plain {
+        return shape.merged(alloc, &Shape::alone(Kinds::plain()));
+    }
+    Ok(shape)
+}

@@ -4,7 +4,7 @@ use crate::makers::{PLACE, txt};
 use nf_kinds::{
     BodyScope, ClosureFacts, Given, Kinds, OrderRule, Shape, any_queue, any_unknown, earliest,
 };
-use nf_opkinds::{is_queue_source, member_call, process_call, shape_of, source_call};
+use nf_opkinds::{is_queue_source, member_call, or_plain, process_call, shape_of, source_call};
 use std::alloc::Global;
 use std::test::Fail;
 
@@ -63,6 +63,8 @@ fn processes_have_outputs(rt: HostRuntime) -> Result<(), Fail> {
     assert_eq!(rt; shape.kinds(), Kinds::none());
     let rule = earliest(&broken).map(|one| one.rule);
     assert_eq!(rt; rule, Some(OrderRule::ProcessQueues));
-    assert!(rt; shape_of(alloc, &[])?.has_outputs());
+    let nothing = shape_of(alloc, &[])?;
+    assert!(rt; nothing.has_outputs());
+    assert_eq!(rt; or_plain(alloc, true, nothing)?.kinds(), Kinds::plain());
     Ok(())
 }
