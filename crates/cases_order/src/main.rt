@@ -1,5 +1,6 @@
-//! Checks a table of scripts against the order rules. Standard input has the scripts, each with a line `----` after it; each is printed with whether it is
-//! accepted, or the place and the rule that it breaks first. A line that begins with `#` between two scripts is printed as it is.
+//! Checks a table of scripts against the order rules. Standard input has the scripts, each with a line `----` after
+//! it; each is printed with whether it is accepted, or the place and the rule that it breaks first. A line that begins
+//! with `#` between two scripts is printed as it is.
 #![tactic(auto)]
 
 use anyhow::{Result, bail};

@@ -1,18 +1,19 @@
 -- What is called, and with what.
 use Rattle.std.proofs.Common.{◌≡◌, List, [], ◌∷◌, ◌++◌, refl, sym, ap, ◌∙◌, subst, append_assoc}
 use Rattle.std.specs.Str.{bytes_eq}
-use Rattle.std.specs.Prelude.{ℕ, ◌||◌, Bool, true, false, Option, Some, None, codes, if◌then◌else◌, Result, IfOk}
+use Rattle.std.specs.Prelude.{ℕ, ◌||◌, Bool, true, false, Option, Some, None, option_map, codes, if◌then◌else◌, Result, IfOk}
 use Rattle.nf_value.specs.declared.place.Place.{Place}
 use Rattle.nf_ast.specs.Tree.{Tree, empty}
 use Rattle.nf_kinds.specs.declared.args.Given.{Given}
 use Rattle.nf_kinds.specs.declared.kinds.Key.TheVariants as key
 use Rattle.nf_kinds.specs.declared.kinds.Kinds.{Kinds}
 use Rattle.nf_kinds.specs.Kinds.{Shaped, alone, merged, output_of, unknown_kind}
-use Rattle.nf_kinds.specs.Scope.{Scope, bound_in, bound_or, is_half_bound, shape_in}
+use Rattle.nf_kinds.specs.Scope.{Scope, bound_in, bound_or, shape_in}
 use Rattle.nf_kinds.specs.Args.{any_unknown}
 use Rattle.nf_kinds.specs.Walk.{Walk, came, after, then_by, ◌>>=◌, gives}
 use Rattle.nf_opkinds.specs.Operators.{member_call}
 use Rattle.nf_opkinds.specs.Calls.{source_call}
+use Rattle.nf_opkinds.specs.Results.{or_plain}
 use Rattle.nf_order.specs.declared.around.State.{State}
 use Rattle.nf_order.specs.declared.subject.Free.{Free}
 use Rattle.nf_order.specs.declared.subject.Free.TheVariants as free
@@ -20,7 +21,8 @@ use Rattle.nf_order.specs.declared.subject.Head.{Head}
 use Rattle.nf_order.specs.declared.subject.Head.TheVariants as head
 use Rattle.nf_order.specs.declared.subject.Subject.{Subject}
 use Rattle.nf_order.specs.Callees.{Around, call_of}
-use Rattle.nf_order.specs.Parts.{Arg, Part, all_given, beside, called_out, called_thing, expression, free_kind, free_member, free_method, is_channel_word, member_of, method_of, name_member, name_method, of_call, of_closed, of_name, of_property, or_part, out_or_method, part_of, plain_by, indexed, with_method}
+use Rattle.nf_order.specs.Memory.{of_member}
+use Rattle.nf_order.specs.Parts.{Arg, Part, all_given, beside, called_out, called_thing, expression, free_kind, free_member, free_method, is_channel_word, may_be_free, member_of, method_of, name_member, name_method, of_call, of_closed, of_name, of_property, or_part, out_or_method, part_of, plain_by, indexed, with_method}
 use Rattle.nf_order.specs.Standing.{Gives, IsCalledBy, Leads, Stands, args_or_none, call_now, called_by, called_with, after_index, free_head, free_now, free_part, half_now, IsFree, named_by, piped_now, rest, rest_by, uncalled}
 use Rattle.nf_order.proofs.Walks.{after_none, alike, given_back, goes, if_ok, leads_on, regroups, still, then_alike, then_gives, then_twice}
 use Rattle.nf_order.proofs.Standing.{beside_leads, expression_stands, method_stands, stands_on, stands_still}
@@ -259,7 +261,7 @@ word_stands a h q p m n k s thing method =
 
 pub free_stands : (a : Around) (q p : Place) (m n : List ℕ) (f : Free) (s : State) → bound_in m s.scope ≡ None → IsFree s.scope m n f → Stands (of_property empty (of_name a q m) p n) (uncalled a (free_head f p n)) s s
 free_stands a q p m n f s none is =
-    let half = is_half_bound m s.scope in
+    let half = may_be_free m s.scope in
     let h = free_head f p n in
     let thing : (of_name a q m).member n s.scope ≡ came (free_part f n) s.scope [] =
     ap (λ b. came (name_member half b s.scope m n) s.scope []) none ∙ ap (λ v. came v s.scope []) is.part in
@@ -269,35 +271,30 @@ free_stands a q p m n f s none is =
     stands_on (of_property empty (of_name a q m) p n) (free_word a f p n) (uncalled a h) s s s (word_stands a h q p m n (free_part f n) s thing method) (free_called a f p n s)
 
 -- what is bound
-pub bound_stands : (a : Around) (q p : Place) (m n : List ℕ) (v : Shaped) (s : State) → bound_in m s.scope ≡ Some v → is_half_bound m s.scope ≡ false → Stands (of_property empty (of_name a q m) p n) (uncalled a (head.Member v p n)) s s
+pub bound_stands : (a : Around) (q p : Place) (m n : List ℕ) (v : Shaped) (s : State) → bound_in m s.scope ≡ Some v → may_be_free m s.scope ≡ false → Stands (of_property empty (of_name a q m) p n) (uncalled a (head.Member v p n)) s s
 bound_stands a q p m n v s some whole =
     let k = alone (output_of (key.Called n) v) in
     let thing : (of_name a q m).member n s.scope ≡ came k s.scope [] =
-    ap (λ b. came (name_member (is_half_bound m s.scope) b s.scope m n) s.scope []) some ∙ ap (λ h. came (bound_or h k (free_member s.scope m n)) s.scope []) whole in
+    ap (λ b. came (name_member (may_be_free m s.scope) b s.scope m n) s.scope []) some ∙ ap (λ h. came (bound_or h k (free_member s.scope m n)) s.scope []) whole in
     let method : (xs : List Arg) → (of_name a q m).method p n xs s.scope ≡ called_by a (head.Member v p n) xs s.scope = λ xs.
-    ap (λ b. (all_given xs >>= name_method (is_half_bound m s.scope) b s.scope m p n) s.scope) some
+    ap (λ b. (all_given xs >>= name_method (may_be_free m s.scope) b s.scope m p n) s.scope) some
     ∙ ap (λ h. (all_given xs >>= name_method h (Some v) s.scope m p n) s.scope) whole in
     word_stands a (head.Member v p n) q p m n k s thing method
 
--- what one arm alone bound
-pub half_stands : (a : Around) (q p : Place) (m n : List ℕ) (v : Shaped) (f : Free) (s : State) → bound_in m s.scope ≡ Some v → is_half_bound m s.scope ≡ true → IsFree s.scope m n f → Stands (of_property empty (of_name a q m) p n) (uncalled a (head.HalfBound v f p n)) s s
+-- what may be free too
+pub half_stands : (a : Around) (q p : Place) (m n : List ℕ) (v : Shaped) (f : Free) (s : State) → bound_in m s.scope ≡ Some v → may_be_free m s.scope ≡ true → IsFree s.scope m n f → Stands (of_property empty (of_name a q m) p n) (uncalled a (head.HalfBound v f p n)) s s
 half_stands a q p m n v f s some half is =
     let k = alone (output_of (key.Called n) v) in
     let thing : (of_name a q m).member n s.scope ≡ came (merged k (free_part f n)) s.scope [] =
-    ap (λ b. came (name_member (is_half_bound m s.scope) b s.scope m n) s.scope []) some
+    ap (λ b. came (name_member (may_be_free m s.scope) b s.scope m n) s.scope []) some
     ∙ ap (λ h. came (bound_or h k (free_member s.scope m n)) s.scope []) half
     ∙ ap (λ u. came (merged k u) s.scope []) is.part in
     let method : (xs : List Arg) → (of_name a q m).method p n xs s.scope ≡ called_by a (head.HalfBound v f p n) xs s.scope = λ xs.
-    ap (λ b. (all_given xs >>= name_method (is_half_bound m s.scope) b s.scope m p n) s.scope) some
+    ap (λ b. (all_given xs >>= name_method (may_be_free m s.scope) b s.scope m p n) s.scope) some
     ∙ ap (λ h. (all_given xs >>= name_method h (Some v) s.scope m p n) s.scope) half
     ∙ then_alike (name_method true (Some v) s.scope m p n) (half_now v f p n) (all_given xs s.scope)
     (λ gs r. either_alike (member_call p n v gs) (free_method s.scope m p n gs) (free_now f p n gs) r (is.call p gs r)) in
     word_stands a (head.HalfBound v f p n) q p m n (merged k (free_part f n)) s thing method
-
-pub some_word : {E : Type 0} (a : Around) (h : Head) (p : Place) (m n : List ℕ) (r : Result Subject E) (s : State) → ((q : Place) → Stands (of_property empty (of_name a q m) p n) (uncalled a h) s s) → IfOk r (λ x. x ≡ record { head = h; args = None }) → IfOk r (λ x. (q : Place) → Stands (of_property empty (of_name a q m) p n) (rest a x) s s)
-some_word a h p m n r s is g =
-    if_ok r (λ x. x ≡ record { head = h; args = None }) (λ x. (q : Place) → Stands (of_property empty (of_name a q m) p n) (rest a x) s s)
-    (λ x e q. is_subject a (of_property empty (of_name a q m) p n) (record { head = h; args = None }) x s s (is q) e) g
 
 -- ---- what nothing binds before a dot
 
@@ -306,10 +303,12 @@ none_or true o h = h
 none_or false o h = refl
 
 pub no_call : (s : Scope) (m n : List ℕ) → shape_in m s.calls ≡ None → called_out s m n ≡ None
-no_call s m n h = none_or (bytes_eq n (codes "out")) (shape_in m s.calls) h
+no_call s m n h =
+    let f = option_map (or_plain (free_kind m).plain) in
+    none_or (bytes_eq n (codes "out")) (f (shape_in m s.calls)) (ap f h)
 
 pub not_out : (s : Scope) (m n : List ℕ) → bytes_eq n (codes "out") ≡ false → called_out s m n ≡ None
-not_out s m n h = ap (λ b. if b then shape_in m s.calls else None) h
+not_out s m n h = ap (λ b. if b then option_map (or_plain (free_kind m).plain) (shape_in m s.calls) else None) h
 
 pub channel_is_free : (s : Scope) (m n : List ℕ) → is_channel_word m ≡ true → IsFree s m n free.Channel
 channel_is_free s m n word = record {
@@ -322,6 +321,14 @@ output_is_free s m n v word out = record {
   part = ap (λ b. if b then alone unknown_kind else or_part (called_out s m n) m n) word ∙ ap (λ o. or_part o m n) out;
   call = λ p gs r. ap (λ b. (if b then gives (alone (source_call n gs)) else out_or_method (called_out s m n) m p n gs) r) word ∙ ap (λ o. out_or_method o m p n gs r) out;
 }
+
+pub called_is_free : {E : Type 0} (s : Scope) (m n : List ℕ) (v : Shaped) (r : Result Free E) → is_channel_word m ≡ false → bytes_eq n (codes "out") ≡ true → shape_in m s.calls ≡ Some v → IfOk r (λ f. f ≡ free.Output (or_plain (free_kind m).plain v)) → IfOk r (λ f. IsFree s m n f)
+called_is_free s m n v r word out some g =
+    let w = or_plain (free_kind m).plain v in
+    let is : called_out s m n ≡ Some w =
+    ap (λ b. if b then option_map (or_plain (free_kind m).plain) (shape_in m s.calls) else None) out ∙ ap (option_map (or_plain (free_kind m).plain)) some in
+    if_ok r (λ f. f ≡ free.Output w) (λ f. IsFree s m n f)
+    (λ f e. subst (λ (k : Free). IsFree s m n k) (sym e) (output_is_free s m n w word is)) g
 
 pub word_is_free : (s : Scope) (m n : List ℕ) (v : Shaped) → is_channel_word m ≡ false → called_out s m n ≡ None → v ≡ alone (free_kind m) → IsFree s m n (free.Word v)
 word_is_free s m n v word out is = record {
@@ -348,7 +355,7 @@ no_name (head.Member v p n) f = tt
 no_name (head.Source n) f = tt
 no_name (head.HalfBound v g p n) f = tt
 
-pub named_head : {E : Type 0} (a : Around) (h : Head) (q : Place) (m : List ℕ) (p : Place) (n : List ℕ) (r : Result Subject E) (s : State) → h ≡ head.Name q m → IfOk r (λ x. (o : Place) → Stands (of_property empty (uncalled a (head.Name o m)) p n) (rest a x) s s) → IfOk r (λ x. Stands (of_property empty (uncalled a h) p n) (rest a x) s s)
+pub named_head : {E : Type 0} (a : Around) (h : Head) (q : Place) (m : List ℕ) (p : Place) (n : List ℕ) (r : Result Subject E) (s : State) → h ≡ head.Name q m → IfOk r (λ x. Stands (of_member a m p n) (rest a x) s s) → IfOk r (λ x. Stands (of_property empty (uncalled a h) p n) (rest a x) s s)
 named_head a h q m p n r s is g =
-    if_ok r (λ x. (o : Place) → Stands (of_property empty (uncalled a (head.Name o m)) p n) (rest a x) s s) (λ x. Stands (of_property empty (uncalled a h) p n) (rest a x) s s)
-    (λ x t. subst (λ (k : Head). Stands (of_property empty (uncalled a k) p n) (rest a x) s s) (sym is) (t q)) g
+    if_ok r (λ x. Stands (of_member a m p n) (rest a x) s s) (λ x. Stands (of_property empty (uncalled a h) p n) (rest a x) s s)
+    (λ x t. subst (λ (k : Head). Stands (of_property empty (uncalled a k) p n) (rest a x) s s) (sym is) t) g

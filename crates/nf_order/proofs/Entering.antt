@@ -27,7 +27,7 @@ use Rattle.nf_order.specs.declared.around.State.{State}
 use Rattle.nf_order.specs.declared.around.Around as held
 use Rattle.nf_order.specs.Callees.{Around, Callee, a_function, an_operator, no_callee, call_of, entered, unless_unknown}
 use Rattle.nf_order.specs.Natives.{source_names, method_names}
-use Rattle.nf_order.specs.Parts.{head_of, part_of}
+use Rattle.nf_order.specs.Parts.{head_of, part_of, value_or_call}
 use Rattle.nf_order.specs.Standing.{Gives, around_of, is_task, led_from, led_to, outputs_by, taken_kind}
 use Rattle.nf_order.proofs.Walks.{maps, moves, still}
 
@@ -130,7 +130,11 @@ called_as a p n xs d r old new h g = subst (λ (c : Callee). IfOk r (λ v. Gives
 
 -- ---- a name at the head of a pipe
 
-task_head : (d : Definition) (n : List ℕ) (f : Tree → List Given → Call) (p : Place) → is_task d ≡ true → head_of (callee_by d n f) p n ≡ call_of (callee_by d n f) p n []
+-- the call of a task's name, which may stand for a value too
+abbrev pub called_head : Callee → Place → List ℕ → Walk Shaped
+called_head c p n = value_or_call (given_kind n).plain (alone (given_kind n)) (call_of c p n [])
+
+task_head : (d : Definition) (n : List ℕ) (f : Tree → List Given → Call) (p : Place) → is_task d ≡ true → head_of (callee_by d n f) p n ≡ called_head (callee_by d n f) p n
 task_head definition.nothing n f p h = absurd (false≢true h)
 task_head definition.function n f p h = absurd (false≢true h)
 task_head (definition.process ns) n f p h = refl
@@ -147,11 +151,11 @@ other_head definition.function n f p h = refl
 other_head (definition.process ns) n f p h = absurd (false≢true (sym h))
 other_head (definition.workflow b) n f p h = absurd (false≢true (sym h))
 
-pub task_at_head : {E : Type 0} (a : held.Around) (p : Place) (n : List ℕ) (r : Result Shaped E) (old new : State) → is_task (definition_in n (trees (map view_top a.tops.now))) ≡ true → IfOk r (λ v. Gives (call_of ((around_of a).callee n) p n []) old v new) → IfOk r (λ v. Gives (head_of ((around_of a).callee n) p n) old v new)
+pub task_at_head : {E : Type 0} (a : held.Around) (p : Place) (n : List ℕ) (r : Result Shaped E) (old new : State) → is_task (definition_in n (trees (map view_top a.tops.now))) ≡ true → IfOk r (λ v. Gives (called_head ((around_of a).callee n) p n) old v new) → IfOk r (λ v. Gives (head_of ((around_of a).callee n) p n) old v new)
 task_at_head a p n r old new h g =
     let d = definition_in n (trees (map view_top a.tops.now)) in
-    let is : head_of ((around_of a).callee n) p n ≡ call_of ((around_of a).callee n) p n [] =
-    ap (λ c. head_of c p n) (sym (callee_of a n d refl)) ∙ task_head d n (led_from a n) p h ∙ ap (λ c. call_of c p n []) (callee_of a n d refl) in
+    let is : head_of ((around_of a).callee n) p n ≡ called_head ((around_of a).callee n) p n =
+    ap (λ c. head_of c p n) (sym (callee_of a n d refl)) ∙ task_head d n (led_from a n) p h ∙ ap (λ c. called_head c p n) (callee_of a n d refl) in
     subst (λ (w : Walk Shaped). IfOk r (λ v. Gives w old v new)) (sym is) g
 
 pub name_at_head : (a : held.Around) (p : Place) (n : List ℕ) (v : Shaped) (s : State) → is_task (definition_in n (trees (map view_top a.tops.now))) ≡ false → v ≡ alone (given_kind n) → Gives (head_of ((around_of a).callee n) p n) s v s

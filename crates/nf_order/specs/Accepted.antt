@@ -52,7 +52,8 @@ ended (came os s fs) = record { gives = shape_of os; broken = fs }
 
 -- a workflow with its arguments: its statements, and then what it emits
 abbrev pub entered_with : Around → Tree → List Given → Call
-entered_with a b args = ended (((part_of a (main_of b)).body >>= λ t. emitted a (emits_of b)) (started (taken_with (taken_by b) args)))
+entered_with a b args =
+    ended (((part_of a (main_of b)).body >>= λ t. emitted a (emits_of b)) (started (taken_with (taken_by b) args)))
 
 -- a call that leads back to a workflow in which it stands isn't entered
 abbrev pub led_back : List Given → Call
@@ -82,15 +83,16 @@ callee_by definition.function n f = a_function
 callee_by (definition.process ns) n f = a_process ns
 callee_by (definition.workflow b) n f = a_workflow (f b)
 
--- What is around a body in which these workflows are entered; fs are the names that call nothing in a closure. So many more calls may lead to each other as
--- the script has definitions, since each leads to another workflow.
+-- What is around a body in which these workflows are entered; fs are the names that call nothing in a closure. So many
+-- more calls may lead to each other as the script has definitions, since each leads to another workflow.
 abbrev pub around : ℕ → Tree → List (List ℕ) → List (List ℕ) → Around
 around zero tops fs within = record {
   callee = λ n. callee_by (definition_in n tops) n (λ b. led_back);
   unknown = fs;
 }
 around (suc k) tops fs within = record {
-  callee = λ n. callee_by (definition_in n tops) n (λ b. unless_within (is_among n within) (entered_with (around k tops fs (within ++ n ∷ [])) b));
+  callee = λ n. callee_by (definition_in n tops) n
+      (λ b. unless_within (is_among n within) (entered_with (around k tops fs (within ++ n ∷ [])) b));
   unknown = fs;
 }
 
@@ -100,7 +102,8 @@ abbrev pub broken_from : Option Tree → Tree → List Broken
 broken_from None tops = []
 broken_from (Some b) tops = (entered_with (around (count_of tops) tops (unknown_functions tops) []) b []).broken
 
--- A function is judged as the closure of its parameters and its body, a process by all its text but the stub, and a parameter by its closures.
+-- A function is judged as the closure of its parameters and its body, a process by all its text but the stub, and a
+-- parameter by its closures.
 abbrev pub definition_broken : Tree → List Broken
 definition_broken (tree.function p n ps b) = shared_by (uses (tree.closure p (tree.params ps) b) no_names)
 definition_broken (tree.process p n ds is os t s) = slips (tree.process p n ds is os t s)

@@ -4,3 +4,4 @@ pub mod Natives
 pub mod Accepted
 pub mod Fault
 pub mod Standing
+pub mod Memory

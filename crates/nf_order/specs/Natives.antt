@@ -8,7 +8,8 @@ use Rattle.nf_optable.specs.Rows.{operator_rows, row_of}
 use Rattle.nf_order.specs.Callees.{Callee, a_function, an_operator, no_callee}
 
 abbrev pub source_names : List (List ℕ)
-source_names = codes "value" ∷ codes "of" ∷ codes "fromList" ∷ codes "empty" ∷ codes "fromPath" ∷ codes "fromFilePairs" ∷ []
+source_names =
+    codes "value" ∷ codes "of" ∷ codes "fromList" ∷ codes "empty" ∷ codes "fromPath" ∷ codes "fromFilePairs" ∷ []
 
 abbrev pub method_names : List (List ℕ)
 method_names = map (λ b. method_name b.method) builtin_rows
@@ -18,4 +19,6 @@ table_names = source_names ++ (map (λ r. operator_name r.operator) operator_row
 
 -- a name that the script doesn't define: an operator, or a function of the program, if no table has it
 abbrev pub by_tables : List ℕ → Callee
-by_tables n = if is_some (row_of n operator_rows) then an_operator else (if is_among n (source_names ++ method_names) then no_callee else a_function)
+by_tables n =
+    if is_some (row_of n operator_rows) then an_operator
+    else (if is_among n (source_names ++ method_names) then no_callee else a_function)

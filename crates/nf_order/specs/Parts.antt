@@ -1,5 +1,6 @@
--- What the parts of a workflow's body come to, by where they stand: what each may be, the scope after it, and the rules that it breaks.
-use Rattle.std.specs.Prelude.{ℤ, pos, negsuc, ℕ, zero, suc, Bool, true, false, ◌||◌, List, [], ◌∷◌, ◌++◌, codes, Option, Some, None, if◌then◌else◌}
+-- What the parts of a workflow's body come to, by where they stand: what each may be, the scope after it, and the
+-- rules that it breaks.
+use Rattle.std.specs.Prelude.{ℤ, pos, negsuc, ℕ, zero, suc, Bool, true, false, ◌||◌, List, [], ◌∷◌, ◌++◌, codes, Option, Some, None, option_map, if◌then◌else◌}
 use Rattle.std.specs.Str.{bytes_eq}
 use Rattle.nf_value.specs.declared.place.Place.{Place}
 use Rattle.nf_ast.specs.declared.operators.InfixOperator.{InfixOperator}
@@ -10,6 +11,7 @@ use Rattle.nf_ast.specs.Tree as tree
 use Rattle.nf_ast.specs.Tree.{Tree, empty, cons, place_of}
 use Rattle.nf_placed.specs.Body.{name_in, names_in}
 use Rattle.nf_names_used.specs.Uses.{uses, no_names}
+use Rattle.nf_names_used.specs.declared.uses.Use.{Use}
 use Rattle.nf_kinds.specs.declared.kinds.Kinds.{Kinds}
 use Rattle.nf_kinds.specs.declared.kinds.Key.TheVariants as key
 use Rattle.nf_kinds.specs.Kinds.{Shaped, alone, merged, unknown_kind, plain_kind, plain_unless, output_of, some_output_of, part_by}
@@ -18,6 +20,7 @@ use Rattle.nf_kinds.specs.Walk.{Out, came, Walk, ◌>>=◌, gives, with_scope}
 use Rattle.nf_kinds.specs.declared.args.Given.{Given}
 use Rattle.nf_kinds.specs.Args.{any_unknown}
 use Rattle.nf_opkinds.specs.Operators.{member_call}
+use Rattle.nf_opkinds.specs.Results.{or_plain}
 use Rattle.nf_opkinds.specs.Calls.{source_call}
 use Rattle.nf_slips.specs.Forms.{form_of, facts_of}
 use Rattle.nf_slips.specs.Closures.{closure_kind, closure_broken}
@@ -132,23 +135,38 @@ both m n s = both_ends (m s) (n s)
 abbrev pub either_way : Walk Shaped → Walk Shaped → Walk Shaped
 either_way m n = both m n >>= λ x. gives (merged x.0 x.1)
 
--- what a name gives that is bound, and where one arm of an `if` alone bound it, also what it gives where nothing binds it
+-- what a name gives that is bound, and if so, also what it gives where nothing binds it
 abbrev pub bound_or_free : Bool → Walk Shaped → Walk Shaped → Walk Shaped
 bound_or_free true m n = either_way m n
 bound_or_free false m n = m
+
+-- what a name calls, and if so, also this, where it stands for a value and nothing is called
+abbrev pub value_or_call : Bool → Shaped → Walk Shaped → Walk Shaped
+value_or_call true v w = either_way (gives v) w
+value_or_call false v w = w
 
 -- ---- names
 
 abbrev pub is_channel_word : List ℕ → Bool
 is_channel_word n = bytes_eq n (codes "channel") || bytes_eq n (codes "Channel")
 
+abbrev pub is_math_word : List ℕ → Bool
+is_math_word n = bytes_eq n (codes "Math")
+
+-- What a name is before a dot may be what it is where nothing binds it: one that one arm of an `if` alone bound, and
+-- `Math`, whose functions are found whatever the body binds to the word.
+abbrev pub may_be_free : List ℕ → Scope → Bool
+may_be_free n s = is_half_bound n s || is_math_word n
+
 -- what a name is before a dot that nothing binds in the body
 abbrev pub free_kind : List ℕ → Kinds
-free_kind n = if bytes_eq n (codes "Math") then plain_kind else given_kind n
+free_kind n = if is_math_word n then plain_kind else given_kind n
 
--- `P.out`, where P was called
+-- `P.out`, where P was called; a word that stands for a value where nothing binds it, as `params`, may stand for that
+-- too
 abbrev pub called_out : Scope → List ℕ → List ℕ → Option Shaped
-called_out s n m = if bytes_eq m (codes "out") then shape_in n s.calls else None
+called_out s n m =
+    if bytes_eq m (codes "out") then option_map (or_plain (free_kind n).plain) (shape_in n s.calls) else None
 
 abbrev pub or_part : Option Shaped → List ℕ → List ℕ → Shaped
 or_part (Some v) n m = v
@@ -168,21 +186,28 @@ out_or_method None n q m gs = member_call q m (alone (free_kind n)) gs
 
 -- `channel.of(..)`
 abbrev pub free_method : Scope → List ℕ → Place → List ℕ → List Given → Walk Shaped
-free_method s n q m gs = if is_channel_word n then gives (alone (source_call m gs)) else out_or_method (called_out s n m) n q m gs
+free_method s n q m gs =
+    if is_channel_word n then gives (alone (source_call m gs)) else out_or_method (called_out s n m) n q m gs
 
 abbrev pub name_method : Bool → Option Shaped → Scope → List ℕ → Place → List ℕ → List Given → Walk Shaped
 name_method half (Some v) s n q m gs = bound_or_free half (member_call q m v gs) (free_method s n q m gs)
 name_method half None s n q m gs = free_method s n q m gs
 
--- the name of a process or a workflow at the head of a pipe is its call
+-- the name of a process or a workflow at the head of a pipe is its call; `params` and the like may be a value there too
 abbrev pub head_of : Callee → Place → List ℕ → Walk Shaped
-head_of (a_process ns) p n = call_of (a_process ns) p n []
-head_of (a_workflow f) p n = call_of (a_workflow f) p n []
+head_of (a_process ns) p n = value_or_call (given_kind n).plain (alone (given_kind n)) (call_of (a_process ns) p n [])
+head_of (a_workflow f) p n = value_or_call (given_kind n).plain (alone (given_kind n)) (call_of (a_workflow f) p n [])
 head_of k p n = gives (alone (given_kind n))
 
 abbrev pub name_head : Bool → Option Shaped → Callee → Place → List ℕ → Walk Shaped
 name_head half (Some v) k p n = bound_or_free half (gives v) (head_of k p n)
 name_head half None k p n = head_of k p n
+
+-- `a | n`; where n may stand for a value, as in the operand of `false && (a | n)` that isn't evaluated, it may call
+-- nothing
+abbrev pub name_piped : Callee → Place → List ℕ → Given → Walk Shaped
+name_piped k p n g s =
+    value_or_call (read_name n s).kinds.plain (alone (plain_unless g.shape.kinds.unknown)) (call_of k p n (g ∷ [])) s
 
 abbrev pub named_call : Around → Place → List ℕ → Walk (List Given) → Walk Shaped
 named_call a p n w = w >>= call_of (a.callee n) p n
@@ -190,12 +215,12 @@ named_call a p n w = w >>= call_of (a.callee n) p n
 abbrev pub of_name : Around → Place → List ℕ → Part
 of_name a p n = record (expression (tree.name p n) (λ s. came (read_name n s) s [])) {
   head = λ s. name_head (is_half_bound n s) (bound_in n s) (a.callee n) p n s;
-  member = λ m s. came (name_member (is_half_bound n s) (bound_in n s) s n m) s [];
-  method = λ q m xs s. (all_given xs >>= name_method (is_half_bound n s) (bound_in n s) s n q m) s;
+  member = λ m s. came (name_member (may_be_free n s) (bound_in n s) s n m) s [];
+  method = λ q m xs s. (all_given xs >>= name_method (may_be_free n s) (bound_in n s) s n q m) s;
   called = λ xs. named_call a p n (all_given xs);
   closed = λ xs. named_call a p n (all_given xs);
   named = λ g xs. named_call a p n (all_given xs >>= λ gs. gives (g ∷ gs));
-  piped = λ g. call_of (a.callee n) p n (g ∷ []);
+  piped = λ g. name_piped (a.callee n) p n g;
   piped_closed = λ g xs. named_call a p n (all_given xs >>= λ gs. gives (g ∷ gs));
 }
 
@@ -283,6 +308,11 @@ of_binary k t a b = expression t (a.thing >>= λ v. b.thing >>= λ w. plain_by (
 abbrev pub chosen : Walk Shaped → Walk Shaped → Walk Shaped → Walk Shaped
 chosen c a b = c >>= λ k. both a b >>= λ x. gives (if k.kinds.unknown then alone unknown_kind else merged x.0 x.1)
 
+-- ---- closures
+
+abbrev pub closure_walk : List (List ℕ) → List Use → Walk Shaped
+closure_walk fs us s = came (alone (closure_kind fs us s)) s (closure_broken fs us s)
+
 -- ---- statements
 
 -- names that are defined between braces are gone after them
@@ -307,12 +337,14 @@ part_of a (tree.list p xs) = expression (tree.list p xs) ((part_of a xs).items >
 part_of a (tree.map p xs) = expression (tree.map p xs) ((part_of a xs).items >>= plain_by)
 part_of a (tree.hole p e) = part_of a e
 part_of a (tree.pair k e) = part_of a e
-part_of a (tree.named n e) = record (part_of a e) { argument = (part_of a e).thing >>= λ v. gives (given_as (tree.named n e) v) }
-part_of a (tree.closure p ps b) = expression (tree.closure p ps b)
-    (λ s. came (alone (closure_kind a.unknown (uses (tree.closure p ps b) no_names) s)) s (closure_broken a.unknown (uses (tree.closure p ps b) no_names) s))
+part_of a (tree.named n e) =
+    record (part_of a e) { argument = (part_of a e).thing >>= λ v. gives (given_as (tree.named n e) v) }
+part_of a (tree.closure p ps b) =
+    expression (tree.closure p ps b) (closure_walk a.unknown (uses (tree.closure p ps b) no_names))
 part_of a (tree.prefix p k e) = expression (tree.prefix p k e) ((part_of a e).thing >>= λ v. plain_by v.kinds.unknown)
 part_of a (tree.binary p k x y) = of_binary k (tree.binary p k x y) (part_of a x) (part_of a y)
-part_of a (tree.conditional p c x y) = expression (tree.conditional p c x y) (chosen (part_of a c).thing (part_of a x).thing (part_of a y).thing)
+part_of a (tree.conditional p c x y) =
+    expression (tree.conditional p c x y) (chosen (part_of a c).thing (part_of a x).thing (part_of a y).thing)
 part_of a (tree.elvis p x y) = expression (tree.elvis p x y)
     ((part_of a x).thing >>= λ v. (part_of a y).thing >>= λ w. plain_by (v.kinds.unknown || w.kinds.unknown))
 part_of a (tree.property e n) = of_property (tree.property e n) (part_of a e) (place_of n) (name_in n)
@@ -322,10 +354,13 @@ part_of a (tree.index p e i) = expression (tree.index p e i)
 part_of a (tree.call p f xs) = of_call (tree.call p f xs) (part_of a f) (part_of a xs).arguments
 part_of a (tree.call_with f c) = of_closed (tree.call_with f c) (part_of a f) (part_of a c).argument
 part_of a (tree.define p n e) = statement ((part_of a e).thing >>= λ v. with_scope (defined (name_in n) v))
-part_of a (tree.define_all p ns e) = statement ((part_of a e).thing >>= λ v. with_scope (all_defined (names_in ns) (alone (plain_unless v.kinds.unknown))))
+part_of a (tree.define_all p ns e) =
+    statement ((part_of a e).thing
+    >>= λ v. with_scope (all_defined (names_in ns) (alone (plain_unless v.kinds.unknown))))
 part_of a (tree.assign n e) = statement ((part_of a e).thing >>= λ v. with_scope (assigned (name_in n) v))
 part_of a (tree.return_ p e) = part_of a e
-part_of a (tree.choice p c x last) = statement ((part_of a c).thing >>= λ v. both (part_of a x).done (part_of a last).done >>= λ t. gives tt)
+part_of a (tree.choice p c x last) =
+    statement ((part_of a c).thing >>= λ v. both (part_of a x).done (part_of a last).done >>= λ t. gives tt)
 part_of a (tree.statements b) = statement (in_braces (part_of a b).body)
 part_of a (tree.println p e) = passed
 part_of a (tree.log p n e) = passed

@@ -44,7 +44,8 @@ around_of a = around a.left (trees (map view_top a.tops.now)) a.unknown.now a.wi
 -- what the call of a workflow with this body comes to, where so many calls are left and these workflows are entered
 abbrev pub led_to : ℕ → Tree → List (List ℕ) → List (List ℕ) → List ℕ → Tree → List Given → Call
 led_to zero tops fs within n b = led_back
-led_to (suc k) tops fs within n b = unless_within (is_among n within) (entered_with (around k tops fs (within ++ n ∷ [])) b)
+led_to (suc k) tops fs within n b =
+    unless_within (is_among n within) (entered_with (around k tops fs (within ++ n ∷ [])) b)
 
 abbrev pub led_from : held.Around → List ℕ → Tree → List Given → Call
 led_from a n b = led_to a.left (trees (map view_top a.tops.now)) a.unknown.now a.within.now n b
@@ -130,10 +131,12 @@ pub record IsCalledBy (a : Around) (p : Part) (h : Head) (old new : State) : Typ
 abbrev pub uncalled : Around → Head → Part
 uncalled a (head.Value v) = expression empty (gives v)
 uncalled a (head.Name p n) = of_name a p n
-uncalled a (head.Member v p n) = with_method (called_by a (head.Member v p n)) (expression empty (gives (alone (output_of (key.Called n) v))))
+uncalled a (head.Member v p n) =
+    with_method (called_by a (head.Member v p n)) (expression empty (gives (alone (output_of (key.Called n) v))))
 uncalled a (head.Source n) = with_method (called_by a (head.Source n)) (expression empty (gives (alone unknown_kind)))
 uncalled a (head.HalfBound v f p n) =
-    with_method (called_by a (head.HalfBound v f p n)) (expression empty (gives (merged (alone (output_of (key.Called n) v)) (free_part f n))))
+    with_method (called_by a (head.HalfBound v f p n))
+    (expression empty (gives (merged (alone (output_of (key.Called n) v)) (free_part f n))))
 
 -- what is called with these arguments; a closure may still follow
 abbrev pub called_with : Around → Head → List Given → Part
@@ -181,7 +184,8 @@ after_operands a p (t ∷ ts) = after_operands a (after_operand a p t) ts
 
 -- ---- conditional expressions
 
--- An operand, and those after it in the order of the text; before it stand conditions and left operands of `?:` that wait for it.
+-- An operand, and those after it in the order of the text; before it stand conditions and left operands of `?:` that
+-- wait for it.
 pub record Chain : Type 0 where
   pub waiting : List Frame
   pub first : Tree
@@ -219,9 +223,11 @@ pub record IsRead (a : Around) (x : Chain) (v : Shaped) (ls : List BranchTree) (
   pub ends : IsEnd ls
 
 -- what a false condition gives, after what a true one gives
-pub record IsSecond (a : Around) (bs : List BranchTree) (v : Shaped) (ls : List BranchTree) (old new : State) : Type 0 where
+pub record IsSecond (a : Around) (bs : List BranchTree) (v : Shaped) (ls : List BranchTree) (old new : State)
+    : Type 0 where
   pub whole : Tree
-  pub same : (p : Place) (c e : Tree) (fs : List Frame) → conditional (asked p c ∷ fs) e bs ≡ conditional fs (tree.conditional p c e whole) ls
+  pub same : (p : Place) (c e : Tree) (fs : List Frame) →
+      conditional (asked p c ∷ fs) e bs ≡ conditional fs (tree.conditional p c e whole) ls
   pub gives : Gives (part_of a whole).thing old v new
   pub ends : IsEnd ls
 

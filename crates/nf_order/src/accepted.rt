@@ -46,13 +46,15 @@ impl Accepted {
     }
 }
 
-/// Accepts a script, unless an order rule is broken in it (own). The rules are judged in its functions, processes and parameters, in its workflow without
-/// a name, and in each named workflow at each call that this leads to. So the time is that of all these calls, each with a copy of the names of its body:
-/// where each of n workflows calls the next one twice, a script of n workflows takes 2^n.
+/// Accepts a script, unless an order rule is broken in it (own). The rules are judged in its functions, processes and
+/// parameters, in its workflow without a name, and in each named workflow at each call that this leads to. So the time
+/// is that of all these calls, each with a copy of the names of its body: where each of n workflows calls the next one
+/// twice, a script of n workflows takes 2^n.
 ///
 /// # Errors
 ///
-/// `Rule` with the first place in the text at which a rule is broken, and at one place with the smaller rule. `Mem` where there is no memory to check it.
+/// `Rule` with the first place in the text at which a rule is broken, and at one place with the smaller rule. `Mem`
+/// where there is no memory to check it.
 pub fn check(alloc: Global, script: Script) -> Result<Accepted, OrderFault>
     ensures script { IfOk result (λ a. a ≡ script) }
     ensures accepted { OnOk result (IsAccepted (view_script script)) }
@@ -85,7 +87,8 @@ fn from_entry(
     tops: &[Top],
     broken: &mut Vec<Broken>,
 ) -> Result<(), Mem>
-    ensures { OnOk result (broken.new.items ≡ broken.old.items ++ spec.broken_from (Some (view_workflow_body body.now)) (trees (map view_top tops.now))) }
+    ensures { OnOk result (broken.new.items ≡ broken.old.items
+        ++ spec.broken_from (Some (view_workflow_body body.now)) (trees (map view_top tops.now))) }
 {
     let unknown = unknown_functions(alloc, tops)?;
     let around = Around {
@@ -124,7 +127,8 @@ fn add_definition(alloc: Global, top: &Top, broken: &mut Vec<Broken>) -> Result<
 
 /// A function as the closure of its parameters and its body.
 fn closure_of(alloc: Global, function: &Function) -> Result<ClosureExpr, Mem>
-    ensures { IfOk result (λ c. view_closure c ≡ tree.closure function.now.place (tree.params (names function.now.params.items)) (view_stmts function.now.body.items)) }
+    ensures { IfOk result (λ c. view_closure c ≡ tree.closure function.now.place
+        (tree.params (names function.now.params.items)) (view_stmts function.now.body.items)) }
 {
     let params = copy_params(alloc, &function.params)?;
     let body = copy_body(alloc, &function.body)?;

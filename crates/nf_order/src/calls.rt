@@ -1,12 +1,11 @@
 //! Judges calls, and enters workflows.
 
-ghost use Rattle.std.specs.Prelude.{◌≡◌, ◌≤◌, ◌+◌, ◌==◌, ◌||◌, ◌++◌, ◌∷◌, [], suc, false, IfOk, OnOk};
-ghost use Rattle.nf_ast.specs.Tops.{view_workflow_body};
+ghost use Rattle.std.specs.Prelude.{◌≡◌, ◌==◌, ◌||◌, ◌++◌, ◌∷◌, [], IfOk, OnOk};
 ghost use Rattle.nf_builtins.specs.Natives.{is_among};
-ghost use Rattle.nf_slips.specs.Memory.{body_depth, weight};
-ghost use Rattle.nf_order.specs.Callees.{call_of, entered as entered_by, operator_on as operator_on_by, unless_unknown as unless_unknown_by};
+ghost use Rattle.nf_order.specs.Callees.{call_of, operator_on as operator_on_by, unless_unknown as unless_unknown_by};
+ghost use Rattle.nf_order.specs.Memory.{IsLighter, call_in, entered_in, led_in};
 ghost use Rattle.nf_order.specs.Natives.{by_tables};
-ghost use Rattle.nf_order.specs.Standing.{Gives, around_of, call_now, free_now, half_now, led_from, rest as rest_of};
+ghost use Rattle.nf_order.specs.Standing.{Gives, around_of, call_now, free_now, half_now, rest as rest_of};
 ghost use Rattle.nf_opkinds.specs.Operators.{member_call as member_call_by};
 
 use crate::around::{Around, State};
@@ -130,7 +129,7 @@ pub(crate) fn call(
     around: &Around<'_>,
     state: &mut State,
 ) -> Result<Shape, Mem>
-    ensures { IfOk result (λ v. Gives (call_of ((around_of around.now).callee name.now) place name.now args.items) state.old v state.new) }
+    ensures { IfOk result (λ v. Gives (call_in around.now place name.now args.items) state.old v state.new) }
 {
     match find_definition(around.tops, name.as_str()) {
         Definition::Nothing => undefined(place, name, args, around, state),
@@ -151,7 +150,8 @@ pub(crate) fn call(
     }
 }
 
-/// A call by a name that the script doesn't define: of an operator, or of a function of the program, if no table has it.
+/// A call by a name that the script doesn't define: of an operator, or, if no table has it, of a function of the
+/// program.
 fn undefined(
     place: Place,
     name: &Txt,
@@ -191,7 +191,8 @@ fn operator_on(
     }
 }
 
-/// A call of a workflow, which isn't entered where the call leads back to it. What a call with something unknown gives is unknown.
+/// A call of a workflow, which isn't entered where the call leads back to it. What a call with something unknown gives
+/// is unknown.
 #[cycle(judge)]
 fn enter(
     workflow: &WorkflowBody,
@@ -200,8 +201,8 @@ fn enter(
     around: &Around<'_>,
     state: &mut State,
 ) -> Result<Shape, Mem>
-    requires lighter { is_among name.now around.now.within.now ≡ false → suc (body_depth workflow.now) + weight around.now.tops.now (around.now.within.now ++ name.now ∷ []) ≤ weight around.now.tops.now around.now.within.now }
-    ensures { IfOk result (λ v. Gives (entered_by name.now args.now (led_from around.now name.now (view_workflow_body workflow.now) args.now)) state.old v state.new) }
+    requires lighter { IsLighter around.now name.now workflow.now }
+    ensures { IfOk result (λ v. Gives (entered_in around.now name.now workflow.now args.now) state.old v state.new) }
 {
     let inside = entered(workflow, name, args, around, state)?;
     let shape = unless_unknown(args, inside);
@@ -228,9 +229,10 @@ fn entered(
     around: &Around<'_>,
     state: &mut State,
 ) -> Result<Shape, Mem>
-    requires lighter { is_among name.now around.now.within.now ≡ false → suc (body_depth workflow.now) + weight around.now.tops.now (around.now.within.now ++ name.now ∷ []) ≤ weight around.now.tops.now around.now.within.now }
-    ensures gives { IfOk result (λ v. v ≡ (led_from around.now name.now (view_workflow_body workflow.now) args.now).gives) }
-    ensures broken { OnOk result (state.new.broken.items ≡ state.old.broken.items ++ (led_from around.now name.now (view_workflow_body workflow.now) args.now).broken) }
+    requires lighter { IsLighter around.now name.now workflow.now }
+    ensures gives { IfOk result (λ v. v ≡ (led_in around.now name.now workflow.now args.now).gives) }
+    ensures broken { OnOk result (state.new.broken.items ≡ state.old.broken.items
+        ++ (led_in around.now name.now workflow.now args.now).broken) }
     ensures scope { OnOk result (state.new.scope ≡ state.old.scope) }
 {
     if leads_back(around, name) {

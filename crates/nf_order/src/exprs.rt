@@ -1,13 +1,11 @@
 //! Judges expressions.
 
-ghost use Rattle.std.specs.Prelude.{◌≡◌, [], map, IfOk, OnOk, if◌then◌else◌};
-ghost use Rattle.nf_ast.specs.View.{conditional, view, views, view_branch, view_operand, view_pair, view_piece, trees};
-ghost use Rattle.nf_value.specs.declared.place.Place.{Place};
-ghost use Rattle.nf_ast.specs.Tree.{Tree};
-ghost use Rattle.nf_kinds.specs.Kinds.{Shaped, alone, merged, unknown_kind};
-ghost use Rattle.nf_order.specs.Parts as spec;
-ghost use Rattle.nf_order.specs.declared.around.State.{State};
-ghost use Rattle.nf_order.specs.Standing.{Gives, IsEnd, IsLeft, IsSecond, Stands, Turned, arms_of, around_of, chain_of, after_operand, after_operands, plain_subject, rest as rest_of};
+ghost use Rattle.std.specs.Prelude.{◌≡◌, map, IfOk, OnOk, if◌then◌else◌};
+ghost use Rattle.nf_ast.specs.View.{view, views, view_branch, view_operand, view_pair, view_piece, trees};
+ghost use Rattle.nf_kinds.specs.Kinds.{alone, merged, unknown_kind};
+ghost use Rattle.nf_order.specs.Parts.{part_of};
+ghost use Rattle.nf_order.specs.Memory.{IfArms, IfRead, IfSecond, IfTurned, arms_in, chain_in, part_in, whole_of};
+ghost use Rattle.nf_order.specs.Standing.{Gives, IsEnd, IsLeft, after_operand, after_operands, plain_subject, rest as rest_of};
 
 use crate::around::{Around, State};
 use crate::calls::settle;
@@ -22,7 +20,7 @@ use nf_value::Mem;
 /// An expression as far as it is read; what stands after it may call it.
 #[cycle(judge)]
 pub(crate) fn subject(expr: &Expr, around: &Around<'_>, state: &mut State) -> Result<Subject, Mem>
-    ensures { IfOk result (λ x. Stands (spec.part_of (around_of around.now) (view expr.now)) (rest_of (around_of around.now) x) state.old state.new) }
+    ensures { IfRead result around.now (λ a. part_of a (view expr.now)) state.old state.new }
 {
     match expr {
         Expr::Number(_, _)
@@ -73,8 +71,8 @@ fn plain_by(is_unknown: bool) -> Result<Subject, Mem>
 /// What an expression may be, once it is read to its end.
 #[cycle(judge)]
 pub(crate) fn value(expr: &Expr, around: &Around<'_>, state: &mut State) -> Result<Shape, Mem>
-    ensures gives { IfOk result (λ v. Gives (spec.part_of (around_of around.now) (view expr.now)).thing state.old v state.new) }
-    ensures done { OnOk result (Gives (spec.part_of (around_of around.now) (view expr.now)).done state.old tt state.new) }
+    ensures gives { IfOk result (λ v. Gives (part_in around.now (view expr.now)).thing state.old v state.new) }
+    ensures done { OnOk result (Gives (part_in around.now (view expr.now)).done state.old tt state.new) }
 {
     let subject = subject(expr, around, state)?;
     settle(subject, around, state)
@@ -83,7 +81,7 @@ pub(crate) fn value(expr: &Expr, around: &Around<'_>, state: &mut State) -> Resu
 /// Whether something in the items is unknown.
 #[cycle(judge)]
 fn items(items: &[Expr], around: &Around<'_>, state: &mut State) -> Result<bool, Mem>
-    ensures { IfOk result (λ v. Gives (spec.part_of (around_of around.now) (views items.now)).items state.old v state.new) }
+    ensures { IfOk result (λ v. Gives (part_in around.now (views items.now)).items state.old v state.new) }
 {
     let mut is_unknown = false;
     for item in items {
@@ -95,7 +93,8 @@ fn items(items: &[Expr], around: &Around<'_>, state: &mut State) -> Result<bool,
 
 #[cycle(judge)]
 fn template(pieces: &[Fragment], around: &Around<'_>, state: &mut State) -> Result<bool, Mem>
-    ensures { IfOk result (λ v. Gives (spec.part_of (around_of around.now) (trees (map view_piece pieces.now))).items state.old v state.new) }
+    ensures { IfOk result (λ v. Gives (part_in around.now (trees (map view_piece pieces.now))).items
+        state.old v state.new) }
 {
     let mut is_unknown = false;
     for piece in pieces {
@@ -108,7 +107,7 @@ fn template(pieces: &[Fragment], around: &Around<'_>, state: &mut State) -> Resu
 /// A part of a template: the expression in a hole, or text.
 #[cycle(judge)]
 fn fragment(piece: &Fragment, around: &Around<'_>, state: &mut State) -> Result<Shape, Mem>
-    ensures { IfOk result (λ v. Gives (spec.part_of (around_of around.now) (view_piece piece.now)).thing state.old v state.new) }
+    ensures { IfOk result (λ v. Gives (part_in around.now (view_piece piece.now)).thing state.old v state.new) }
 {
     match piece {
         Fragment::Plain(_, _) => Ok(Shape::alone(Kinds::plain())),
@@ -118,7 +117,8 @@ fn fragment(piece: &Fragment, around: &Around<'_>, state: &mut State) -> Result<
 
 #[cycle(judge)]
 fn pairs(pairs: &[Pair], around: &Around<'_>, state: &mut State) -> Result<bool, Mem>
-    ensures { IfOk result (λ v. Gives (spec.part_of (around_of around.now) (trees (map view_pair pairs.now))).items state.old v state.new) }
+    ensures { IfOk result (λ v. Gives (part_in around.now (trees (map view_pair pairs.now))).items
+        state.old v state.new) }
 {
     let mut is_unknown = false;
     for pair in pairs {
@@ -136,7 +136,8 @@ fn operands(
     around: &Around<'_>,
     state: &mut State,
 ) -> Result<Subject, Mem>
-    ensures { IfOk result (λ x. Stands (after_operands (around_of around.now) (rest_of (around_of around.now) first) (map view_operand rest.now)) (rest_of (around_of around.now) x) state.old state.new) }
+    ensures { IfRead result around.now (λ a. after_operands a (rest_of a first) (map view_operand rest.now))
+        state.old state.new }
 {
     let mut so_far = first;
     for operand in rest {
@@ -153,7 +154,8 @@ fn with_operand(
     around: &Around<'_>,
     state: &mut State,
 ) -> Result<Subject, Mem>
-    ensures { IfOk result (λ x. Stands (after_operand (around_of around.now) (rest_of (around_of around.now) before) (view_operand operand.now)) (rest_of (around_of around.now) x) state.old state.new) }
+    ensures { IfRead result around.now (λ a. after_operand a (rest_of a before) (view_operand operand.now))
+        state.old state.new }
 {
     match operand.operator {
         InfixOperator::Pipe => {
@@ -178,7 +180,7 @@ fn turns(
     around: &Around<'_>,
     state: &mut State,
 ) -> Result<Shape, Mem>
-    ensures { IfOk result (λ v. Gives (spec.part_of (around_of around.now) (conditional [] (view first.now) (map view_branch rest.now))).thing state.old v state.new) }
+    ensures { IfOk result (λ v. Gives (part_in around.now (whole_of first.now rest.now)).thing state.old v state.new) }
 {
     let (mut so_far, mut left) = turn(first, rest, around, state)?;
     while let [branch, more @ ..] = left {
@@ -197,7 +199,7 @@ fn turn<'a>(
     around: &Around<'_>,
     state: &mut State,
 ) -> Result<(Shape, &'a [Branch]), Mem>
-    ensures reads { IfOk result (λ r. Turned (around_of around.now) (chain_of (view first.now) (map view_branch rest.now)) r.0 (map view_branch r.1.now) state.old state.new) }
+    ensures reads { IfTurned result around.now (chain_in first.now rest.now) state.old state.new }
     ensures left { IfOk result (λ r. IsLeft r.1.now rest.now) }
 {
     let left = value(first, around, state)?;
@@ -223,7 +225,7 @@ fn two_arms<'a>(
     around: &Around<'_>,
     state: &mut State,
 ) -> Result<(Shape, &'a [Branch]), Mem>
-    ensures reads { IfOk result (λ r. (p : Place) (c : Tree) (k : Shaped) (start : State) → k.kinds ≡ condition → Gives (spec.part_of (around_of around.now) c).thing start k state.old → Turned (around_of around.now) (arms_of p c (view first.now) (map view_branch rest.now)) r.0 (map view_branch r.1.now) start state.new) }
+    ensures reads { IfArms result around.now condition (arms_in first.now rest.now) state.old state.new }
     ensures left { IfOk result (λ r. IsLeft r.1.now rest.now) }
 {
     let before = state.scope.copy(around.alloc)?;
@@ -257,7 +259,7 @@ fn second_arm<'a>(
     state: &mut State,
 ) -> Result<(Shape, &'a [Branch]), Mem>
     requires ends { IsEnd (map view_branch rest.now) }
-    ensures reads { IfOk result (λ r. IsSecond (around_of around.now) (map view_branch rest.now) r.0 (map view_branch r.1.now) state.old state.new) }
+    ensures reads { IfSecond result around.now rest.now state.old state.new }
     ensures left { IfOk result (λ r. IsLeft r.1.now rest.now) }
 {
     match rest {

@@ -80,7 +80,8 @@ pub(crate) fn unknown_functions(alloc: Global, tops: &[Top]) -> Result<Vec<Txt>,
 
 /// Adds those of the names that the script doesn't define.
 fn add_listed(alloc: Global, tops: &[Top], listed: &[&str], names: &mut Vec<Txt>) -> Result<(), Mem>
-    ensures { OnOk result (names.new.items ≡ names.old.items ++ undefined_of (trees (map view_top tops.now)) (map (λ n. n.now) listed.now)) }
+    ensures { OnOk result (names.new.items ≡ names.old.items
+        ++ undefined_of (trees (map view_top tops.now)) (map (λ n. n.now) listed.now)) }
 {
     for name in listed {
         add_undefined(alloc, tops, name, names)?;
@@ -95,7 +96,8 @@ fn add_rows<R: Named>(
     rows: &[R],
     names: &mut Vec<Txt>,
 ) -> Result<(), Mem>
-    ensures { OnOk result (names.new.items ≡ names.old.items ++ undefined_of (trees (map view_top tops.now)) (map R.label rows.now)) }
+    ensures { OnOk result (names.new.items ≡ names.old.items
+        ++ undefined_of (trees (map view_top tops.now)) (map R.label rows.now)) }
 {
     for row in rows {
         add_undefined(alloc, tops, row.name(), names)?;
@@ -105,7 +107,8 @@ fn add_rows<R: Named>(
 
 /// Adds a name, if the script doesn't define it.
 fn add_undefined(alloc: Global, tops: &[Top], name: &str, names: &mut Vec<Txt>) -> Result<(), Mem>
-    ensures { OnOk result (names.new.items ≡ names.old.items ++ undefined_of (trees (map view_top tops.now)) (name.now ∷ [])) }
+    ensures { OnOk result (names.new.items ≡ names.old.items
+        ++ undefined_of (trees (map view_top tops.now)) (name.now ∷ [])) }
 {
     if let Definition::Nothing = find_definition(tops, name) {
         names.push(Txt::of(String::from_str(alloc, name)?))?;

@@ -2,14 +2,17 @@
 
 ghost use Rattle.std.specs.Prelude.{◌≡◌, ◌++◌, ◌∷◌, [], map, option_map, Some, IfOk, if◌then◌else◌};
 ghost use Rattle.nf_ast.specs.Tree.{empty};
-ghost use Rattle.nf_ast.specs.View.{view, view_arg, view_closure, view_postfix, trees};
+ghost use Rattle.nf_ast.specs.View.{view, view_arg, view_postfix};
 ghost use Rattle.nf_kinds.specs.Scope.{bound_in};
 ghost use Rattle.nf_slips.specs.Forms.{facts_of};
 ghost use Rattle.nf_slips.specs.Memory.{view_form};
-ghost use Rattle.nf_value.specs.declared.place.Place.{Place};
 ghost use Rattle.nf_order.specs.Parts as spec;
-ghost use Rattle.nf_order.specs.declared.subject.Head.TheVariants as heads;
-ghost use Rattle.nf_order.specs.Standing.{Gives, IsCalledBy, IsFree, Stands, around_of, after_index, after_part, after_parts, args_or_none, marked_by, option_name as option_name_of, rest as rest_of, uncalled, view_index};
+ghost use Rattle.nf_opkinds.specs.Results.{or_plain as or_plain_by};
+ghost use Rattle.nf_order.specs.declared.subject.Free.TheVariants as frees;
+ghost use Rattle.nf_order.specs.Memory.{IfRead, IsCalled, args_of, closure_of, of_member, part_in};
+ghost use Rattle.nf_order.specs.Parts.{of_call, of_closed, of_property, of_safe_property};
+ghost use Rattle.nf_order.specs.Standing.{Gives, IsFree, after_index, after_part, after_parts, args_or_none, around_of};
+ghost use Rattle.nf_order.specs.Standing.{marked_by, option_name as option_name_of, rest as rest_of, uncalled, view_index};
 
 use crate::around::{Around, State};
 use crate::calls::{called, settle};
@@ -17,6 +20,7 @@ use crate::exprs::value;
 use crate::subject::{Free, Head, Subject, read_head};
 use nf_ast::{Arg, ClosureExpr, Expr, Postfix, Prefix, PrefixOperator};
 use nf_kinds::{ClosureFacts, Given, Key, Kinds, Shape, given_kinds};
+use nf_opkinds::or_plain;
 use nf_slips::{Form, closure_kinds, facts, read_form};
 use nf_value::{Mem, Place, Txt};
 
@@ -28,7 +32,8 @@ pub(crate) fn parts(
     around: &Around<'_>,
     state: &mut State,
 ) -> Result<Subject, Mem>
-    ensures { IfOk result (λ x. Stands (after_parts (around_of around.now) (rest_of (around_of around.now) first) (map view_postfix rest.now)) (rest_of (around_of around.now) x) state.old state.new) }
+    ensures { IfRead result around.now (λ a. after_parts a (rest_of a first) (map view_postfix rest.now))
+        state.old state.new }
 {
     let mut so_far = first;
     for part in rest {
@@ -44,7 +49,8 @@ fn with_part(
     around: &Around<'_>,
     state: &mut State,
 ) -> Result<Subject, Mem>
-    ensures { IfOk result (λ x. Stands (after_part (around_of around.now) (rest_of (around_of around.now) before) (view_postfix part.now)) (rest_of (around_of around.now) x) state.old state.new) }
+    ensures { IfRead result around.now (λ a. after_part a (rest_of a before) (view_postfix part.now))
+        state.old state.new }
 {
     match part {
         Postfix::Property(place, name) => with_member(before, *place, name, around, state),
@@ -64,7 +70,8 @@ fn with_member(
     around: &Around<'_>,
     state: &mut State,
 ) -> Result<Subject, Mem>
-    ensures { IfOk result (λ x. Stands (spec.of_property empty (rest_of (around_of around.now) before) place name.now) (rest_of (around_of around.now) x) state.old state.new) }
+    ensures { IfRead result around.now (λ a. of_property empty (rest_of a before) place name.now)
+        state.old state.new }
 {
     let Subject { head, args } = before;
     match args {
@@ -84,7 +91,8 @@ fn member_of_head(
     around: &Around<'_>,
     state: &State,
 ) -> Result<Subject, Mem>
-    ensures { IfOk result (λ x. Stands (spec.of_property empty (uncalled (around_of around.now) head) place name.now) (rest_of (around_of around.now) x) state.now state.now) }
+    ensures { IfRead result around.now (λ a. of_property empty (uncalled a head) place name.now)
+        state.now state.now }
 {
     match head {
         Head::Name(_, object) => part_of_name(&object, place, name, around, state),
@@ -104,7 +112,8 @@ fn member_of(
     around: &Around<'_>,
     state: &mut State,
 ) -> Result<Subject, Mem>
-    ensures { IfOk result (λ x. Stands (spec.of_safe_property empty (rest_of (around_of around.now) before) place name.now) (rest_of (around_of around.now) x) state.old state.new) }
+    ensures { IfRead result around.now (λ a. of_safe_property empty (rest_of a before) place name.now)
+        state.old state.new }
 {
     let shape = settle(before, around, state)?;
     Subject::member(shape, place, name)
@@ -118,7 +127,7 @@ fn part_of_name(
     around: &Around<'_>,
     state: &State,
 ) -> Result<Subject, Mem>
-    ensures { IfOk result (λ x. (p : Place) → Stands (spec.of_property empty (uncalled (around_of around.now) (heads.Name p object.now)) place name.now) (rest_of (around_of around.now) x) state.now state.now) }
+    ensures { IfRead result around.now (λ a. of_member a object.now place name.now) state.now state.now }
 {
     match state.scope.bound(object.as_str()) {
         Some(shape) => {
@@ -132,7 +141,7 @@ fn part_of_name(
     }
 }
 
-/// `m.name`, where m is bound to this, perhaps in one arm of an `if` alone.
+/// `m.name`, where m is bound to this. Bound in one arm of an `if` alone, m may be free too, and so may `Math`.
 fn part_of_bound(
     shape: Shape,
     object: &Txt,
@@ -142,9 +151,9 @@ fn part_of_bound(
     state: &State,
 ) -> Result<Subject, Mem>
     requires bound { bound_in object.now state.now.scope ≡ Some shape }
-    ensures { IfOk result (λ x. (p : Place) → Stands (spec.of_property empty (uncalled (around_of around.now) (heads.Name p object.now)) place name.now) (rest_of (around_of around.now) x) state.now state.now) }
+    ensures { IfRead result around.now (λ a. of_member a object.now place name.now) state.now state.now }
 {
-    if state.scope.is_half_bound(object.as_str()) {
+    if state.scope.is_half_bound(object.as_str()) || object.as_str() == "Math" {
         let free = free_object(object, name, around, state)?;
         return Subject::half_bound(shape, free, place, name);
     }
@@ -159,9 +168,19 @@ fn free_object(object: &Txt, name: &Txt, around: &Around<'_>, state: &State) -> 
         return Ok(Free::Channel);
     }
     match state.scope.call(object.as_str()) {
-        Some(shape) if name.as_str() == "out" => Ok(Free::Output(shape.copy(around.alloc)?)),
+        Some(shape) if name.as_str() == "out" => output_of(object, shape, around),
         _ => Ok(Free::Word(Shape::alone(free_kinds(object.as_str())))),
     }
+}
+
+/// `P.out`, where P was called and gave this. A word that stands for a value where nothing binds it may stand for that
+/// too.
+fn output_of(object: &Txt, shape: &Shape, around: &Around<'_>) -> Result<Free, Mem>
+    ensures { IfOk result (λ f. f ≡ frees.Output (or_plain_by (spec.free_kind object.now).plain shape.now)) }
+{
+    let may_be_plain = free_kinds(object.as_str()).plain;
+    let shape = shape.copy(around.alloc)?;
+    Ok(Free::Output(or_plain(around.alloc, may_be_plain, shape)?))
 }
 
 /// What a name is before a dot that nothing binds in the body.
@@ -182,7 +201,7 @@ fn with_index(
     around: &Around<'_>,
     state: &mut State,
 ) -> Result<Subject, Mem>
-    ensures { IfOk result (λ x. Stands (after_index (around_of around.now) (rest_of (around_of around.now) before) (view index.now)) (rest_of (around_of around.now) x) state.old state.new) }
+    ensures { IfRead result around.now (λ a. after_index a (rest_of a before) (view index.now)) state.old state.new }
 {
     let shape = settle(before, around, state)?;
     let place = value(index, around, state)?;
@@ -300,7 +319,8 @@ fn with_args(
     around: &Around<'_>,
     state: &mut State,
 ) -> Result<Subject, Mem>
-    ensures { IfOk result (λ x. Stands (spec.of_call empty (rest_of (around_of around.now) before) (spec.part_of (around_of around.now) (trees (map view_arg list.now))).arguments) (rest_of (around_of around.now) x) state.old state.new) }
+    ensures { IfRead result around.now (λ a. of_call empty (rest_of a before) (args_of a list.now))
+        state.old state.new }
 {
     let head = callable(before, around, state)?;
     let given = args(list, around, state)?;
@@ -310,7 +330,7 @@ fn with_args(
 /// What is called by arguments: what isn't called yet, or the result of a call.
 #[cycle(judge)]
 fn callable(before: Subject, around: &Around<'_>, state: &mut State) -> Result<Head, Mem>
-    ensures { IfOk result (λ h. IsCalledBy (around_of around.now) (rest_of (around_of around.now) before) h state.old state.new) }
+    ensures { IfOk result (λ h. IsCalled around.now before h state.old state.new) }
 {
     let Subject { head, args } = before;
     match args {
@@ -321,7 +341,8 @@ fn callable(before: Subject, around: &Around<'_>, state: &mut State) -> Result<H
 
 #[cycle(judge)]
 fn args(list: &[Arg], around: &Around<'_>, state: &mut State) -> Result<Vec<Given>, Mem>
-    ensures { IfOk result (λ v. Gives (spec.all_given (spec.part_of (around_of around.now) (trees (map view_arg list.now))).arguments) state.old v.items state.new) }
+    ensures { IfOk result (λ v. Gives (spec.all_given (args_of (around_of around.now) list.now))
+        state.old v.items state.new) }
 {
     let mut given = Vec::new(around.alloc);
     for one in list {
@@ -333,7 +354,7 @@ fn args(list: &[Arg], around: &Around<'_>, state: &mut State) -> Result<Vec<Give
 
 #[cycle(judge)]
 fn arg(arg: &Arg, around: &Around<'_>, state: &mut State) -> Result<Given, Mem>
-    ensures { IfOk result (λ v. Gives (spec.part_of (around_of around.now) (view_arg arg.now)).argument state.old v state.new) }
+    ensures { IfOk result (λ v. Gives (part_in around.now (view_arg arg.now)).argument state.old v state.new) }
 {
     let shape = value(&arg.value, around, state)?;
     let option = option_name(arg)?;
@@ -372,7 +393,8 @@ fn with_closure(
     around: &Around<'_>,
     state: &mut State,
 ) -> Result<Subject, Mem>
-    ensures { IfOk result (λ x. Stands (spec.of_closed empty (rest_of (around_of around.now) before) (spec.part_of (around_of around.now) (view_closure closure.now)).argument) (rest_of (around_of around.now) x) state.old state.new) }
+    ensures { IfRead result around.now (λ a. of_closed empty (rest_of a before) (closure_of a closure.now))
+        state.old state.new }
 {
     let kinds = closure_kinds(
         around.alloc,

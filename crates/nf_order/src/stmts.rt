@@ -1,9 +1,10 @@
 //! Judges the statements of a workflow's body.
 
-ghost use Rattle.std.specs.Prelude.{◌≡◌, map, option_map, OnOk};
-ghost use Rattle.nf_ast.specs.View.{choice as choice_tree, view_arm, view_stmt, view_stmts, last_arm};
-ghost use Rattle.nf_order.specs.Parts as spec;
-ghost use Rattle.nf_order.specs.Standing.{Gives, around_of};
+ghost use Rattle.std.specs.Prelude.{◌≡◌, OnOk};
+ghost use Rattle.nf_ast.specs.View.{view_stmt, view_stmts};
+ghost use Rattle.nf_order.specs.Memory.{part_in, view_choice, view_last};
+ghost use Rattle.nf_order.specs.Parts.{in_braces};
+ghost use Rattle.nf_order.specs.Standing.{Gives};
 
 use crate::around::{Around, State};
 use crate::exprs::value;
@@ -14,7 +15,7 @@ use nf_value::Mem;
 /// Statements in a row.
 #[cycle(judge)]
 pub(crate) fn body(stmts: &[Stmt], around: &Around<'_>, state: &mut State) -> Result<(), Mem>
-    ensures { OnOk result (Gives (spec.part_of (around_of around.now) (view_stmts stmts.now)).body state.old tt state.new) }
+    ensures { OnOk result (Gives (part_in around.now (view_stmts stmts.now)).body state.old tt state.new) }
 {
     for one in stmts {
         stmt(one, around, state)?;
@@ -24,7 +25,7 @@ pub(crate) fn body(stmts: &[Stmt], around: &Around<'_>, state: &mut State) -> Re
 
 #[cycle(judge)]
 fn stmt(stmt: &Stmt, around: &Around<'_>, state: &mut State) -> Result<(), Mem>
-    ensures { OnOk result (Gives (spec.part_of (around_of around.now) (view_stmt stmt.now)).done state.old tt state.new) }
+    ensures { OnOk result (Gives (part_in around.now (view_stmt stmt.now)).done state.old tt state.new) }
 {
     match stmt {
         Stmt::Define(_, _, name, expr) => {
@@ -53,14 +54,15 @@ fn stmt(stmt: &Stmt, around: &Around<'_>, state: &mut State) -> Result<(), Mem>
 /// Statements between braces of their own.
 #[cycle(judge)]
 fn block(stmts: &[Stmt], around: &Around<'_>, state: &mut State) -> Result<(), Mem>
-    ensures { OnOk result (Gives (spec.in_braces (spec.part_of (around_of around.now) (view_stmts stmts.now)).body) state.old tt state.new) }
+    ensures { OnOk result (Gives (in_braces (part_in around.now (view_stmts stmts.now)).body) state.old tt state.new) }
 {
     let count = state.scope.local_count();
     body(stmts, around, state)?;
     state.scope.leave(around.alloc, count)
 }
 
-/// The arms of an `if`, and what stands after its last `else`. Each arm begins in the scope after its condition, and so do those after it.
+/// The arms of an `if`, and what stands after its last `else`. Each arm begins in the scope after its condition, and
+/// so do those after it.
 #[cycle(judge)]
 fn choice(
     arms: &[Arm],
@@ -68,7 +70,7 @@ fn choice(
     around: &Around<'_>,
     state: &mut State,
 ) -> Result<(), Mem>
-    ensures { OnOk result (Gives (spec.part_of (around_of around.now) (choice_tree (map view_arm arms.now) (last_arm (option_map (λ v. map view_stmt v.items) last.now)))).done state.old tt state.new) }
+    ensures { OnOk result (Gives (part_in around.now (view_choice arms.now last.now)).done state.old tt state.new) }
 {
     match arms {
         [] => otherwise(last, around, state),
@@ -86,7 +88,7 @@ fn choice(
 /// What stands after the last `else`.
 #[cycle(judge)]
 fn otherwise(last: &Option<Vec<Stmt>>, around: &Around<'_>, state: &mut State) -> Result<(), Mem>
-    ensures { OnOk result (Gives (spec.part_of (around_of around.now) (last_arm (option_map (λ v. map view_stmt v.items) last.now))).done state.old tt state.new) }
+    ensures { OnOk result (Gives (part_in around.now (view_last last.now)).done state.old tt state.new) }
 {
     match last {
         Some(stmts) => block(stmts, around, state),

@@ -22,7 +22,8 @@ pub(crate) enum Head {
     Member(Shape, Place, Txt),
     /// `channel.name`.
     Source(Txt),
-    /// `m.name`, where one arm of an `if` alone bound m: with what it is bound to, and what it is where nothing binds it.
+    /// `m.name`, where one arm of an `if` alone bound m: with what it is bound to, and what it is where nothing binds
+    /// it.
     HalfBound(Shape, Free, Place, Txt),
 }
 
@@ -99,7 +100,8 @@ impl Subject {
 
 /// What is read and not called.
 pub(crate) fn read_head(head: Head, around: &Around<'_>, state: &State) -> Result<Shape, Mem>
-    ensures { IfOk result (λ v. (uncalled (around_of around.now) head).thing state.now.scope ≡ came v state.now.scope []) }
+    ensures { IfOk result (λ v. (uncalled (around_of around.now) head).thing state.now.scope
+        ≡ came v state.now.scope []) }
 {
     match head {
         Head::Value(shape) => Ok(shape),

@@ -6,6 +6,7 @@ ghost use Rattle.nf_ast.specs.View.{names as names_tree, trees};
 ghost use Rattle.nf_placed.specs.Body.{names_in};
 ghost use Rattle.nf_slips.specs.Definitions.{emits_in, taken_by as taken_by_of, taken_in};
 ghost use Rattle.nf_order.specs.Accepted as spec;
+ghost use Rattle.nf_order.specs.Memory.{run_in};
 ghost use Rattle.nf_order.specs.Standing.{Gives, around_of, outputs_by, taken_kind};
 
 use crate::around::{Around, State};
@@ -25,8 +26,9 @@ pub(crate) fn run(
     around: &Around<'_>,
     broken: &mut Vec<Broken>,
 ) -> Result<Shape, Mem>
-    ensures gives { IfOk result (λ v. v ≡ (spec.entered_with (around_of around.now) (view_workflow_body workflow.now) args.now).gives) }
-    ensures broken { OnOk result (broken.new.items ≡ broken.old.items ++ (spec.entered_with (around_of around.now) (view_workflow_body workflow.now) args.now).broken) }
+    ensures gives { IfOk result (λ v. v ≡ (run_in around.now workflow.now args.now).gives) }
+    ensures broken { OnOk result (broken.new.items ≡ broken.old.items
+        ++ (run_in around.now workflow.now args.now).broken) }
 {
     let earlier = std::mem::replace(broken, Vec::new(around.alloc));
     let mut state = State {
@@ -49,7 +51,8 @@ fn statements_and_emits(
     around: &Around<'_>,
     state: &mut State,
 ) -> Result<Vec<(Option<Txt>, Kinds)>, Mem>
-    ensures { IfOk result (λ v. Gives (outputs_by (around_of around.now) (view_workflow_body workflow.now)) state.old v.items state.new) }
+    ensures { IfOk result (λ v. Gives (outputs_by (around_of around.now) (view_workflow_body workflow.now))
+        state.old v.items state.new) }
 {
     match workflow {
         WorkflowBody::Statements(stmts) => {
@@ -122,7 +125,8 @@ fn emits(
     around: &Around<'_>,
     state: &mut State,
 ) -> Result<Vec<(Option<Txt>, Kinds)>, Mem>
-    ensures { IfOk result (λ v. Gives (spec.emitted (around_of around.now) (emits_in (maybe view_emits emits.now))) state.old v.items state.new) }
+    ensures { IfOk result (λ v. Gives (spec.emitted (around_of around.now) (emits_in (maybe view_emits emits.now)))
+        state.old v.items state.new) }
 {
     match emits {
         Some(section) => each_emit(&section.emits, around, state),
@@ -136,7 +140,8 @@ fn each_emit(
     around: &Around<'_>,
     state: &mut State,
 ) -> Result<Vec<(Option<Txt>, Kinds)>, Mem>
-    ensures { IfOk result (λ v. Gives (spec.emitted (around_of around.now) (trees (map view_emit emits.now))) state.old v.items state.new) }
+    ensures { IfOk result (λ v. Gives (spec.emitted (around_of around.now) (trees (map view_emit emits.now)))
+        state.old v.items state.new) }
 {
     let mut outputs = Vec::new(around.alloc);
     for one in emits {
@@ -148,7 +153,8 @@ fn each_emit(
 
 #[cycle(judge)]
 fn emit(emit: &Emit, around: &Around<'_>, state: &mut State) -> Result<(Option<Txt>, Kinds), Mem>
-    ensures { IfOk result (λ v. Gives (spec.emitted_one (around_of around.now) (view_emit emit.now)) state.old v state.new) }
+    ensures { IfOk result (λ v. Gives (spec.emitted_one (around_of around.now) (view_emit emit.now))
+        state.old v state.new) }
 {
     match emit {
         Emit::Named(_, name, expr) => {

@@ -1,9 +1,9 @@
-use Rattle.std.proofs.Common.{◌≡◌, map, rules, List, ◌-◌, [], ◌∷◌, ◌++◌, false, sym, ap, ◌∙◌, drop, take, length, arith, ◌<◌, refl, subst, true, ◌||◌, ◌==◌, None, if◌then◌else◌, Some, option_map, IfOk, suc, ◌+◌, ◌*◌, ◌≤◌, max}
+use Rattle.std.proofs.Common.{◌≡◌, map, rules, List, ◌-◌, [], ◌∷◌, ◌++◌, false, sym, ap, ◌∙◌, drop, take, length, arith, ◌<◌, refl, subst, true, ◌||◌, ◌==◌, None, if◌then◌else◌, Some, option_map, IfOk, suc, ◌+◌, ◌*◌, ◌≤◌, max, Bool}
 use Rattle.nf_ast.specs.Tops.{view_top, view_workflow_body, view_emit}
 use Rattle.nf_ast.specs.View.{trees, view_operand, BranchTree, view, view_branch, view_closure, views, view_piece, view_pair, view_postfix, operands, conditional, postfix, prefixes, view_arg, with_name, ArmTree, choice as choice_tree, last_arm, view_arm, view_stmt, view_stmts, names}
 use Rattle.nf_slips.specs.Definitions.{definition_in}
 use Rattle.nf_order.specs.declared.around.State.{State}
-use Rattle.nf_order.proofs.Entering.{called_as, in_if, unknown_there, task_at_head, name_at_head, statements_alone, not_among}
+use Rattle.nf_order.proofs.Entering.{called_as, called_head, in_if, unknown_there, task_at_head, name_at_head, statements_alone, not_among}
 use Rattle.nf_builtins.specs.Natives.{is_among}
 use Rattle.nf_kinds.specs.declared.args.Given.{Given}
 use Rattle.nf_opkinds.specs.Operators.{Call}
@@ -17,11 +17,12 @@ use Rattle.nf_ast.specs.declared.expr.Expr.{the_lemmas, size-Expr}
 use Rattle.nf_order.proofs.Arms.{second_none, second_result, turns_some, arms_result, turn_elvis, turned_as, left_on, read_as, read_goes, arms_turn, choice_stands, define_all_gives}
 use Rattle.nf_order.proofs.Rows.{first_of, row_step}
 use Rattle.nf_kinds.specs.Kinds.{alone, plain_unless, merged, unknown_kind}
-use Rattle.nf_order.specs.Parts.{part_of, handed, of_safe_property, all_given, of_call, index_kind, indexed, of_property, in_braces, bound_or_free, head_of}
+use Rattle.nf_order.specs.Parts.{part_of, handed, of_safe_property, all_given, of_call, index_kind, indexed, of_property, in_braces, bound_or_free, either_way, head_of, value_or_call}
 use Rattle.nf_order.proofs.Calling.{here, is_result, is_subject, rest_uncalled, rest_result, member_stands, args_stand, index_stands, result_member}
 use Rattle.nf_order.proofs.Expressions.{closure_stands, of_tree, row_stands, done_on, argument_as, emitted_as}
 use Rattle.nf_ast.specs.declared.operators.BranchOperator.{BranchOperator}
-use Rattle.nf_kinds.specs.Scope.{after_both, is_half_bound}
+use Rattle.nf_kinds.specs.declared.kinds.Kinds.{Kinds}
+use Rattle.nf_kinds.specs.Scope.{after_both, given_kind, is_half_bound}
 use Rattle.nf_ast.specs.declared.operators.InfixOperator.{InfixOperator}
 use Rattle.nf_ast.specs.Tree.{empty}
 use Rattle.nf_slips.specs.Forms.{form_of, facts_of, is_expression, name_of}
@@ -477,8 +478,35 @@ pipes::free_name-returns-then-is_task t0 c =
     let n = c.args.name.now in
     let old = c.args.state.now in
     let task : is_task (definition_in n (trees (map view_top c.args.around.now.tops.now))) ≡ true = search rules in
-    let g : IfOk c.call.result (λ v. Gives (call_of ((around_of c.args.around.now).callee n) c.args.place n []) old v c.call.new.state) = search rules in
-    task_at_head c.args.around.now c.args.place n c.call.result old c.call.new.state task g
+    let value : c.given_kinds-value.result ≡ given_kind n = search rules in
+    let new = c.value_or_call.new.state in
+    let g : IfOk c.value_or_call.result (λ v. Gives (called_head ((around_of c.args.around.now).callee n) c.args.place n) old v new) =
+    subst (λ (k : Kinds). IfOk c.value_or_call.result (λ v. Gives (value_or_call k.plain (alone k) (call_of ((around_of c.args.around.now).callee n) c.args.place n [])) old v new)) value (search rules) in
+    task_at_head c.args.around.now c.args.place n c.value_or_call.result old new task g
+
+pub pipes::value_or_call-returns-then-not-is_value : goal.pipes::value_or_call-returns-then-not-is_value
+pipes::value_or_call-returns-then-not-is_value t0 c =
+    let v = alone c.args.value in
+    let w = call_of ((around_of c.args.around.now).callee c.args.name.now) c.args.place c.args.name.now c.args.args.items in
+    let off : c.args.is_value ≡ false = search rules in
+    let g : IfOk c.call.result (λ x. Gives w c.args.state.now x c.call.new.state) = search rules in
+    subst (λ (b : Bool). IfOk c.call.result (λ x. Gives (value_or_call b v w) c.args.state.now x c.call.new.state)) (sym off) g
+
+pub pipes::value_or_call-returns : goal.pipes::value_or_call-returns
+pipes::value_or_call-returns t0 c =
+    let v = alone c.args.value in
+    let w = call_of ((around_of c.args.around.now).callee c.args.name.now) c.args.place c.args.name.now c.args.args.items in
+    let old = c.args.state.now in
+    let late = c.call-2.new.state in
+    let new : State = record { scope = c.merge.new.self; broken = late.broken } in
+    let x = c.in_ok-called.called in
+    let on : c.args.is_value ≡ true = search rules in
+    let second : Gives w old x late = search rules in
+    let both : new.scope ≡ after_both old.scope late.scope = search rules in
+    let g : IfOk c.merged-2.result (λ z. Gives (either_way (gives v) w) old z new) =
+    if_ok c.merged-2.result (λ z. z ≡ merged v x) (λ z. Gives (either_way (gives v) w) old z new)
+    (λ z e. either_gives (gives v) w v x z old old old late new (here v old) refl refl second both refl e) (search rules) in
+    subst (λ (b : Bool). IfOk c.merged-2.result (λ z. Gives (value_or_call b v w) old z new)) (sym on) g
 
 pub pipes::free_name-returns : goal.pipes::free_name-returns
 pipes::free_name-returns t0 c =

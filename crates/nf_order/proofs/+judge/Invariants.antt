@@ -36,23 +36,29 @@ decreases-calls::called l = (weight l.around.now.tops.now l.around.now.within.no
 abbrev pub decreases-calls::settle : goal.decreases-calls::settle
 decreases-calls::settle l = (weight l.around.now.tops.now l.around.now.within.now) * 1180591620717411303424 + 5
 
+abbrev pub decreases-pipes::value_or_call : goal.decreases-pipes::value_or_call
+decreases-pipes::value_or_call l = (weight l.around.now.tops.now l.around.now.within.now) * 1180591620717411303424 + 4
+
 abbrev pub decreases-pipes::free_name : goal.decreases-pipes::free_name
-decreases-pipes::free_name l = (weight l.around.now.tops.now l.around.now.within.now) * 1180591620717411303424 + 4
+decreases-pipes::free_name l = (weight l.around.now.tops.now l.around.now.within.now) * 1180591620717411303424 + 5
 
 abbrev pub decreases-pipes::bound_name : goal.decreases-pipes::bound_name
-decreases-pipes::bound_name l = (weight l.around.now.tops.now l.around.now.within.now) * 1180591620717411303424 + 5
+decreases-pipes::bound_name l = (weight l.around.now.tops.now l.around.now.within.now) * 1180591620717411303424 + 6
 
 abbrev pub decreases-pipes::first_name : goal.decreases-pipes::first_name
-decreases-pipes::first_name l = (weight l.around.now.tops.now l.around.now.within.now) * 1180591620717411303424 + 6
+decreases-pipes::first_name l = (weight l.around.now.tops.now l.around.now.within.now) * 1180591620717411303424 + 7
 
 abbrev pub decreases-pipes::first_head : goal.decreases-pipes::first_head
-decreases-pipes::first_head l = (weight l.around.now.tops.now l.around.now.within.now) * 1180591620717411303424 + 7
+decreases-pipes::first_head l = (weight l.around.now.tops.now l.around.now.within.now) * 1180591620717411303424 + 8
 
 abbrev pub decreases-pipes::pipe_first : goal.decreases-pipes::pipe_first
-decreases-pipes::pipe_first l = (weight l.around.now.tops.now l.around.now.within.now) * 1180591620717411303424 + 8
+decreases-pipes::pipe_first l = (weight l.around.now.tops.now l.around.now.within.now) * 1180591620717411303424 + 9
 
 abbrev pub decreases-pipes::beside : goal.decreases-pipes::beside
 decreases-pipes::beside l = (weight l.around.now.tops.now l.around.now.within.now) * 1180591620717411303424 + 6
+
+abbrev pub decreases-pipes::pipe_to_name : goal.decreases-pipes::pipe_to_name
+decreases-pipes::pipe_to_name l = (weight l.around.now.tops.now l.around.now.within.now) * 1180591620717411303424 + 5
 
 abbrev pub decreases-pipes::pipe_to : goal.decreases-pipes::pipe_to
 decreases-pipes::pipe_to l = (weight l.around.now.tops.now l.around.now.within.now) * 1180591620717411303424 + 7

@@ -1,8 +1,9 @@
 use Rattle.std.proofs.Common.{◌≡◌, rules}
 use Rattle.std.specs.Prelude.{None}
 use Rattle.nf_kinds.specs.Scope.{bound_in}
+use Rattle.nf_order.specs.Memory.{of_member}
 use Rattle.nf_order.specs.Standing.{IsFree, around_of, free_head}
-use Rattle.nf_order.proofs.Calling.{free_stands, some_word}
+use Rattle.nf_order.proofs.Calling.{free_stands, is_result}
 use Rattle.nf_order.proofs.parts.part_of_name.Goals as goal
 
 pub returns-in_ok-free-in-None : goal.returns-in_ok-free-in-None
@@ -15,4 +16,4 @@ returns-in_ok-free-in-None c =
     let f = c.in_ok-free-in-None.free in
     let none : bound_in m s.scope ≡ None = search rules in
     let is : IsFree s.scope m n f = search rules in
-    some_word a (free_head f p n) p m n c.free.result s (λ q. free_stands a q p m n f s none is) (search rules)
+    is_result a (of_member a m p n) (record { head = free_head f p n; args = None }) c.free.result s s (free_stands a p p m n f s none is) (search rules)
