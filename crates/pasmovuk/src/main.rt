@@ -20,7 +20,7 @@ const HELP: &str = "pasmovuk: runs pipelines written in a subset of Nextflow DSL
 
   run FILE     runs the script in FILE and prints its report
   fmt FILE     prints the script in FILE in its canonical layout
-  check FILE   says whether the script in FILE is accepted: whether no result of it can depend on order
+  check FILE   says whether the script in FILE breaks a rule that keeps results from depending on order
   --help       prints this
   --version    prints the program's name and version
 ";
