@@ -3,7 +3,7 @@
 use crate::parsed::parsed;
 use anyhow::{Result, bail};
 use nf_ast::{ClosureBody, ClosureExpr, Expr, Function};
-use nf_eval::Env;
+use nf_eval::Library;
 use nf_value::Txt;
 use std::alloc::Global;
 
@@ -26,13 +26,14 @@ const FUNCTIONS: &[(&str, &str)] = &[
     ("doubles", "{ ns -> ns.collect { double(it) } }"),
 ];
 
-/// Adds the functions.
-pub(crate) fn add_functions(alloc: Global, env: &mut Env) -> Result<()> {
+/// A library of the functions, without patterns.
+pub(crate) fn known_functions(alloc: Global) -> Result<Library> {
+    let mut library = Library::new(alloc);
     for (name, code) in FUNCTIONS.iter().copied() {
         let function = function(alloc, name, code)?;
-        env.add_function(function)?;
+        library.add_function(function)?;
     }
-    Ok(())
+    Ok(library)
 }
 
 /// A function with the parameters and the body of a closure.

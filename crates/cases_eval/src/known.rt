@@ -1,12 +1,12 @@
 //! The names that all rows know.
 
-use crate::functions::add_functions;
 use crate::parsed::parsed;
 use anyhow::{Result, bail};
 use nf_builtins::Natives;
-use nf_eval::{Env, eval};
+use nf_eval::{Env, Library, eval};
 use nf_value::{Digest, FileRef, Txt, Value};
 use std::alloc::Global;
+use std::sync::Arc;
 
 /// Names and the expressions of their values, each over those before it.
 const NAMES: &[(&str, &str)] = &[
@@ -37,12 +37,11 @@ const FILES: &[(&str, &str)] = &[
     ("file_b", "b"),
 ];
 
-/// An environment with the functions, the files and the names.
-pub(crate) fn known<N: Natives>(alloc: Global, natives: &N) -> Result<Env>
+/// An environment with the files and the names over a library.
+pub(crate) fn known<N: Natives>(alloc: Global, library: Library, natives: &N) -> Result<Env>
     requires { N.keeps natives.now }
 {
-    let mut env = Env::new(alloc);
-    add_functions(alloc, &mut env)?;
+    let mut env = Env::new(alloc, Arc::new(alloc, library)?);
     add_files(alloc, &mut env)?;
     for (name, of) in NAMES.iter().copied() {
         let of = parsed(alloc, of)?;

@@ -1,11 +1,13 @@
 //! Evaluates a table of expressions. Standard input has a row a line: an expression, or `CLOSURE <- LIST` for a closure that is applied to
 //! the items of a list, and either after `in a process: `. Each row is printed with its value, where a text stands in single quotes, or
-//! with its fault and the fault's place. After `uses: ` stands an expression that is printed with what it uses, and after `unbound: ` one with the place
-//! of the first that nothing binds. Empty lines and lines that begin with `#` are printed as they are.
+//! with its fault and the fault's place. After `uses: ` stands an expression that is printed with what it uses, after `names: ` one with the names that
+//! stand in it (in its body, where it is a closure), and after `unbound: ` one with the place of the first that nothing binds. Empty lines and lines that
+//! begin with `#` are printed as they are.
 #![tactic(auto)]
 
 mod functions;
 mod known;
+mod names;
 mod parsed;
 mod patterns;
 mod row;
@@ -58,6 +60,9 @@ fn answer<N: Natives>(alloc: Global, line: &str, natives: &N) -> Result<String>
 {
     if let Some(text) = line.strip_prefix("uses: ") {
         return uses::uses(alloc, text);
+    }
+    if let Some(text) = line.strip_prefix("names: ") {
+        return names::names(alloc, text);
     }
     if let Some(text) = line.strip_prefix("unbound: ") {
         return uses::unbound_place(alloc, text, natives);

@@ -3,17 +3,17 @@
 ghost use Rattle.std.specs.Prelude.{◌≡◌, IfOk};
 
 use anyhow::{Result, bail};
-use nf_eval::Env;
+use nf_eval::Library;
 use nf_names_used::{Use, UseKind};
 use nf_pattern::WholeRe;
 use nf_value::Txt;
 use std::alloc::Global;
 
 /// Builds the patterns that are used.
-pub(crate) fn build_patterns(alloc: Global, uses: &[Use], env: &mut Env) -> Result<()> {
+pub(crate) fn build_patterns(alloc: Global, uses: &[Use], library: &mut Library) -> Result<()> {
     for used in uses {
         match used.kind {
-            UseKind::Pattern => add_pattern(alloc, used.text.copy()?, env)?,
+            UseKind::Pattern => add_pattern(alloc, used.text.copy()?, library)?,
             _ => {}
         }
     }
@@ -21,9 +21,9 @@ pub(crate) fn build_patterns(alloc: Global, uses: &[Use], env: &mut Env) -> Resu
 }
 
 /// Builds the pattern of a text.
-pub(crate) fn add_pattern(alloc: Global, text: Txt, env: &mut Env) -> Result<()> {
+pub(crate) fn add_pattern(alloc: Global, text: Txt, library: &mut Library) -> Result<()> {
     let re = built(alloc, &text)?;
-    env.add_pattern(text, re)?;
+    library.add_pattern(text, re)?;
     Ok(())
 }
 

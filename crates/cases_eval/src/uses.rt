@@ -1,5 +1,6 @@
 //! What rows use, and what of it nothing binds.
 
+use crate::functions::known_functions;
 use crate::known::known;
 use crate::parsed::parsed;
 use crate::patterns::add_pattern;
@@ -41,8 +42,9 @@ pub(crate) fn unbound_place<N: Natives>(alloc: Global, text: &str, natives: &N) 
     requires { N.keeps natives.now }
 {
     let expr = parsed(alloc, text)?;
-    let mut env = known(alloc, natives)?;
-    add_pattern(alloc, Txt::of(String::from_str(alloc, "a")?), &mut env)?;
+    let mut library = known_functions(alloc)?;
+    add_pattern(alloc, Txt::of(String::from_str(alloc, "a")?), &mut library)?;
+    let env = known(alloc, library, natives)?;
     let place = match &expr {
         Expr::Closure(code) => unbound_closure(alloc, code, &env, natives)?,
         expr => unbound(alloc, expr, &env, natives)?,

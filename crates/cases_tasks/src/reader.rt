@@ -2,10 +2,11 @@
 
 use anyhow::Result;
 use nf_ast::{ClosureBody, ClosureExpr, Expr, Section, Stmt, Task};
-use nf_eval::{Closure, Env};
+use nf_eval::{Closure, Env, Library};
 use nf_tasks::{Input, TaskScript, seen_names};
 use nf_value::{Pairs, Place, Txt, Value};
 use std::alloc::Global;
+use std::sync::Arc;
 
 /// Reads the parts of a process whose expressions see these names.
 #[derive(Drop)]
@@ -14,6 +15,8 @@ pub(crate) struct Reader {
     /// The place of the process.
     place: Place,
     names: Vec<Txt>,
+    /// What the environments of its expressions share: no functions and no patterns.
+    library: Arc<Library>,
 }
 
 impl Reader {
@@ -24,6 +27,7 @@ impl Reader {
             alloc,
             place,
             names,
+            library: Arc::new(alloc, Library::new(alloc))?,
         })
     }
 
@@ -60,7 +64,7 @@ impl Reader {
 
     fn closure(&self, place: Place, body: Vec<Stmt>) -> Result<Closure> {
         let params = self.params()?;
-        let env = env(self.alloc)?;
+        let env = env(self.alloc, self.library.clone()?)?;
         Ok(Closure::new(code(place, params, body), env))
     }
 
@@ -82,8 +86,8 @@ fn code(place: Place, params: Vec<(Place, Txt)>, body: Vec<Stmt>) -> ClosureExpr
 }
 
 /// What the expressions capture: `params.outdir` is `results`, and the folder of the script is `.`.
-fn env(alloc: Global) -> Result<Env> {
-    let mut env = Env::new(alloc);
+fn env(alloc: Global, library: Arc<Library>) -> Result<Env> {
+    let mut env = Env::new(alloc, library);
     define(&mut env, text(alloc, "params")?, params(alloc)?)?;
     define(&mut env, text(alloc, "projectDir")?, folder(alloc)?)?;
     env.for_process();

@@ -1,19 +1,55 @@
-//! Times a closure on the items of a list.
+//! Times a closure on the items of a list, and environments over functions.
 
 ghost use Rattle.nf_builtins.specs.Natives.{AnswersNative, program_answer};
 
 use crate::{numbers, took};
 use anyhow::{Result, bail};
-use nf_ast::Expr;
+use nf_ast::{Expr, Function};
 use nf_builtins::{CallFault, Natives, ProgramBook, StoredNatives, program_names, program_native};
-use nf_eval::{Closure, Env, apply};
-use nf_value::{EvalRefusal, Mem, Vals, Value};
+use nf_eval::{Closure, Env, Library, Scope, apply};
+use nf_value::{EvalRefusal, Mem, Place, Txt, Vals, Value};
 use std::alloc::Global;
 use std::rt::Clock;
+use std::sync::Arc;
 use std::time::Instant;
 
 /// How often the closure is applied in all.
 const CALLS: u32 = 10000;
+
+/// How many environments are made.
+const ENVIRONMENTS: u32 = 10000;
+
+/// Makes 10,000 environments over a library of COUNT functions, and keeps them all.
+pub fn environments<R: Clock + AllocGlobal + Print + Eprint>(rt: &R, count: u32) -> Result<()> {
+    let alloc = rt.alloc();
+    let library = library(alloc, count)?;
+    let first = Env::new(alloc, Arc::new(alloc, library)?);
+    let start = Instant::now(rt)?;
+    let mut environments = Vec::new(alloc);
+    for _ in 0..ENVIRONMENTS {
+        environments.push(first.with_names(Scope::new(alloc))?)?;
+    }
+    took(rt, start)?;
+    let made = environments.len();
+    println!(rt; "environments {made}")?;
+    Ok(())
+}
+
+/// A library of COUNT functions without parameters and statements.
+fn library(alloc: Global, count: u32) -> Result<Library, Mem> {
+    let mut library = Library::new(alloc);
+    let place = Place { line: 1, col: 1 };
+    for _ in 0..count {
+        library.add_function(Function {
+            place,
+            name_place: place,
+            name: Txt::of(String::from_str(alloc, "f")?),
+            params: Vec::new(alloc),
+            body: Vec::new(alloc),
+        })?;
+    }
+    Ok(library)
+}
 
 /// Maps a list of COUNT numbers by `{ it * 3 + 1 }`, as often as it takes to apply the closure about 10,000 times.
 pub fn closure<R: Clock + AllocGlobal + Print + Eprint>(rt: &R, count: u32) -> Result<()> {
@@ -56,7 +92,10 @@ fn read(alloc: Global) -> Result<Closure> {
         bail!("no tokens");
     };
     match nf_exprs::expr(alloc, &tokens, 0) {
-        Ok((Expr::Closure(code), _)) => Ok(Closure::new(code, Env::new(alloc))),
+        Ok((Expr::Closure(code), _)) => {
+            let library = Arc::new(alloc, Library::new(alloc))?;
+            Ok(Closure::new(code, Env::new(alloc, library)))
+        }
         _ => bail!("no closure"),
     }
 }

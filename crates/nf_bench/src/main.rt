@@ -1,7 +1,7 @@
 //! Times layers that the program doesn't reach. `nf_bench OPERATION COUNT` does one operation: on a list of COUNT numbers, on a text that repeats
-//! a few bytes COUNT times, by pushing COUNT items into an operator (COUNT pairs into `join`), by a closure that maps lists of COUNT numbers, or by tasks
-//! of a shell. It prints what came of it, and on standard error how many microseconds the operation took. With no words it prints the names of the
-//! operations.
+//! a few bytes COUNT times, by pushing COUNT items into an operator (COUNT pairs into `join`), by a closure that maps lists of COUNT numbers, by
+//! environments over COUNT functions, or by tasks of a shell. It prints what came of it, and on standard error how many microseconds the operation
+//! took. With no words it prints the names of the operations.
 #![tactic(auto)]
 
 mod closures;
@@ -36,7 +36,7 @@ fn print_operations<R: Print>(rt: &R) -> Result<()> {
     println!(rt; "values: copy compare sort encode decode")?;
     println!(rt; "texts: lex-names lex-holes lex-brackets lex-strings")?;
     println!(rt; "operators: unique join")?;
-    println!(rt; "closures: closure")?;
+    println!(rt; "closures: closure environments")?;
     println!(rt; "tasks: tasks digests staged outputs store digest children")?;
     Ok(())
 }
@@ -61,6 +61,7 @@ fn operate<R: Clock + Files + Processes + AllocGlobal + Print + Eprint>(
         "unique" => operators::unique(rt, count),
         "join" => operators::join(rt, count),
         "closure" => closures::closure(rt, count),
+        "environments" => closures::environments(rt, count),
         operation => operate_on_values(rt, operation, count),
     }
 }

@@ -1,5 +1,5 @@
 -- Whether a name has a value, and whether a function has it.
-use Rattle.std.proofs.Common.{◌≡◌, ◌∙◌, Bool, true, false, List, [], ◌∷◌, ◌++◌, map, refl, sym}
+use Rattle.std.proofs.Common.{◌≡◌, ◌∙◌, Bool, true, false, List, [], ◌∷◌, ◌++◌, map, refl, sym, ap}
 use Rattle.std.specs.Prelude.{ℕ, Option, Some, None, MatchOption}
 use Rattle.std.specs.Option.{is_some}
 use Rattle.std.specs.Str.{bytes_eq}
@@ -9,6 +9,7 @@ use Rattle.std.proofs.lemmas.Slice.Eq.{bytes_eq-Decides}
 use Rattle.nf_value.specs.Plain.{Plain, null, truth}
 use Rattle.nf_builtins.specs.Natives.{is_among}
 use Rattle.nf_placed.specs.Scope.{Function, value_in, function_in}
+use Rattle.nf_eval.specs.Evaluation.{Definition, functions_of}
 
 abbrev keys : List (List ℕ × Plain) → List (List ℕ)
 keys bs = map (λ b. b.0) bs
@@ -80,3 +81,9 @@ function_among n (f ∷ fs) g one = first (bytes_eq f.name n) refl one (function
 pub told : {A : Type 0} (r : Option A) (P : Type 0) (Q : A → Type 0) (b t : Bool) → MatchOption r P Q → b ≡ is_some r → (P → t ≡ false) → ((a : A) → Q a → t ≡ true) → b ≡ t
 told None P Q b t h is none one = is ∙ sym (none h)
 told (Some a) P Q b t h is none one = is ∙ sym (one a h)
+
+-- functions have the names of their definitions
+pub names-functions_of : (ds : List Definition) (patterns titles : List (List ℕ)) (answer : ℕ → List Plain → Option Plain)
+    → map (λ f. f.name) (functions_of ds patterns titles answer) ≡ map (λ d. d.name) ds
+names-functions_of [] patterns titles answer = refl
+names-functions_of (d ∷ ds) patterns titles answer = ap (λ ns. d.name ∷ ns) (names-functions_of ds patterns titles answer)

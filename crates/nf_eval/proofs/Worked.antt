@@ -13,14 +13,17 @@ use Rattle.nf_ast.specs.Tree.{Tree, empty, cons}
 use Rattle.nf_infix.specs.Compare.{matches}
 use Rattle.nf_placed.specs.Placed.{fault, made}
 use Rattle.nf_placed.specs.Scope.{Env}
-use Rattle.nf_eval.specs.Evaluation.{Closing, Definition, eval_of, apply_of, branch_of, labels_of}
-use Rattle.nf_eval.specs.Memory.{with_functions}
+use Rattle.nf_eval.specs.Evaluation.{Closing, Definition, functions_of, eval_of, apply_of, branch_of, labels_of}
 
 abbrev at : ℕ → Place
 at k = record { line = 1; col = k }
 
 abbrev x_is_ten : Env
 x_is_ten = record { names = (codes "x", int (pos 10)) ∷ []; captured = []; functions = []; patterns = codes "a+" ∷ []; titles = codes "one" ∷ []; answer = λ k vs. Some (int (pos 1)); in_process = false }
+
+-- an environment with these functions in place of its own
+abbrev with_functions : List Definition → Env → Env
+with_functions ds env = record env { functions = functions_of ds env.patterns env.titles env.answer }
 
 abbrev one : Tree
 one = tree.number (at 1) (pos 1)

@@ -1,5 +1,5 @@
 -- What environments, closures and `Around` in memory mean.
-use Rattle.std.specs.Prelude.{◌≡◌, ℕ, List, [], ◌∷◌, ◌++◌, map, Option}
+use Rattle.std.specs.Prelude.{◌≡◌, ℕ, true, false, List, [], ◌∷◌, map, Option}
 use Rattle.nf_value.specs.Plain.{Plain}
 use Rattle.nf_ast.specs.Tree as tree
 use Rattle.nf_ast.specs.Tree.{Tree}
@@ -7,6 +7,7 @@ use Rattle.nf_ast.specs.declared.tops.Function.{Function as Code}
 use Rattle.nf_placed.specs.Scope.{Env, inside, with_names}
 use Rattle.nf_eval.specs.declared.patterns.Pattern.{Pattern}
 use Rattle.nf_eval.specs.declared.environment.Env.{Env as Stored}
+use Rattle.nf_eval.specs.declared.library.Library.{Library}
 use Rattle.nf_eval.specs.declared.around.Around.{Around, fold-Around}
 use Rattle.nf_eval.specs.declared.around.Around.TheOpen.{Around-F}
 use Rattle.nf_eval.specs.Latest.{names_of}
@@ -16,33 +17,55 @@ use Rattle.nf_eval.specs.Evaluation.{Closing, Definition, nowhere, functions_of}
 abbrev pub texts_of : List Pattern → List (List ℕ)
 texts_of ps = map (λ p. p.text) ps
 
--- its functions, the latest first
-abbrev pub definitions_of : Stored → List Definition
-definitions_of e = definitions_in e.functions.items
+-- the functions of a library, the latest first
+abbrev pub definitions_of : Library → List Definition
+definitions_of l = definitions_in l.functions.items
+
+abbrev pub definition_names : List Definition → List (List ℕ)
+definition_names ds = map (λ d. d.name) ds
+
+-- the texts of its patterns
+abbrev pub patterns_of : Library → List (List ℕ)
+patterns_of l = texts_of l.patterns.items
+
+-- an environment without names that has the functions and patterns of a library
+abbrev pub env_over : Library → List (List ℕ) → (ℕ → List Plain → Option Plain) → Env
+env_over l titles answer = record {
+  names = [];
+  captured = [];
+  functions = functions_of (definitions_of l) (patterns_of l) titles answer;
+  patterns = patterns_of l;
+  titles = titles;
+  answer = answer;
+  in_process = false;
+}
 
 -- the environment in the sense of `Evaluation`: its names are captured, since a body that is evaluated in it has names of its own
 abbrev pub env_of : Stored → List (List ℕ) → (ℕ → List Plain → Option Plain) → Env
-env_of e titles answer = record {
-  names = [];
-  captured = names_of e.names;
-  functions = functions_of (definitions_of e) (texts_of e.patterns.items) titles answer;
-  patterns = texts_of e.patterns.items;
-  titles = titles;
-  answer = answer;
-  in_process = e.in_process;
-}
+env_of e titles answer = record (env_over e.library.value titles answer) { captured = names_of e.names; in_process = e.in_process }
+
+-- an environment in memory without names, over a library
+abbrev pub IsOver : Library → Stored → Type 0
+IsOver l e = (titles : List (List ℕ)) (answer : ℕ → List Plain → Option Plain) → env_of e titles answer ≡ env_over l titles answer
+
+-- the new environment in memory means what the old one does, changed so
+abbrev pub IsChangedBy : (Env → Env) → Stored → Stored → Type 0
+IsChangedBy change old new = (titles : List (List ℕ)) (answer : ℕ → List Plain → Option Plain) → env_of new titles answer ≡ change (env_of old titles answer)
+
+-- with these names in place of its own
+abbrev pub with_captured : List (List ℕ × Plain) → Env → Env
+with_captured names env = record env { captured = names }
+
+-- with one name more, which hides an earlier one of its text
+abbrev pub with_name : List ℕ → Plain → Env → Env
+with_name n v env = with_captured ((n, v) ∷ env.captured) env
+
+abbrev pub in_a_process : Env → Env
+in_a_process env = record env { in_process = true }
 
 abbrev pub closing : Tree → Env → Closing
 closing (tree.closure p ps b) env = record { place = p; params = ps; body = b; env = env }
 closing _ env = record { place = nowhere; params = tree.empty; body = tree.empty; env = env }
-
--- the environment with these functions
-abbrev pub with_functions : List Definition → Env → Env
-with_functions ds env = record env { functions = functions_of ds env.patterns env.titles env.answer }
-
--- the environment with one pattern more, which the functions see too
-abbrev pub with_pattern : List ℕ → List Definition → Env → Env
-with_pattern re ds env = with_functions ds (record env { patterns = env.patterns ++ re ∷ [] })
 
 -- ---- what is seen around an expression
 
@@ -56,7 +79,7 @@ abbrev pub seen : Around → List (List ℕ) → (ℕ → List Plain → Option 
 seen a titles answer = fold-Around Env (around_step titles answer) a
 
 abbrev pub held_step : Around-F (List Code) → List Code
-held_step (Around-F.Whole env) = env.now.functions.items
+held_step (Around-F.Whole env) = env.now.library.value.functions.items
 held_step (Around-F.Body names outer) = outer.now
 held_step (Around-F.Called earlier outer) = earlier.now
 

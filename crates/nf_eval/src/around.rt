@@ -65,7 +65,7 @@ pub(crate) fn match_seen(
     ensures { (titles : List (List ℕ)) (answer : ℕ → List Plain → Option Plain) → Evaluates (if is_among text.now (seen around.now titles answer).patterns then made place (matches (plain_of value.now) text.now) else fault WrongKind place) result }
 {
     match around {
-        Around::Whole(env) => matched(alloc, place, value, text, &env.patterns),
+        Around::Whole(env) => matched(alloc, place, value, text, &env.library.patterns),
         Around::Body(_, outer) => match_seen(alloc, place, text, outer, value),
         Around::Called(_, outer) => match_seen(alloc, place, text, outer, value),
     }
@@ -91,7 +91,7 @@ pub(crate) fn function_seen<'a>(
     ensures lighter { IfSome result (λ f. suc (depth f.0.now.body.items) + depths f.1.now ≤ depths (held around.now)) }
 {
     match around {
-        Around::Whole(env) => function_named(name, &env.functions),
+        Around::Whole(env) => function_named(name, &env.library.functions),
         Around::Body(_, outer) => function_seen(name, outer),
         Around::Called(earlier, _) => function_named(name, earlier),
     }

@@ -1,6 +1,6 @@
 //! The environment that an expression is evaluated in.
 
-ghost use Rattle.std.specs.Prelude.{◌≡◌, ◌∷◌, ◌++◌, [], ℕ, List, Option, OnOk, Ok, true, if◌then◌else◌, false};
+ghost use Rattle.std.specs.Prelude.{◌≡◌, ℕ, List, Option, OnOk, IfOk, Ok, if◌then◌else◌};
 ghost use Rattle.nf_value.specs.Plain.{Plain};
 ghost use Rattle.nf_value.specs.View.{plain_of};
 ghost use Rattle.nf_value.specs.declared.fault.EvalKind.TheVariants.{WrongKind};
@@ -8,41 +8,53 @@ ghost use Rattle.nf_builtins.specs.Natives.{is_among};
 ghost use Rattle.nf_infix.specs.Compare.{matches};
 ghost use Rattle.nf_placed.specs.Placed.{Evaluates, made, fault};
 ghost use Rattle.nf_placed.specs.Scope.{names_in_scope, function_names};
+ghost use Rattle.nf_eval.specs.Latest.{names_of};
 ghost use Rattle.nf_eval.specs.Memory.{texts_of};
 
-use crate::functions::function_named;
+use crate::library::Library;
 use crate::patterns::Pattern;
 use crate::scope::Scope;
-use nf_ast::Function;
-use nf_pattern::WholeRe;
 use nf_placed::{fault_at, matches_value};
 use nf_value::{EvalKind, EvalRefusal, Mem, Place, Txt, Value};
 use std::alloc::Global;
+use std::sync::Arc;
 
-/// The environment of an expression: names with their values, functions of a script, built patterns, and whether it belongs to a process (own). Contracts see its `env_of`, and its functions as `definitions_of`, the latest first.
+/// The environment of an expression: names with their values, a library of functions and built patterns, and whether it belongs to a process (own).
+/// Contracts see its `env_of`.
 #[derive(Drop)]
 pub struct Env {
     pub(crate) names: Scope,
-    pub(crate) functions: Vec<Function>,
-    pub(crate) patterns: Vec<Pattern>,
+    pub(crate) library: Arc<Library>,
     pub(crate) in_process: bool,
 }
 
 impl Env {
-    ghost use Rattle.nf_eval.specs.Functions.{definition_of};
-    ghost use Rattle.nf_eval.specs.Memory.{env_of, definitions_of, with_functions, with_pattern};
+    ghost use Rattle.nf_eval.specs.Memory.{env_of, IsOver, IsChangedBy, with_captured, with_name, in_a_process};
 
-    /// An empty environment, which belongs to no process. Takes no memory.
-    pub fn new(alloc: Global) -> Env
-        ensures functions { definitions_of result ≡ [] }
-        ensures sees { (titles : List (List ℕ)) (answer : ℕ → List Plain → Option Plain) → env_of result titles answer ≡ record { names = []; captured = []; functions = []; patterns = []; titles = titles; answer = answer; in_process = false } }
+    /// An environment without names that sees the functions and patterns of a library. It belongs to no process. Takes no memory.
+    pub fn new(alloc: Global, library: Arc<Library>) -> Env
+        ensures { IsOver library.value result }
     {
         Env {
             names: Scope::new(alloc),
-            functions: Vec::new(alloc),
-            patterns: Vec::new(alloc),
+            library,
             in_process: false,
         }
+    }
+
+    /// The same environment with these names in place of its own. The library is shared: no function is copied (own).
+    ///
+    /// # Errors
+    ///
+    /// `Mem` where the library has too many owners.
+    pub fn with_names(&self, names: Scope) -> Result<Env, Mem>
+        ensures { IfOk result (λ e. IsChangedBy (with_captured (names_of names)) self.now e) }
+    {
+        Ok(Env {
+            names,
+            library: self.library.clone()?,
+            in_process: self.in_process,
+        })
     }
 
     /// Adds a name.
@@ -51,44 +63,15 @@ impl Env {
     ///
     /// `Mem` where there is no memory for it.
     pub fn define(&mut self, name: Txt, value: Value) -> Result<(), Mem>
-        ensures functions { OnOk result (definitions_of self.new ≡ definitions_of self.old) }
-        ensures sees { OnOk result ((titles : List (List ℕ)) (answer : ℕ → List Plain → Option Plain) → env_of self.new titles answer ≡ record (env_of self.old titles answer) { captured = (name, plain_of value) ∷ (env_of self.old titles answer).captured }) }
+        ensures { OnOk result (IsChangedBy (with_name name (plain_of value)) self.old self.new) }
     {
         self.names.define(name, value)
-    }
-
-    /// Adds a function, which may call those that were added before it. Of several functions of one name the latest is called.
-    ///
-    /// # Errors
-    ///
-    /// `Mem` where there is no memory for it.
-    pub fn add_function(&mut self, function: Function) -> Result<(), Mem>
-        ensures functions { OnOk result (definitions_of self.new ≡ definition_of function ∷ definitions_of self.old) }
-        ensures sees { OnOk result ((titles : List (List ℕ)) (answer : ℕ → List Plain → Option Plain) → env_of self.new titles answer ≡ with_functions (definition_of function ∷ definitions_of self.old) (env_of self.old titles answer)) }
-    {
-        self.functions.push(function)?;
-        Ok(())
-    }
-
-    /// Adds the pattern that was built from a text. Functions see it too, whenever they were added.
-    ///
-    /// # Errors
-    ///
-    /// `Mem` where there is no memory for it.
-    pub fn add_pattern(&mut self, text: Txt, re: WholeRe) -> Result<(), Mem>
-        requires { text ≡ re }
-        ensures functions { OnOk result (definitions_of self.new ≡ definitions_of self.old) }
-        ensures sees { OnOk result ((titles : List (List ℕ)) (answer : ℕ → List Plain → Option Plain) → env_of self.new titles answer ≡ with_pattern text (definitions_of self.old) (env_of self.old titles answer)) }
-    {
-        self.patterns.push(Pattern { text, re })?;
-        Ok(())
     }
 
     /// From now on the environment belongs to a process: a hole whose value is a list of one file or more, and of nothing else, prints the files' names
     /// with blanks between them (own). Takes no memory.
     pub fn for_process(&mut self)
-        ensures functions { definitions_of self.new ≡ definitions_of self.old }
-        ensures sees { (titles : List (List ℕ)) (answer : ℕ → List Plain → Option Plain) → env_of self.new titles answer ≡ record (env_of self.old titles answer) { in_process = true } }
+        ensures { IsChangedBy in_a_process self.old self.new }
     {
         self.in_process = true;
     }
@@ -100,23 +83,18 @@ impl Env {
         self.names.value(name).is_some()
     }
 
-    /// Whether a function was added that has the name. Takes no memory, and time by the number of functions.
+    /// Whether the library has a function of the name. Takes no memory, and time by the number of functions.
     pub fn has_function(&self, name: &str) -> bool
         ensures { (titles : List (List ℕ)) (answer : ℕ → List Plain → Option Plain) → result ≡ is_among name.now (function_names (env_of self.now titles answer)) }
     {
-        function_named(name, &self.functions).is_some()
+        self.library.has_function(name)
     }
 
-    /// Whether the pattern of a text was added. Takes no memory, and time by the number of patterns.
+    /// Whether the library has the pattern of a text. Takes no memory, and time by the number of patterns.
     pub fn has_pattern(&self, text: &str) -> bool
         ensures { (titles : List (List ℕ)) (answer : ℕ → List Plain → Option Plain) → result ≡ is_among text.now (env_of self.now titles answer).patterns }
     {
-        for pattern in &self.patterns {
-            if pattern.text.as_str() == text {
-                return true;
-            }
-        }
-        false
+        self.library.has_pattern(text)
     }
 }
 

@@ -1,14 +1,14 @@
 -- Environments without names, with patterns that the grammar of `regex` reads.
-use Rattle.std.proofs.Common.{◌≡◌, ℕ, List, [], ◌∷◌, ◌++◌, Option, refl, ap, ◌∙◌}
+use Rattle.std.proofs.Common.{◌≡◌, ℕ, List, [], ◌∷◌, ◌++◌, Option, sym, ap, subst, ◌∙◌}
 use Rattle.std.proofs.lemmas.List.Elements.{All-nil, All-push}
 use Rattle.nf_value.specs.Plain.{Plain}
 use Rattle.nf_pattern.specs.Whole.{IsPattern}
 use Rattle.nf_pattern.specs.Wrapped.{wrapped}
-use Rattle.nf_placed.specs.Scope.{Env}
-use Rattle.nf_eval.specs.Evaluation.{Definition, functions_of}
-use Rattle.nf_eval.specs.Memory.{env_of, texts_of, definitions_of, with_pattern}
+use Rattle.nf_eval.specs.Evaluation.{functions_of}
+use Rattle.nf_eval.specs.Memory.{env_of, env_over, definitions_of, patterns_of}
 use Rattle.nf_eval.specs.declared.environment.Env as memory
-use Rattle.nf_forms.specs.Values.{AreBuilt, bare}
+use Rattle.nf_eval.specs.declared.library.Library.{Library}
+use Rattle.nf_forms.specs.Values.{AreBuilt, HasPatternsAlone, bare}
 use Rattle.nf_forms.specs.Memory.{IsBare}
 
 abbrev Answer : Type 0
@@ -17,23 +17,20 @@ Answer = ℕ → List Plain → Option Plain
 pub none_built : AreBuilt []
 none_built = All-nil (λ s. IsPattern (wrapped s))
 
-pub bare_new : (e : memory.Env) → ((titles : List (List ℕ)) (answer : Answer) → env_of e titles answer ≡ bare titles answer []) → IsBare e
-bare_new e is = ([], none_built, is)
-
--- if there are no functions with these patterns, there are none with others
-none_defined : (ds : List Definition) (ps qs titles : List (List ℕ)) (answer : Answer) → functions_of ds ps titles answer ≡ [] → functions_of ds qs titles answer ≡ []
-none_defined [] ps qs titles answer none = refl
-none_defined (d ∷ ds) ps qs titles answer none = absurd (cc)
+pub none_yet : (l : Library) → definitions_of l ≡ [] → patterns_of l ≡ [] → HasPatternsAlone l
+none_yet l d p = (d, subst AreBuilt (sym p) none_built)
 
 -- one pattern more
-pub bare_more : (e f : memory.Env) (text : List ℕ) → IsBare e
-    → ((titles : List (List ℕ)) (answer : Answer) → env_of f titles answer ≡ with_pattern text (definitions_of e) (env_of e titles answer))
-    → IsPattern (wrapped text) → IsBare f
-bare_more e f text (ps, built, is) more pattern =
-    let qs = ps ++ text ∷ [] in (
-      qs,
-      All-push (λ s. IsPattern (wrapped s)) ps text built pattern,
-      λ titles answer.
-          let none : functions_of (definitions_of e) qs titles answer ≡ [] = none_defined (definitions_of e) (texts_of e.patterns.items) qs titles answer (ap (λ (x : Env). x.functions) (is titles answer)) in
-          more titles answer ∙ ap (with_pattern text (definitions_of e)) (is titles answer) ∙ ap (λ fs. record (bare titles answer qs) { functions = fs }) none,
-    )
+pub bare_more : (l m : Library) (text : List ℕ) → HasPatternsAlone l → definitions_of m ≡ definitions_of l → patterns_of m ≡ patterns_of l ++ text ∷ []
+    → IsPattern (wrapped text) → HasPatternsAlone m
+bare_more l m text bare d p pattern =
+    (d ∙ bare.0, subst AreBuilt (sym p) (All-push (λ s. IsPattern (wrapped s)) (patterns_of l) text bare.1 pattern))
+
+-- an environment over such a library
+pub bare_over : (e : memory.Env) (l : Library) → ((titles : List (List ℕ)) (answer : Answer) → env_of e titles answer ≡ env_over l titles answer) → HasPatternsAlone l → IsBare e
+bare_over e l is alone = (
+  patterns_of l,
+  alone.1,
+  λ titles answer.
+      is titles answer ∙ ap (λ ds. record (bare titles answer (patterns_of l)) { functions = functions_of ds (patterns_of l) titles answer }) alone.0,
+)

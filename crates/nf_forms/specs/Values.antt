@@ -1,5 +1,5 @@
 -- The items of `of`, which are evaluated before the run, and the closure of `map`.
-use Rattle.std.specs.Prelude.{ℕ, false, List, [], ◌∷◌, Option, Some, None, Ok, Err, All}
+use Rattle.std.specs.Prelude.{◌≡◌, ℕ, false, List, [], ◌∷◌, Option, Some, None, Ok, Err, All}
 use Rattle.nf_value.specs.declared.place.Place.{Place}
 use Rattle.nf_value.specs.Plain.{Plain}
 use Rattle.nf_ast.specs.declared.operators.InfixOperator.{InfixOperator}
@@ -11,6 +11,8 @@ use Rattle.nf_pattern.specs.Whole.{IsPattern}
 use Rattle.nf_placed.specs.Placed.{Placed}
 use Rattle.nf_placed.specs.Scope.{Env}
 use Rattle.nf_eval.specs.Evaluation.{eval_of}
+use Rattle.nf_eval.specs.Memory.{definitions_of, patterns_of}
+use Rattle.nf_eval.specs.declared.library.Library.{Library}
 use Rattle.nf_names_bound.specs.Bound.{unbound_in}
 use Rattle.nf_forms.specs.Built.{Built, ◌>>=◌, unless, after_place, around_place}
 use Rattle.nf_forms.specs.Leaf.{LeafTree, First, closure, leaf_of, closure_place, label_at}
@@ -18,6 +20,10 @@ use Rattle.nf_forms.specs.Leaf.{LeafTree, First, closure, leaf_of, closure_place
 -- texts of patterns that the grammar of `regex` reads
 abbrev pub AreBuilt : List (List ℕ) → Type 0
 AreBuilt patterns = All (λ s. IsPattern (wrapped s)) patterns
+
+-- no functions, and such patterns alone
+abbrev pub HasPatternsAlone : Library → Type 0
+HasPatternsAlone l = (definitions_of l ≡ []) × AreBuilt (patterns_of l)
 
 -- what a script's expressions can use: the program's functions and these patterns, and no names
 abbrev pub bare : List (List ℕ) → (ℕ → List Plain → Option Plain) → List (List ℕ) → Env

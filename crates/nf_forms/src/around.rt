@@ -5,15 +5,17 @@ ghost use Rattle.nf_ast.specs.View.{view, view_closure};
 ghost use Rattle.nf_pattern.specs.Whole.{IsPattern};
 ghost use Rattle.nf_pattern.specs.Wrapped.{wrapped};
 ghost use Rattle.nf_names_bound.specs.Bound.{unbound_in};
+ghost use Rattle.nf_forms.specs.Values.{HasPatternsAlone};
 
 use nf_ast::{ClosureExpr, Expr, Script, Stmt, Top, Workflow, WorkflowBody};
 use nf_builtins::Natives;
-use nf_eval::Env;
+use nf_eval::{Env, Library};
 use nf_names_bound::{unbound, unbound_closure};
 use nf_names_used::{Use, UseKind, stmts_uses};
 use nf_pattern::{PatternFault, WholeRe};
 use nf_value::{Mem, Place, Txt};
 use std::alloc::Global;
+use std::sync::Arc;
 
 /// The environment of a script's expressions. The program's functions are passed to each call.
 #[derive(Drop)]
@@ -23,15 +25,6 @@ pub struct ScriptScope {
 
 impl ScriptScope {
     ghost use Rattle.nf_forms.specs.Memory.{view_around, IsBare};
-
-    /// A scope without names and patterns. Takes no memory.
-    fn new(alloc: Global) -> ScriptScope
-        ensures { IsBare result.env }
-    {
-        ScriptScope {
-            env: Env::new(alloc),
-        }
-    }
 
     /// The environment. Takes no memory.
     pub fn env(&self) -> &Env
@@ -71,68 +64,6 @@ impl ScriptScope {
         unbound_closure(alloc, closure, &self.env, natives)
     }
 
-    /// Adds the pattern of a text, unless it is there already or `regex` refuses it.
-    fn with_pattern(self, alloc: Global, text: Txt) -> Result<ScriptScope, Mem>
-        requires { IsBare self.env }
-        ensures { IfOk result (λ a. IsBare a.env) }
-    {
-        if self.env.has_pattern(text.as_str()) {
-            return Ok(self);
-        }
-        match WholeRe::new(alloc, text.as_str()) {
-            Ok(re) => self.with_built(re, text),
-            Err(PatternFault::Mem) => Err(Mem),
-            Err(PatternFault::NoPattern) => Ok(self),
-            Err(PatternFault::TooLarge) => Ok(self),
-        }
-    }
-
-    /// Adds this pattern of this text.
-    fn with_built(self, re: WholeRe, text: Txt) -> Result<ScriptScope, Mem>
-        requires bare { IsBare self.env }
-        requires same { re ≡ text }
-        requires pattern { IsPattern (wrapped text) }
-        ensures { IfOk result (λ a. IsBare a.env) }
-    {
-        let mut env = self.env;
-        env.add_pattern(text, re)?;
-        Ok(ScriptScope { env })
-    }
-
-    /// Adds the pattern of a use, if it is one.
-    fn with_use(self, alloc: Global, used: Use) -> Result<ScriptScope, Mem>
-        requires { IsBare self.env }
-        ensures { IfOk result (λ a. IsBare a.env) }
-    {
-        match used.kind {
-            UseKind::Pattern => self.with_pattern(alloc, used.text),
-            _ => Ok(self),
-        }
-    }
-
-    /// Adds the patterns of statements.
-    fn with_body(self, alloc: Global, body: &[Stmt]) -> Result<ScriptScope, Mem>
-        requires { IsBare self.env }
-        ensures { IfOk result (λ a. IsBare a.env) }
-    {
-        let mut around = self;
-        for used in stmts_uses(alloc, body)? {
-            around = around.with_use(alloc, used)?;
-        }
-        Ok(around)
-    }
-
-    /// Adds the patterns of a workflow.
-    fn with_top(self, alloc: Global, top: &Top) -> Result<ScriptScope, Mem>
-        requires { IsBare self.env }
-        ensures { IfOk result (λ a. IsBare a.env) }
-    {
-        match top {
-            Top::Workflow(workflow) => self.with_body(alloc, statements_of(workflow)),
-            _ => Ok(self),
-        }
-    }
-
     /// The scope of a script's workflows: no names, and every pattern in them that `regex` accepts.
     ///
     /// # Errors
@@ -141,11 +72,76 @@ impl ScriptScope {
     pub fn of_script(alloc: Global, script: &Script) -> Result<ScriptScope, Mem>
         ensures { IfOk result (λ a. IsBare a.env) }
     {
-        let mut around = ScriptScope::new(alloc);
+        let mut library = Library::new(alloc);
         for top in &script.tops {
-            around = around.with_top(alloc, top)?;
+            library = with_top(alloc, library, top)?;
         }
-        Ok(around)
+        let library = Arc::new(alloc, library)?;
+        Ok(ScriptScope {
+            env: Env::new(alloc, library),
+        })
+    }
+}
+
+/// Adds the pattern of a text, unless it is there already or `regex` refuses it.
+fn with_pattern(alloc: Global, library: Library, text: Txt) -> Result<Library, Mem>
+    requires { HasPatternsAlone library }
+    ensures { IfOk result HasPatternsAlone }
+{
+    if library.has_pattern(text.as_str()) {
+        return Ok(library);
+    }
+    match WholeRe::new(alloc, text.as_str()) {
+        Ok(re) => with_built(library, re, text),
+        Err(PatternFault::Mem) => Err(Mem),
+        Err(PatternFault::NoPattern) => Ok(library),
+        Err(PatternFault::TooLarge) => Ok(library),
+    }
+}
+
+/// Adds this pattern of this text.
+fn with_built(library: Library, re: WholeRe, text: Txt) -> Result<Library, Mem>
+    requires bare { HasPatternsAlone library }
+    requires same { re ≡ text }
+    requires pattern { IsPattern (wrapped text) }
+    ensures { IfOk result HasPatternsAlone }
+{
+    let mut library = library;
+    library.add_pattern(text, re)?;
+    Ok(library)
+}
+
+/// Adds the pattern of a use, if it is one.
+fn with_use(alloc: Global, library: Library, used: Use) -> Result<Library, Mem>
+    requires { HasPatternsAlone library }
+    ensures { IfOk result HasPatternsAlone }
+{
+    match used.kind {
+        UseKind::Pattern => with_pattern(alloc, library, used.text),
+        _ => Ok(library),
+    }
+}
+
+/// Adds the patterns of statements.
+fn with_body(alloc: Global, library: Library, body: &[Stmt]) -> Result<Library, Mem>
+    requires { HasPatternsAlone library }
+    ensures { IfOk result HasPatternsAlone }
+{
+    let mut library = library;
+    for used in stmts_uses(alloc, body)? {
+        library = with_use(alloc, library, used)?;
+    }
+    Ok(library)
+}
+
+/// Adds the patterns of a workflow.
+fn with_top(alloc: Global, library: Library, top: &Top) -> Result<Library, Mem>
+    requires { HasPatternsAlone library }
+    ensures { IfOk result HasPatternsAlone }
+{
+    match top {
+        Top::Workflow(workflow) => with_body(alloc, library, statements_of(workflow)),
+        _ => Ok(library),
     }
 }
 

@@ -1,6 +1,8 @@
-//! Tests of tables, methods and functions of the program that no row of `cases_eval` shows.
+//! Tests of tables, methods, functions of the program and environments that no row of `cases_eval` shows.
 #![tactic(auto)]
 
+#[cfg(test)]
+mod environments;
 #[cfg(test)]
 mod methods;
 #[cfg(test)]

@@ -1,5 +1,5 @@
-use Rattle.nf_forms.specs.Memory.{IsBare}
+use Rattle.nf_forms.specs.Values.{HasPatternsAlone}
 use Rattle.nf_forms.proofs.around.ScriptScope.of_script.Given as goal
 
 abbrev pub invariant-loop-top : goal.invariant-loop-top
-invariant-loop-top l = IsBare l.around.env
+invariant-loop-top l = HasPatternsAlone l.library
