@@ -11,14 +11,9 @@ use Rattle.nf_meaning.specs.Walk.{State}
 use Rattle.nf_meaning.specs.Meaning.{Instance}
 use Rattle.nf_graph.specs.Meaning.{same_inputs}
 use Rattle.nf_opstream.proofs.Tally.{one_if, passes, tally-append}
-use Rattle.nf_meaning.specs.CallPaths.{is_plain_name, MadeBy, is_same_task}
+use Rattle.nf_meaning.specs.CallPaths.{is_plain_name, MadeBy, is_same_task, EndsName, Belongs, AllBelong, Within}
 
 -- ---- the call that a path belongs to
-
--- what comes after the name of a call in a path: nothing, or a colon first
-abbrev pub EndsName : List ℕ → Type 0
-EndsName [] = Unit {0}
-EndsName (c ∷ cs) = c ≡ 58
 
 no_colon : (m : List ℕ) → is_plain_name (58 ∷ m) ≡ true → ⊥
 no_colon m h = let f : false ≡ true = h in absurd cc
@@ -37,7 +32,7 @@ later_plain : (x : ℕ) (n : List ℕ) → is_plain_name (x ∷ n) ≡ true → 
 later_plain x n h = second_true _ (is_plain_name n) h
 
 -- a path has one name before its first colon
-same_name : (n m r q : List ℕ) → is_plain_name n ≡ true → is_plain_name m ≡ true → EndsName r → EndsName q → n ++ r ≡ m ++ q → n ≡ m
+pub same_name : (n m r q : List ℕ) → is_plain_name n ≡ true → is_plain_name m ≡ true → EndsName r → EndsName q → n ++ r ≡ m ++ q → n ≡ m
 same_name [] [] r q pn pm er eq e = refl
 same_name [] (y ∷ m) r q pn pm er eq e = absurd (ends_before y r m q er pm e)
 same_name (x ∷ n) [] r q pn pm er eq e = absurd (ends_before x q n r eq pn (sym e))
@@ -46,24 +41,6 @@ same_name (x ∷ n) (y ∷ m) r q pn pm er eq e =
     let more : n ++ r ≡ m ++ q = cc in
     let rest : n ≡ m = same_name n m r q (later_plain x n pn) (later_plain y m pm) er eq more in
     ap (λ z. z ∷ n) first ∙ ap (λ z. y ∷ z) rest
-
--- a path that belongs to a call in the body of this path, of a name that wasn't called before, but is after
-pub record Belongs (body : List ℕ) (before after : List (List ℕ)) (path : List ℕ) : Type 0 where
-  pub name : List ℕ
-  pub rest : List ℕ
-  pub is : path ≡ body ++ (name ++ rest)
-  pub plain : is_plain_name name ≡ true
-  pub ends : EndsName rest
-  pub new : is_among name before ≡ false
-  pub now : is_among name after ≡ true
-
-abbrev pub AllBelong : List ℕ → List (List ℕ) → List (List ℕ) → List (List ℕ) → Type 0
-AllBelong body before after [] = Unit {0}
-AllBelong body before after (p ∷ ps) = Belongs body before after p × AllBelong body before after ps
-
--- each name of the first list is in the second
-abbrev pub Within : List (List ℕ) → List (List ℕ) → Type 0
-Within ns ms = (n : List ℕ) → is_among n ns ≡ true → is_among n ms ≡ true
 
 not_before : (ns ms : List (List ℕ)) → Within ns ms → (n : List ℕ) → is_among n ms ≡ false → is_among n ns ≡ false
 not_before ns ms h n e = elim (cases_Bool (is_among n ns)) [
@@ -89,7 +66,7 @@ all_still body before after earlier later [] h k b = tt
 all_still body before after earlier later (p ∷ ps) h k b =
     (belongs_still body before after earlier later p h k b.0, all_still body before after earlier later ps h k b.1)
 
-both_belong : (body : List ℕ) (before after ps qs : List (List ℕ)) → AllBelong body before after ps → AllBelong body before after qs → AllBelong body before after (ps ++ qs)
+pub both_belong : (body : List ℕ) (before after ps qs : List (List ℕ)) → AllBelong body before after ps → AllBelong body before after qs → AllBelong body before after (ps ++ qs)
 both_belong body before after [] qs b c = c
 both_belong body before after (p ∷ ps) qs b c = (b.0, both_belong body before after ps qs b.1 c)
 
@@ -126,11 +103,11 @@ both_apart body first middle last (p ∷ ps) qs b c d e =
 pub made_still : (ps qs : List (List ℕ)) (xs ys : List Instance) → qs ≡ ps → ys ≡ xs → MadeBy ps xs → MadeBy qs ys
 made_still ps qs xs ys e f h = subst (λ z. MadeBy z ys) (sym e) (subst (λ z. MadeBy ps z) (sym f) h)
 
-or_first : (b c : Bool) → b ≡ true → (b || c) ≡ true
+pub or_first : (b c : Bool) → b ≡ true → (b || c) ≡ true
 or_first true c e = refl
 or_first false c e = absurd (let f : false ≡ true = e in cc)
 
-or_second : (b c : Bool) → c ≡ true → (b || c) ≡ true
+pub or_second : (b c : Bool) → c ≡ true → (b || c) ≡ true
 or_second true c e = refl
 or_second false c e = e
 
@@ -210,7 +187,7 @@ both_new s t u ps qs d g h = record {
 new_between : (s r t u : State) (ps : List (List ℕ)) → r.meant.instances ≡ s.meant.instances → u.meant.instances ≡ t.meant.instances → NewTasks r t ps → NewTasks s u ps
 new_between s r t u ps i k g = record { tasks = g.tasks; meant = k ∙ g.meant ∙ ap (λ z. z ++ g.tasks) i; of = g.of; once = g.once }
 
-belongs_of : (body : List ℕ) (before after : List (List ℕ)) (c : List ℕ) (ps : List (List ℕ)) → AllBelong body before after ps → is_among c ps ≡ true → Belongs body before after c
+pub belongs_of : (body : List ℕ) (before after : List (List ℕ)) (c : List ℕ) (ps : List (List ℕ)) → AllBelong body before after ps → is_among c ps ≡ true → Belongs body before after c
 belongs_of body before after c [] b e = absurd (let f : false ≡ true = e in cc)
 belongs_of body before after c (p ∷ ps) b e = elim (cases_Bool (bytes_eq p c)) [
   | inl t ↦ subst (λ z. Belongs body before after z) ((bytes_eq-Decides p c).0 t) b.0
@@ -389,7 +366,7 @@ of_path path ps [] e h = tt
 of_path path ps (z ∷ zs) e h = (subst (λ c. is_among c ps ≡ true) (sym h.0) e, of_path path ps zs e h.1)
 
 -- the path of the call itself
-own_path : (n : List ℕ) (s : State) → is_plain_name n ≡ true → is_among n s.scope.called ≡ false → (after : List (List ℕ)) → is_among n after ≡ true
+pub own_path : (n : List ℕ) (s : State) → is_plain_name n ≡ true → is_among n s.scope.called ≡ false → (after : List (List ℕ)) → is_among n after ≡ true
     → Belongs s.scope.path s.scope.called after (s.scope.path ++ n)
 own_path n s plain fresh after now = record {
   name = n;

@@ -1,6 +1,7 @@
 mod Alike
 mod Decided
 mod FewItems
+mod Going
 mod Growth
 mod Kept
 mod Outputs

@@ -85,8 +85,8 @@ values_alike (x ∷ xs) [] h = absurd h
 
 abbrev env_from : List (List ℕ × Plain) → List (List ℕ × Plain) → List Function → List (List ℕ) → Program → Bool → Env
 env_from names everywhere functions patterns program in_process = record {
-  names = names ++ everywhere;
-  captured = [];
+  names = [];
+  captured = names ++ everywhere;
   functions = functions;
   patterns = patterns;
   titles = program.titles;

@@ -3,6 +3,7 @@ use Rattle.std.proofs.Common.{◌≡◌, ℕ, List, pos, true, false, [], ◌∷
 use Rattle.std.specs.Fmt.{digits}
 use Rattle.std.specs.List.{flat_map}
 use Rattle.std.specs.Str.{chars}
+use Rattle.std.specs.Prelude.{replicate}
 use lib.Utf8.{encode}
 use Rattle.nf_value.specs.Text.{value_text}
 use Rattle.nf_graph.specs.Meaning.{same_inputs as is_same_list}
@@ -1280,7 +1281,7 @@ tuple_of_another_length = refl
 abbrev two_files_of_a_name_script : Tree
 two_files_of_a_name_script = cons (tree.process (at 1 1) (tree.name (at 1 9) (codes "P")) empty (tree.section (at 2 1) (cons (tree.path (at 3 1) (tree.name (at 3 6) (codes "a"))) (cons (tree.path (at 4 1) (tree.name (at 4 6) (codes "b"))) empty))) (tree.section (at 5 1) (cons (tree.output (tree.stdout (at 6 1)) empty) empty)) (tree.section (at 7 1) (cons (tree.text (at 8 1) kind.Single (codes "cat x.txt")) empty)) empty) (cons (tree.workflow (at 10 1) empty (cons (tree.call (at 10 13) (tree.name (at 10 12) (codes "P")) (cons (tree.call (at 10 18) (tree.name (at 10 14) (codes "file")) (cons (tree.text (at 10 19) kind.Single (codes "d/x.txt")) empty)) (cons (tree.call (at 10 35) (tree.name (at 10 31) (codes "file")) (cons (tree.text (at 10 36) kind.Single (codes "e/x.txt")) empty)) empty))) empty)) empty)
 
-two_files_of_a_name : faults (alone two_files_of_a_name_script) ≡ Ok (task_fails (record { call = codes "P"; inputs = file (codes "x.txt") [] 0 ∷ file (codes "x.txt") [] 0 ∷ []; n = 0 }) (StageClash (codes "x.txt")) ∷ [])
+two_files_of_a_name : faults (alone two_files_of_a_name_script) ≡ Ok (task_fails (record { call = codes "P"; inputs = file (codes "x.txt") (replicate 32 0) 0 ∷ file (codes "x.txt") (replicate 32 0) 0 ∷ []; n = 0 }) (StageClash (codes "x.txt")) ∷ [])
 unfolding digits chars encode
 two_files_of_a_name = refl
 

@@ -1,5 +1,5 @@
 -- Sources: where channels and files come from.
-use Rattle.std.specs.Prelude.{ℕ, ◌==◌, nat_le, Bool, true, false, List, [], ◌∷◌, ◌++◌, map, codes, bytes_eq, if◌then◌else◌, Option, Some, None}
+use Rattle.std.specs.Prelude.{ℕ, ◌==◌, nat_le, Bool, true, false, List, [], ◌∷◌, ◌++◌, map, codes, bytes_eq, replicate, if◌then◌else◌, Option, Some, None}
 use Rattle.std.specs.Str.{chars, encode_utf8_all}
 use Rattle.nf_value.specs.Plain.{Plain, null, truth, int, text, file, list, table}
 use Rattle.nf_value.specs.declared.place.Place.{Place}
@@ -170,10 +170,10 @@ source_call p n xs = source_by p (source_named n) xs
 abbrev pub file_name : List ℕ → List ℕ
 file_name path = encode_utf8_all (name_at (chars path))
 
--- The file at a literal path, which is the first that was found there. A path that wasn't looked for stands for a file
--- without a digest
+-- The file at a literal path, which is the first that was found there. A path that wasn't looked for stands for an empty
+-- file with a digest of zeros
 abbrev pub first_file : List ℕ → List FileRef → Plain
-first_file path [] = file (file_name path) [] 0
+first_file path [] = file (file_name path) (replicate 32 0) 0
 first_file path (f ∷ fs) = file (file_name path) f.digest.0 f.len
 
 -- `file(..)`, which is no source of a channel

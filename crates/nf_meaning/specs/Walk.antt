@@ -121,11 +121,12 @@ known_in a x = record { things = things_in x; everywhere = map (λ b. b.0) a.eve
 abbrev pub seen_values : List (List ℕ × Thing) → List (List ℕ × Plain)
 seen_values bs = map (λ b. (b.0, value_seen b.1)) bs
 
--- the environment of an expression whose names are these
+-- The environment of an expression whose names are these. They are captured, since a body that is evaluated in it has
+-- names of its own
 abbrev pub env_with : Around → List (List ℕ × Plain) → Bool → Env
 env_with a names in_process = record {
-  names = names ++ a.everywhere;
-  captured = [];
+  names = [];
+  captured = names ++ a.everywhere;
   functions = a.functions;
   patterns = a.given.patterns;
   titles = a.given.program.titles;

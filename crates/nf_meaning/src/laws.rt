@@ -1,6 +1,6 @@
 //! Laws of the meaning of scripts, each a contract over the definitions alone.
 
-ghost use Rattle.std.specs.Prelude.{◌≡◌, ◌+◌, [], ◌++◌, List, ℕ, length, Option, Ok};
+ghost use Rattle.std.specs.Prelude.{◌≡◌, ◌+◌, [], ◌∷◌, ◌++◌, List, ℕ, length, true, false, Option, Ok};
 ghost use Rattle.std.specs.List.{IsDistinct};
 ghost use Rattle.std.specs.Str.{bytes_eq};
 ghost use Rattle.nf_value.specs.Plain.{Plain};
@@ -18,7 +18,8 @@ ghost use Rattle.nf_meaning.specs.Given.{Given, Found};
 ghost use Rattle.nf_meaning.specs.Walk.{State};
 ghost use Rattle.nf_meaning.specs.Script.{around, around_at, definitions_of, meaning_of, paths_of, wants_of, workflow_walk};
 ghost use Rattle.nf_meaning.specs.Few.{ScopeFew, WalkFew};
-ghost use Rattle.nf_meaning.specs.CallPaths.{NamesArePlain, MadeBy, EachOnce};
+ghost use Rattle.nf_meaning.specs.CallPaths.{NamesArePlain, MadeBy, EachOnce, is_plain_name, begun, GoesOn, PathsAreCalled};
+ghost use Rattle.nf_builtins.specs.Natives.{is_among};
 ghost use Rattle.nf_meaning.specs.Outside.{fault_of, in_run};
 ghost use Rattle.nf_meaning.specs.Operators as operators;
 ghost use Rattle.nf_meaning.specs.Operators.{Call};
@@ -102,6 +103,20 @@ pub fn calls_are_apart()
         → meaning_of g ≡ Ok m → paths_of g ≡ Ok paths → MadeBy paths m.instances }
     ensures once { (g : Given) → (m : ScriptMeaning) → NamesArePlain (definitions_of g.tops) → meaning_of g ≡ Ok m
         → EachOnce m.instances }
+{}
+
+/// While a body is gone through, each path that comes belongs to a call of a name that wasn't called in it before, and so do the paths of
+/// one part after another. So each path so far that belongs to a call in the body is of a name that is called, and that of any other name is new.
+pub fn paths_stay_apart()
+    ensures same { (s : State) → (t : State) → t.scope.path ≡ s.scope.path → t.scope.within ≡ s.scope.within
+        → t.scope.called ≡ s.scope.called → t.paths ≡ s.paths → GoesOn s t }
+    ensures again { (s : State) → (t : State) → (u : State) → GoesOn s t → GoesOn t u → GoesOn s u }
+    ensures process { (s : State) → (n : List ℕ) → is_plain_name n ≡ true → is_among n s.scope.called ≡ false
+        → GoesOn s (begun n ((s.scope.path ++ n) ∷ []) s) }
+    ensures workflow { (s : State) → (n : List ℕ) → GoesOn s (begun n [] s) }
+    ensures called { (s : State) → (t : State) → GoesOn s t → PathsAreCalled s → PathsAreCalled t }
+    ensures new { (s : State) → (n : List ℕ) → PathsAreCalled s → is_plain_name n ≡ true
+        → is_among n s.scope.called ≡ false → is_among (s.scope.path ++ n) s.paths ≡ false }
 {}
 
 /// The fault of a script, the paths whose files it reads and the paths of its calls are the same in all its runs: they
