@@ -1,6 +1,6 @@
 //! The names of a body.
 
-ghost use Rattle.std.specs.Prelude.{◌≡◌, ◌<◌, ◌++◌, ◌∷◌, [], ℕ, List, map, length, MatchOption, OnOk, IfOk};
+ghost use Rattle.std.specs.Prelude.{◌≡◌, ◌<◌, ◌++◌, ◌∷◌, [], ℕ, List, map, length, Some, MatchOption, IfSome, OnOk, IfOk};
 ghost use Rattle.std.specs.Option.{option_copied};
 ghost use Rattle.nf_builtins.specs.Natives.{is_among};
 ghost use Rattle.nf_graph.specs.Meaning.{Bags};
@@ -9,7 +9,8 @@ ghost use Rattle.nf_meaning.specs.Things as meaning;
 ghost use Rattle.nf_meaning.specs.Things.{thing_named};
 ghost use Rattle.nf_meaning.specs.Walk as walk;
 ghost use Rattle.nf_meaning.specs.Walk.{things_in};
-ghost use Rattle.nf_scopes.specs.Tables.{FoundStands, NoneHas, Names, TableStands};
+ghost use Rattle.nf_scopes.specs.Tables.{FoundStands, NoneHas, Names, TableStands, held};
+ghost use Rattle.nf_scopes.specs.declared.things.Thing.{Thing as Stored};
 ghost use Rattle.nf_scopes.specs.Last.{IsLast};
 ghost use Rattle.nf_scopes.specs.Things.{thing_of};
 
@@ -34,10 +35,12 @@ pub struct BodyNames {
 
 impl BodyNames {
     ghost use Rattle.nf_scopes.specs.Standing.{NamesStand, HasBound};
+    ghost use Rattle.nf_scopes.specs.Held.{Holds, HoldsAlso, HoldsNoMore};
 
     /// The names of a body that begins: the workflow's own alone. Takes no memory.
     pub fn new(alloc: Global, names: IndexMap<String, Thing>) -> BodyNames
-        ensures { (bags : Bags) (s : walk.Scope) → s.own ≡ [] → s.defined ≡ [] → TableStands bags names.entries s.names → NamesStand bags [] result s }
+        ensures stands { (bags : Bags) (s : walk.Scope) → s.own ≡ [] → s.defined ≡ [] → TableStands bags names.entries s.names → NamesStand bags [] result s }
+        ensures holds { (n : List ℕ) (t : Stored) → Holds result n t → held n names.entries ≡ Some t }
     {
         BodyNames {
             alloc,
@@ -49,8 +52,9 @@ impl BodyNames {
 
     /// What a name stands for. Takes no memory.
     pub fn thing(&self, name: &str) -> Option<&Thing>
-        ensures { (bags : Bags) (around : List (List (List ℕ))) (s : walk.Scope) → NamesStand bags around self.now s
+        ensures stands { (bags : Bags) (around : List (List (List ℕ))) (s : walk.Scope) → NamesStand bags around self.now s
             → FoundStands bags (option_copied result) (thing_named name.now (things_in s)) }
+        ensures holds { IfSome result (λ t. Holds self.now name.now t.now) }
     {
         if let Some(thing) = self.inner.get(name) {
             return Some(thing);
@@ -74,8 +78,9 @@ impl BodyNames {
     ///
     /// `Mem` if there is no memory for it.
     pub fn define(&mut self, name: &str, thing: Thing) -> Result<(), Mem>
-        ensures { OnOk result ((bags : Bags) (around : List (List (List ℕ))) (s : walk.Scope) (t : meaning.Thing) → ThingStands bags (thing_of thing) t
+        ensures stands { OnOk result ((bags : Bags) (around : List (List (List ℕ))) (s : walk.Scope) (t : meaning.Thing) → ThingStands bags (thing_of thing) t
             → NamesStand bags around self.old s → NamesStand bags around self.new (walk.defining name.now t s)) }
+        ensures holds { OnOk result (HoldsAlso self.old thing self.new) }
     {
         let name = String::from_str(self.alloc, name)?;
         self.inner.insert(name, thing)?;
@@ -88,8 +93,9 @@ impl BodyNames {
     ///
     /// `Mem` if there is no memory for it.
     pub fn assign(&mut self, name: &str, thing: Thing) -> Result<(), Mem>
-        ensures { OnOk result ((bags : Bags) (around : List (List (List ℕ))) (s : walk.Scope) (t : meaning.Thing) → ThingStands bags (thing_of thing) t
+        ensures stands { OnOk result ((bags : Bags) (around : List (List (List ℕ))) (s : walk.Scope) (t : meaning.Thing) → ThingStands bags (thing_of thing) t
             → NamesStand bags around self.old s → NamesStand bags around self.new (walk.assigning name.now t s)) }
+        ensures holds { OnOk result (HoldsAlso self.old thing self.new) }
     {
         let key = String::from_str(self.alloc, name)?;
         if self.inner.contains_key(name) {
@@ -113,8 +119,9 @@ impl BodyNames {
     ///
     /// `Mem` if there is no memory for it.
     pub fn enter(&mut self) -> Result<(), Mem>
-        ensures { OnOk result ((bags : Bags) (around : List (List (List ℕ))) (s : walk.Scope) → NamesStand bags around self.old s
+        ensures stands { OnOk result ((bags : Bags) (around : List (List (List ℕ))) (s : walk.Scope) → NamesStand bags around self.old s
             → NamesStand bags (around ++ s.defined ∷ []) self.new (walk.entering s) × HasBound around s) }
+        ensures holds { OnOk result (HoldsNoMore self.old self.new) }
     {
         let inner = replace(&mut self.inner, IndexMap::new(self.alloc));
         self.outer.push(inner)?;
@@ -123,8 +130,9 @@ impl BodyNames {
 
     /// Braces end: the names that `def` bound in them are gone. Takes no memory.
     pub fn leave(&mut self)
-        ensures { (bags : Bags) (around : List (List (List ℕ))) (before s : walk.Scope) → HasBound around before
+        ensures stands { (bags : Bags) (around : List (List (List ℕ))) (before s : walk.Scope) → HasBound around before
             → NamesStand bags (around ++ before.defined ∷ []) self.old s → NamesStand bags around self.new (walk.leaving before s) }
+        ensures holds { HoldsNoMore self.old self.new }
     {
         let Some(inner) = self.outer.pop() else {
             return;
