@@ -4,7 +4,8 @@ ghost use Rattle.std.specs.Prelude.{◌≡◌, ◌+◌, ◌<◌, ◌^◌};
 
 use nf_value::Vals;
 
-/// A take in flight, which its caller returns to the run (own). It can't be copied, so no take is returned twice.
+/// A take in flight, which its caller returns to the run (own). It can't be copied. That a run is handed a ticket once is asked by each call
+/// (`IsFlying`), not by this type.
 #[derive(Drop)]
 pub struct Ticket {
     number: u32,

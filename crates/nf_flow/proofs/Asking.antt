@@ -1,13 +1,16 @@
 -- What is asked of a run.
 use Rattle.std.proofs.Common.{◌≡◌, ℕ, suc, ◌≤◌, List, [], ◌∷◌, length, Bool, true, false, ◌&&◌, ◌||◌, refl, ap, sym, ◌∙◌, arith}
-use Rattle.std.specs.Prelude.{◌==◌, Option, Some, None, is_some, is_none, not}
+use Rattle.std.specs.Prelude.{◌==◌, ◌↔◌, Option, Some, None, is_some, is_none, not}
+use Rattle.std.proofs.lemmas.Bool.{true≢false}
 use Rattle.std.proofs.lemmas.Bool.Decides.{nat_tests}
 use Rattle.nf_graph.specs.declared.node.Node.{Node}
 use Rattle.nf_graph.specs.WellMade.{plain_graph}
+use Rattle.nf_machine.specs.declared.event.Move.{Move}
+use Rattle.nf_machine.specs.declared.event.Move.TheVariants as m
 use Rattle.nf_machine.specs.Event.{PlainStop}
 use Rattle.nf_machine.specs.State.{Ticket, State}
 use Rattle.nf_machine.specs.History.{is_quiet, is_over, ended_well, closed_to}
-use Rattle.nf_nodes.specs.Ready.{IsReady, IsReadyAt}
+use Rattle.nf_nodes.specs.Ready.{IsLegalMove, IsReady, IsReadyAt}
 use Rattle.nf_nodes.specs.Steps.{open_in}
 use Rattle.nf_flow.proofs.Over.{none_open}
 use Rattle.nf_flow.proofs.Standing.{graph_length, node_of_take}
@@ -21,6 +24,11 @@ none_ready_at nodes s i stopped port place may = stopped may.running
 pub none_past : (nodes : List Node) (s : State) (i : ℕ) → length nodes ≤ i → IsReadyAt nodes s i None
 none_past nodes s i past port place may =
     let l = node_of_take (plain_graph nodes) s i port place _ _ may in let g = graph_length nodes in absurd (omega arith)
+
+pub none_legal : (nodes : List Node) (s : State) (step : Move) → (s.stop ≡ None → ⊥) → (false ≡ true) ↔ IsLegalMove nodes s step
+none_legal nodes s (m.Pass port) stopped = ((λ e. absurd (true≢false (sym e))), (λ may. absurd (stopped may.running)))
+none_legal nodes s (m.Take node port place) stopped = ((λ e. absurd (true≢false (sym e))), (λ may. absurd (stopped may.running)))
+none_legal nodes s (m.Close node) stopped = ((λ e. absurd (true≢false (sym e))), (λ legal. absurd (stopped legal.running)))
 
 -- all nodes are closed
 pub all_told : (nodes : List Node) (s : State) (n : ℕ) → n ≡ open_in nodes s → (n == 0) ≡ closed_to s.spots (length (plain_graph nodes))

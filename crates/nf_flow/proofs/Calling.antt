@@ -1,32 +1,29 @@
 -- What the calls on nodes and takes in flight ask.
-use Rattle.std.proofs.Common.{◌≡◌, ℕ, zero, suc, ◌+◌, ◌-◌, ◌<◌, ◌≤◌, ◌^◌, List, [], ◌∷◌, length, Bool, false, refl, ap, sym, ◌∙◌, subst, arith, inl, inr}
-use Rattle.std.specs.Prelude.{nat_lt, option_map, Some, None}
-use Rattle.std.proofs.lemmas.Bool.{cases_Bool}
-use Rattle.std.proofs.lemmas.Bool.Decides.{nat_tests}
-use Rattle.std.proofs.lemmas.List.{get_or_past}
-use Rattle.std.proofs.lemmas.List.Sums.{sum_by-cons}
+use Rattle.std.proofs.Common.{◌≡◌, ℕ, zero, suc, ◌+◌, ◌-◌, ◌<◌, ◌^◌, List, [], ◌∷◌, length, Bool, false, refl, ap, sym, ◌∙◌, subst, arith}
+use Rattle.std.specs.Prelude.{option_map, Some, None}
 use Rattle.nf_bag.specs.declared.fault.OpFault.{OpFault}
 use Rattle.nf_bag.specs.declared.fault.OpFault.TheVariants as f
 use Rattle.nf_graph.specs.declared.node.Node.{Node}
-use Rattle.nf_graph.specs.Node.{Kind, source, operator, process, PlainNode, no_node, node_at}
+use Rattle.nf_graph.specs.Node.{Kind, source, operator, process, PlainNode, node_at}
 use Rattle.nf_graph.specs.WellMade.{plain_node, plain_graph, node_in}
-use Rattle.nf_machine.specs.Event.{place_from, pass, close}
+use Rattle.nf_machine.specs.Event.{pass, close}
 use Rattle.nf_machine.specs.State as machine
 use Rattle.nf_machine.specs.State.{State}
 use Rattle.nf_machine.specs.Step.{slot_of, takes, ticket_at}
 use Rattle.nf_machine.specs.Legal as legal
-use Rattle.nf_wiring.specs.Places.{port_count, place_in}
+use Rattle.nf_wiring.specs.Places.{place_in}
 use Rattle.nf_flight.specs.Flights as flights
 use Rattle.nf_flight.specs.Flights.{HasTickets, nodes_of, next_of}
 use Rattle.nf_flight.specs.Ticket.{number_of, node_of, port_of, inputs_of, n_of, attempt_of}
 use Rattle.nf_flight.specs.declared.ticket.Ticket.{Ticket}
 use Rattle.nf_spot.specs.Spot.{IsTaken}
 use Rattle.nf_spot.specs.declared.node_state.Taken.{Taken}
-use Rattle.nf_nodes.specs.Steps.{CanClose, CanEmit, CanGive, CanReceive, CanTakeThere, HasNext, MayPass, MayTake}
+use Rattle.nf_nodes.specs.Steps.{CanClose, CanEmit, CanGive, CanReceive, CanTakeThere, HasNext, MayTake}
 use Rattle.nf_flow.specs.Questions.{IsTicket}
 use Rattle.nf_flow.specs.Stopped.{IsNamedFault}
 use Rattle.nf_flow.specs.Parts.{IsParts, Stands, StandsToEnd, StandsToGive, StandsToTake, taken_ticket}
 use Rattle.nf_flow.specs.declared.parts.Parts.{Parts}
+use Rattle.nf_nodes.proofs.Readying.{number_below}
 use Rattle.nf_flow.proofs.Standing.{graph_length, node_of_take}
 
 pub plain_at : (nodes : List Node) (i : ℕ) → node_at (plain_graph nodes) i ≡ plain_node (node_in nodes i)
@@ -35,26 +32,6 @@ plain_at (n ∷ nodes) zero = refl
 plain_at (n ∷ nodes) (suc i) = plain_at nodes i
 
 -- ---- Pass
-
-isnt_below : (a b : ℕ) → b ≤ a → nat_lt a b ≡ false
-isnt_below a b h = grind (arith, nat_tests)
-
--- a number past those of all ports is of no node
-past : (i : ℕ) (nodes : List Node) (n : ℕ) → port_count nodes ≤ n → (place_from i (plain_graph nodes) n).node ≡ i + length nodes
-past i [] n l = omega arith
-past i (node ∷ nodes) n l =
-    let c = sum_by-cons (λ (n : Node). length n.ports) node nodes in
-    let t = isnt_below n (length node.ports) (omega arith) in
-    let r = past (suc i) nodes (n - length node.ports) (omega arith) in rw t (omega (arith, r))
-
-pub number_below : (nodes : List Node) (s : State) (n : ℕ) → MayPass nodes s n → n < port_count nodes
-number_below nodes s n may = elim (cases_Bool (nat_lt n (port_count nodes))) [
-  | inl t ↦ grind (arith, nat_tests)
-  | inr t ↦ absurd (let z : port_count nodes ≤ n = grind (arith, nat_tests) in
-      let e : length (plain_graph nodes) ≤ (place_in nodes n).node = (let a = past 0 nodes n z in let g = graph_length nodes in omega arith) in
-      let none : node_at (plain_graph nodes) (place_in nodes n).node ≡ no_node = get_or_past (plain_graph nodes) (place_in nodes n).node no_node e in
-      let w : (place_in nodes n).port < 0 = subst (λ (m : PlainNode). (place_in nodes n).port < length m.ports) none may.within in omega arith)
-]
 
 module _ (nodes : List Node) (p : Parts) (n : ℕ) (r : Stands nodes p (pass (place_in nodes n).node (place_in nodes n).port)) where
   pub has_next : HasNext nodes p.nodes n

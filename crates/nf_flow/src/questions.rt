@@ -1,6 +1,6 @@
 //! What can be asked of a run.
 
-ghost use Rattle.std.specs.Prelude.{◌≡◌, length, is_some, option_map, IfOk};
+ghost use Rattle.std.specs.Prelude.{◌≡◌, ◌↔◌, true, length, is_some, option_map, IfOk};
 ghost use Rattle.std.specs.Option.{option_copied};
 ghost use Rattle.nf_machine.specs.Event.{stop_of};
 ghost use Rattle.nf_machine.specs.History.{ended_well, is_over};
@@ -13,7 +13,7 @@ use nf_value::{Mem, Vals};
 
 impl Flow {
     ghost use Rattle.nf_flow.specs.Seen.{plain_of, state_of};
-    ghost use Rattle.nf_nodes.specs.Ready.{IsReady, IsReadyAt};
+    ghost use Rattle.nf_nodes.specs.Ready.{IsLegalMove, IsReady, IsReadyAt};
     ghost use Rattle.nf_flow.specs.Questions.{IsFlying, IsStarted, inputs_in};
     ghost use Rattle.nf_flow.specs.Stopped.{IsNamedIfAny};
 
@@ -36,6 +36,16 @@ impl Flow {
             return None;
         }
         self.parts.nodes.ready_at(nodes, node)
+    }
+
+    /// Whether a move is legal. Takes no memory.
+    pub fn is_legal(&self, step: Move) -> bool
+        ensures { (result ≡ true) ↔ IsLegalMove self.now.graph (state_of self.now) step }
+    {
+        if self.is_stopped() {
+            return false;
+        }
+        self.parts.nodes.is_legal(self.graph.nodes(), step)
     }
 
     /// Whether the ticket's attempt is started.

@@ -1,15 +1,16 @@
 -- What the index answers for the next move.
-use Rattle.std.proofs.Common.{◌≡◌, ℕ, zero, suc, ◌+◌, ◌<◌, ◌≤◌, List, [], ◌∷◌, length, get_or, Bool, true, false, ◌&&◌, refl, ap, sym, ◌∙◌, subst, arith, inl, inr}
+use Rattle.std.proofs.Common.{◌≡◌, ℕ, zero, suc, ◌+◌, ◌<◌, ◌≤◌, ◌-◌, List, [], ◌∷◌, length, get_or, Bool, true, false, ◌&&◌, refl, ap, sym, ◌∙◌, subst, arith, inl, inr}
 use Rattle.std.specs.Prelude.{◌==◌, ◌↔◌, nat_lt, Option, Some, None, MatchOption}
 use Rattle.std.proofs.lemmas.Bool.{cases_Bool, true≢false}
 use Rattle.std.proofs.lemmas.Bool.Decides.{nat_tests}
 use Rattle.std.proofs.lemmas.List.{get_or_past, length-map}
+use Rattle.std.proofs.lemmas.List.Sums.{sum_by-cons}
 use Rattle.nf_graph.specs.declared.node.Node.{Node}
 use Rattle.nf_graph.specs.Node.{source, PlainNode, no_node, node_at, port_at}
 use Rattle.nf_graph.specs.WellMade.{plain_node, plain_graph, node_in}
 use Rattle.nf_machine.specs.declared.event.Move.{Move}
 use Rattle.nf_machine.specs.declared.event.Move.TheVariants as m
-use Rattle.nf_machine.specs.Event.{Place}
+use Rattle.nf_machine.specs.Event.{Place, place_from}
 use Rattle.nf_machine.specs.State.{Spot, State}
 use Rattle.nf_machine.specs.Legal as machine
 use Rattle.nf_machine.specs.Legal.{PassIsLegal, CloseIsLegal}
@@ -131,3 +132,67 @@ unready_told nodes s c h i n x l en ex told port place legal =
 -- nothing is answered
 pub none_ready : (nodes : List Node) (s : State) (r : Option Move) → r ≡ None → NoPass nodes s → NoTake nodes s → NoClose nodes s → IsReady nodes s r
 none_ready nodes s r e a b d = subst (IsReady nodes s) (sym e) (a, b, d)
+
+-- ---- whether a move is legal
+
+never : {P : Type 0} → (P → ⊥) → (false ≡ true) ↔ P
+never f = ((λ e. absurd (true≢false (sym e))), (λ p. absurd (f p)))
+
+isnt_below : (a b : ℕ) → b ≤ a → nat_lt a b ≡ false
+isnt_below a b h = grind (arith, nat_tests)
+
+-- a number past those of all ports is of no node
+past : (i : ℕ) (nodes : List Node) (n : ℕ) → port_count nodes ≤ n → (place_from i (plain_graph nodes) n).node ≡ i + length nodes
+past i [] n l = omega arith
+past i (node ∷ nodes) n l =
+    let c = sum_by-cons (λ (n : Node). length n.ports) node nodes in
+    let t = isnt_below n (length node.ports) (omega arith) in
+    let r = past (suc i) nodes (n - length node.ports) (omega arith) in rw t (omega (arith, r))
+
+pub number_below : (nodes : List Node) (s : State) (n : ℕ) → MayPass nodes s n → n < port_count nodes
+number_below nodes s n may = elim (cases_Bool (nat_lt n (port_count nodes))) [
+  | inl t ↦ grind (arith, nat_tests)
+  | inr t ↦ absurd (let z : port_count nodes ≤ n = grind (arith, nat_tests) in
+      let e : length (plain_graph nodes) ≤ (place_in nodes n).node = (let a = past 0 nodes n z in let g = graph_length nodes in omega arith) in
+      let none : node_at (plain_graph nodes) (place_in nodes n).node ≡ no_node = get_or_past (plain_graph nodes) (place_in nodes n).node no_node e in
+      let w : (place_in nodes n).port < 0 = subst (λ (m : PlainNode). (place_in nodes n).port < length m.ports) none may.within in omega arith)
+]
+
+pub no_port : (nodes : List Node) (s : State) (n count : ℕ) → count ≡ port_count nodes → count ≤ n → (false ≡ true) ↔ MayPass nodes s n
+no_port nodes s n count e l = never (λ may. let b = number_below nodes s n may in omega arith)
+
+module _ (nodes : List Node) (s : State) (c : Nodes) (h : AreNodes nodes s c) where
+  pub pass_told : ((n : ℕ) → n < port_count nodes → StandsWithin nodes n) → Numbers nodes → (n : ℕ) (b : Bool) → n < port_count nodes → b ≡ has c.index.passable n → (b ≡ true) ↔ MayPass nodes s n
+  pass_told stand numbers n b l e = (
+    (λ t. one_passes nodes numbers stand s c h n (sym e ∙ t)),
+    (λ may. e ∙ h.by_port.passes n l refl ∙ is_below (passed n) (fed_to n) may.more),
+  )
+    where
+      passed : ℕ → ℕ
+      passed n = (s.spots (place_in nodes n).node).passed (place_in nodes n).port
+
+      fed_to : ℕ → ℕ
+      fed_to n =
+          let p = port_at (node_at (plain_graph nodes) (place_in nodes n).node) (place_in nodes n).port in length ((s.spots p.from).emitted p.out)
+
+  pub close_told : (i : ℕ) (b : Bool) → i < length nodes → b ≡ has c.index.closable i → (b ≡ true) ↔ CloseIsLegal (plain_graph nodes) s i
+  close_told i b l e = ((λ t. (h.by_node.closes i l refl).0 (sym e ∙ t)), (λ legal. e ∙ (h.by_node.closes i l refl).1 legal))
+
+  pub take_legal : (i port place : ℕ) (n : Node) (x : NodeState) (b : Bool) → i < length nodes → n ≡ get_or nodes i n → x ≡ get_or c.states.items i x
+      → ((sp : Spot) → IsNode n sp x → (b ≡ true) ↔ MayTakeAt n sp port place) → (b ≡ true) ↔ MayTake nodes s i port place
+  take_legal i port place n x b l en ex told = (
+    (λ t. record { running = h.shows.running; ready = subst (λ (q : PlainNode). machine.MayTake q q.kind (s.spots i) port place) (sym there) (by.0 t); ticket = refl; number = refl }),
+    (λ legal. by.1 (subst (λ (q : PlainNode). machine.MayTake q q.kind (s.spots i) port place) there legal.ready)),
+  )
+    where
+      there : node_at (plain_graph nodes) i ≡ plain_node n
+      there = plain_at nodes i ∙ ap plain_node (sym (node_read nodes i n l en))
+
+      by : (b ≡ true) ↔ MayTakeAt n (s.spots i) port place
+      by = told (s.spots i) (subst (λ (q : Node). IsNode q (s.spots i) x) (sym (node_read nodes i n l en)) (state_is nodes s c h.shows i x l ex))
+
+pub no_node_takes : (nodes : List Node) (s : State) (i port place : ℕ) → length nodes ≤ i → (false ≡ true) ↔ MayTake nodes s i port place
+no_node_takes nodes s i port place l = never (λ may. let b = take_there nodes s i (record { port = port; place = place; may = may.ready }) in omega arith)
+
+pub no_node_closes : (nodes : List Node) (s : State) (i : ℕ) → length nodes ≤ i → (false ≡ true) ↔ CloseIsLegal (plain_graph nodes) s i
+no_node_closes nodes s i l = never (λ legal. let b = close_there nodes s i legal in omega arith)

@@ -36,3 +36,9 @@ IsTakeOf nodes s i (m.Close node) = ⊥
 -- a legal Take of node i, if there is one
 abbrev pub IsReadyAt : List Node → State → ℕ → Option Move → Type 0
 IsReadyAt nodes s i r = MatchOption r ((port place : ℕ) → MayTake nodes s i port place → ⊥) (IsTakeOf nodes s i)
+
+-- the move is legal
+abbrev pub IsLegalMove : List Node → State → Move → Type 0
+IsLegalMove nodes s (m.Pass port) = MayPass nodes s port
+IsLegalMove nodes s (m.Take node port place) = MayTake nodes s node port place
+IsLegalMove nodes s (m.Close node) = CloseIsLegal (plain_graph nodes) s node

@@ -1,8 +1,10 @@
 //! Which move comes next.
 
-ghost use Rattle.std.specs.Prelude.{◌≡◌, List, count_by, not};
+ghost use Rattle.std.specs.Prelude.{◌≡◌, ◌↔◌, List, count_by, not, true};
 ghost use Rattle.nf_value.specs.View.{plain_of};
 ghost use Rattle.nf_graph.specs.declared.node.Node.{Node};
+ghost use Rattle.nf_graph.specs.WellMade.{plain_graph};
+ghost use Rattle.nf_machine.specs.Legal.{CloseIsLegal};
 ghost use Rattle.nf_machine.specs.State.{State};
 
 use crate::nodes::{Nodes, port_at};
@@ -12,8 +14,8 @@ use nf_value::Value;
 
 impl Nodes {
     ghost use Rattle.nf_nodes.specs.Nodes.{AreNodes, HasNode, HasState};
-    ghost use Rattle.nf_nodes.specs.Ready.{IsReady, IsReadyAt};
-    ghost use Rattle.nf_nodes.specs.Steps.{HasNext, next_in, open_in};
+    ghost use Rattle.nf_nodes.specs.Ready.{IsLegalMove, IsReady, IsReadyAt};
+    ghost use Rattle.nf_nodes.specs.Steps.{HasNext, MayPass, MayTake, next_in, open_in};
 
     /// A legal Pass if there is one, else a legal Take, else a legal Close. Takes no memory, and no walk.
     pub fn ready(&self, nodes: &[Node]) -> Option<Move>
@@ -43,6 +45,56 @@ impl Nodes {
             port,
             place: 0,
         })
+    }
+
+    /// Whether a move is legal. Takes no memory, and no walk.
+    pub fn is_legal(&self, nodes: &[Node], step: Move) -> bool
+        requires { HasState nodes.now self.now }
+        ensures { (s : State) → AreNodes nodes.now s self.now → (result ≡ true) ↔ IsLegalMove nodes.now s step }
+    {
+        match step {
+            Move::Pass { port } => self.may_pass(nodes, port),
+            Move::Take { node, port, place } => self.may_take(nodes, node, port, place),
+            Move::Close { node } => self.may_close(nodes, node),
+        }
+    }
+
+    /// Whether an item may pass to the port of a number.
+    fn may_pass(&self, nodes: &[Node], number: u32) -> bool
+        requires { HasState nodes.now self.now }
+        ensures { (s : State) → AreNodes nodes.now s self.now → (result ≡ true) ↔ MayPass nodes.now s number }
+    {
+        let _ = nodes;
+        nf_wiring::laws::numbers();
+        let count = self.wiring.count();
+        if number >= count {
+            return false;
+        }
+        self.index.passable.contains(number)
+    }
+
+    /// Whether a node may take the item at a place of a port.
+    fn may_take(&self, nodes: &[Node], node: u32, port: u32, place: u32) -> bool
+        requires { HasState nodes.now self.now }
+        ensures { (s : State) → AreNodes nodes.now s self.now → (result ≡ true) ↔ MayTake nodes.now s node port place }
+    {
+        let at = node as usize;
+        if at >= nodes.len() {
+            return false;
+        }
+        self.states[at].may_take(&nodes[at], port, place)
+    }
+
+    /// Whether a node may close.
+    fn may_close(&self, nodes: &[Node], node: u32) -> bool
+        requires { HasState nodes.now self.now }
+        ensures { (s : State) → AreNodes nodes.now s self.now → (result ≡ true) ↔ CloseIsLegal (plain_graph nodes.now) s node }
+    {
+        let at = node as usize;
+        if at >= nodes.len() {
+            return false;
+        }
+        self.index.closable.contains(node)
     }
 
     /// The item that passes next to the port of a number.

@@ -1,6 +1,6 @@
 -- What a node can take, and what a take leaves.
 use Rattle.std.proofs.Common.{◌≡◌, ℕ, suc, ◌+◌, ◌<◌, List, [], ◌∷◌, ◌++◌, map, length, take, drop, get_or, Bool, true, false, refl, ap, sym, ◌∙◌, subst, arith, inl, inr}
-use Rattle.std.specs.Prelude.{◌==◌, nat_lt, ◌&&◌, Option, Some, None, Result, Ok, Err, count_by, MatchBool, IfOk, OnOk}
+use Rattle.std.specs.Prelude.{◌==◌, ◌↔◌, nat_lt, ◌&&◌, Option, Some, None, Result, Ok, Err, count_by, MatchBool, IfOk, OnOk}
 use Rattle.std.proofs.lemmas.Bool.{cases_eq, cases_lt, cases_Bool, true≢false}
 use Rattle.std.proofs.lemmas.Bool.Decides.{nat_tests}
 use Rattle.nf_value.specs.Plain.{Plain, null}
@@ -323,3 +323,47 @@ module _ (node : Node) (row : Row) (opts : OpOpts) (c : NodeState) (port place :
 
   pub op_after_if : {E : Type 0} (r : Result Taken E) (sp : Spot) (d : NodeState) → OnOk r (IsNode node (leaves_on sp port place) d) → OnOk r (IsNode node (takes_on node sp port place) d)
   op_after_if r sp d h = on_ok r _ _ (op_after_at node row opts c port place is t sp d) h
+
+-- ---- whether a process without a queue port may take
+
+equals : (a b : ℕ) → (a == b) ≡ true → a ≡ b
+equals a b e = grind (arith, nat_tests)
+
+is_equal : (a b : ℕ) → a ≡ b → (a == b) ≡ true
+is_equal a b e = grind (arith, nat_tests)
+
+both : (x y : Bool) → (x && y) ≡ true → (x ≡ true) × (y ≡ true)
+both true y e = (refl, e)
+both false y e = absurd (true≢false (sym e))
+
+join : (x y : Bool) → x ≡ true → y ≡ true → (x && y) ≡ true
+join true y e f = f
+join false y e f = absurd (true≢false (sym e))
+
+module _ (node : Node) (queue : Option ℕ) (sp : Spot) (c : NodeState) (port place : ℕ) (h : IsNode node sp c) (is : node.kind ≡ k.Process queue) (none : queue ≡ None)
+    (full : (x : ℕ) → x < limit_of c.filled → has c.filled x ≡ true) where
+  only_kind : node.kind ≡ k.Process None
+  only_kind = is ∙ ap (λ o. k.Process o) none
+
+  as_only : IsNode (record { kind = k.Process None; ports = node.ports; outs = node.outs }) sp c
+  as_only = to_kind node (k.Process None) only_kind (λ n. IsNode n sp c) h
+
+  module _ (taken : ℕ) (is_taken : taken ≡ length sp.taken) where
+    takes_here : ((port == 0) && ((place == 0) && (taken == 0))) ≡ true → MayTakeAt (record { kind = k.Process None; ports = node.ports; outs = node.outs }) sp port place
+    takes_here t =
+        let w = both (port == 0) ((place == 0) && (taken == 0)) t in let v = both (place == 0) (taken == 0) w.1 in
+        (equals port 0 w.0, equals place 0 v.0, full_holds None node.ports node.outs sp c as_only full, nil_from sp.taken (sym is_taken ∙ equals taken 0 v.1))
+
+    told_here : port ≡ 0 → place ≡ 0 → sp.taken ≡ [] → ((port == 0) && ((place == 0) && (taken == 0))) ≡ true
+    told_here p q nil =
+        join (port == 0) ((place == 0) && (taken == 0)) (is_equal port 0 p)
+        (join (place == 0) (taken == 0) (is_equal place 0 q) (is_equal taken 0 (is_taken ∙ ap length nil)))
+
+    pub only_told : (b : Bool) → b ≡ ((port == 0) && ((place == 0) && (taken == 0))) → (b ≡ true) ↔ MayTakeAt node sp port place
+    only_told b e = (
+      (λ t. by_kind node (k.Process None) only_kind (λ n. MayTakeAt n sp port place) (takes_here (sym e ∙ t))),
+      (λ may. let known = to_kind node (k.Process None) only_kind (λ n. MayTakeAt n sp port place) may in e ∙ told_here known.0 known.1 known.3),
+    )
+
+  pub only_taken : (taken : ℕ) → ((q : Option ℕ) (z : Spot) → IsKept (k.Process q) z c.kept → taken ≡ length z.taken) → taken ≡ length sp.taken
+  only_taken taken count = count None sp as_only.keeps

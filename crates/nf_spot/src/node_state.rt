@@ -1,6 +1,6 @@
 //! `NodeState`: a node's part of the state of a run.
 
-ghost use Rattle.std.specs.Prelude.{◌≡◌, ◌+◌, ◌<◌, ◌^◌, ◌∷◌, ◌++◌, [], ℕ, List, false, true, nat_lt, map, length, remove, slice_index_or, slice_set, ◌==◌, if◌then◌else◌, Ok, IfOk, OnOk, MatchBool, MatchOption};
+ghost use Rattle.std.specs.Prelude.{◌≡◌, ◌+◌, ◌<◌, ◌^◌, ◌∷◌, ◌++◌, [], ℕ, List, false, true, nat_lt, map, length, remove, slice_index_or, slice_set, ◌==◌, ◌&&◌, ◌↔◌, if◌then◌else◌, Ok, IfOk, OnOk, MatchBool, MatchOption};
 ghost use Rattle.nf_value.specs.Plain.{Plain, null};
 ghost use Rattle.nf_value.specs.View.{plain_of};
 ghost use Rattle.nf_job.specs.declared.emitted.Outputs.TheVariants.{Emits};
@@ -135,6 +135,48 @@ impl NodeState {
                         }
                     }
                 }
+            }
+        }
+    }
+
+    /// Whether the node may take the item at a place of a port. A process without a queue port takes at port 0 and place 0.
+    pub fn may_take(&self, node: &Node, port: u32, place: u32) -> bool
+        requires { FitsKind node.now node.now.kind }
+        ensures { (sp : Spot) → IsNode node.now sp self.now → (result ≡ true) ↔ MayTakeAt node.now sp port place }
+    {
+        match &node.kind {
+            NodeKind::Source { .. } => false,
+            NodeKind::Op { .. } => self.has_item(port, place),
+            NodeKind::Process { queue } => self.has_instance(*queue, port, place),
+        }
+    }
+
+    /// Whether an item waits at a place of a port.
+    fn has_item(&self, port: u32, place: u32) -> bool
+        ensures { result ≡ nat_lt place (length (waiting_at self.now port)) }
+    {
+        match self.inlets.as_slice().get(port as usize) {
+            Some(inlet) => (place as usize) < inlet.waits(),
+            None => false,
+        }
+    }
+
+    /// Whether a process may take the item at a place of its queue port, or once if it has none.
+    fn has_instance(&self, queue: Option<u32>, port: u32, place: u32) -> bool
+        ensures { (node : Node) (sp : Spot) → IsNode node sp self.now → node.kind ≡ k.Process queue → FitsKind node node.kind
+            → (result ≡ true) ↔ MayTakeAt node sp port place }
+    {
+        if !self.filled.is_full() {
+            return false;
+        }
+        match queue {
+            Some(queue) => {
+                let waits = self.has_item(port, place);
+                is_queue_item(port, queue, waits)
+            }
+            None => {
+                let taken = self.kept.taken();
+                is_only_take(port, place, taken)
             }
         }
     }
@@ -329,6 +371,20 @@ impl NodeState {
         put_heads(&mut inputs, &self.inlets[at + 1..])?;
         Ok(Vals::of(inputs))
     }
+}
+
+/// Whether an item waits, and the port is the queue port.
+fn is_queue_item(port: u32, queue: u32, waits: bool) -> bool
+    ensures { result ≡ ((port == queue) && waits) }
+{
+    port == queue && waits
+}
+
+/// Whether this is where a process without a queue port takes, and it hasn't yet.
+fn is_only_take(port: u32, place: u32, taken: u32) -> bool
+    ensures { result ≡ ((port == 0) && ((place == 0) && (taken == 0))) }
+{
+    port == 0 && (place == 0 && taken == 0)
 }
 
 /// A list of empty outputs.
