@@ -2,3 +2,4 @@ pub mod Staying
 pub mod Distinct
 pub mod Entering
 pub mod Legals
+pub mod Making

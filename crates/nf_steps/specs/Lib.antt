@@ -1,3 +1,4 @@
 pub mod Run
 pub mod Steps
 pub mod Echo
+pub mod Making

@@ -1,5 +1,5 @@
 -- What the calls on a run do.
-use Rattle.std.specs.Prelude.{◌≡◌, ℕ, List, [], ◌∷◌, true, false, is_some, is_ok, if◌then◌else◌, Result, Ok, Err}
+use Rattle.std.specs.Prelude.{◌≡◌, ℕ, [], ◌∷◌, true, false, is_some, is_ok, if◌then◌else◌, Result, Ok, Err}
 use Rattle.std.specs.declared.option.Option.{Option}
 use Rattle.std.specs.declared.option.Option.TheVariants.{None, Some}
 use Rattle.nf_value.specs.Plain.{Plain}
@@ -12,7 +12,7 @@ use Rattle.nf_job.specs.declared.parts.JobParts.{JobParts}
 use Rattle.nf_job.specs.declared.report.Report.{Report}
 use Rattle.nf_graph.specs.Node.{node_at}
 use Rattle.nf_graph.specs.Rules.{Rules, Outs}
-use Rattle.nf_graph.specs.WellMade.{IsWellMade, plain_graph}
+use Rattle.nf_graph.specs.WellMade.{IsWellMade}
 use Rattle.nf_machine.specs.declared.event.Event.{Event}
 use Rattle.nf_machine.specs.declared.event.Event.TheVariants as e
 use Rattle.nf_machine.specs.declared.event.Move.{Move}
@@ -21,10 +21,7 @@ use Rattle.nf_machine.specs.declared.event.Cause.{Cause}
 use Rattle.nf_machine.specs.declared.stop.Stop.{Stop}
 use Rattle.nf_machine.specs.declared.stop.Stop.TheVariants as s
 use Rattle.nf_machine.specs.Event.{answer_of}
-use Rattle.nf_machine.specs.Legal.{IsOperatorKind, IsProcessKind, CloseIsLegal}
-use Rattle.nf_machine.specs.State.{State}
-use Rattle.nf_nodes.specs.Steps.{MayPass, MayTake}
-use Rattle.nf_graph.specs.declared.node.Node.{Node}
+use Rattle.nf_machine.specs.Legal.{IsOperatorKind, IsProcessKind}
 use Rattle.nf_flight.specs.declared.ticket.Ticket.{Ticket}
 use Rattle.nf_flight.specs.Ticket.{number_of, node_of, inputs_of, n_of, attempt_of}
 use Rattle.nf_flow.specs.Seen.{Seen, plain_of, state_of, grown, roomy, take_of}
@@ -109,9 +106,3 @@ IsJudged R z t (Err task.Mem) = Unit {0}
 pub record IsOutcome (R : Rules) (z : Seen) (t : Ticket) (report : Report) (outs : Outs) : Type 0 where
   pub task : IsTask z t
   pub by_rule : outs ≡ R.outputs (node_of t) (inputs_of t) (attempt_of t) report
-
--- the move is legal
-abbrev pub IsLegalMove : List Node → State → Move → Type 0
-IsLegalMove nodes s (m.Pass port) = MayPass nodes s port
-IsLegalMove nodes s (m.Take node port place) = MayTake nodes s node port place
-IsLegalMove nodes s (m.Close node) = CloseIsLegal (plain_graph nodes) s node

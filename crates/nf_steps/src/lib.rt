@@ -5,10 +5,12 @@ mod asking;
 mod echo;
 pub mod laws;
 mod leaves;
+mod maker;
 mod moves;
 mod tickets;
 
 pub use asking::is_task;
 pub use echo::{Echo, echo_job};
+pub use maker::GraphMaker;
 pub use moves::{begin, go, halt, next_move};
 pub use tickets::{finish, give, give_up, reuse, start};

@@ -3,11 +3,12 @@
 ghost use Rattle.std.specs.Prelude.{◌≡◌, None, IfOk, IfSome, OnOk, OnErr};
 ghost use Rattle.nf_machine.specs.declared.event.Event.TheVariants as e;
 ghost use Rattle.nf_machine.specs.Legal.{CloseIsLegal};
+ghost use Rattle.nf_nodes.specs.Ready.{IsLegalMove};
 ghost use Rattle.nf_nodes.specs.Steps.{MayPass, MayTake};
 ghost use Rattle.nf_flow.specs.Seen.{begun, grown, plain_of, state_of, take_of};
 ghost use Rattle.nf_flow.specs.Questions.{IsFlying};
 ghost use Rattle.nf_steps.specs.Run.{IsRun, Stay};
-ghost use Rattle.nf_steps.specs.Steps.{IsLegalMove, event_by};
+ghost use Rattle.nf_steps.specs.Steps.{event_by};
 
 use crate::leaves::room_or_halt;
 use nf_flight::Ticket;
