@@ -10,10 +10,14 @@ find_program() {
     program=$("$top/release/find")
 }
 
-# builds the program of nf_bench, and sets `bench` to it
+# sets `bench` to the program of this crate: that of the folder BENCH_PROGRAMS, where this is set, else one that is built here
 find_bench() {
-    (cd "$top/crates/nf_bench" && rt run -- copy 10) >/dev/null 2>&1
-    bench=$top/crates/nf_bench/out/nf_bench
+    if [ -n "${BENCH_PROGRAMS:-}" ]; then
+        bench=$(readlink -f "$BENCH_PROGRAMS/$1")
+        return
+    fi
+    (cd "$top/crates/$1" && rt run) >/dev/null 2>&1
+    bench=$(readlink -f "$top/crates/$1/out/$1")
 }
 
 # the microseconds of one run of a command, whose output stands then in the file `printed` of the folder
@@ -24,7 +28,7 @@ timed() {
     echo $(((end - start) / 1000))
 }
 
-# the microseconds that nf_bench tells of one run
+# the microseconds that a program of the benches tells of one run
 benched() {
     # shellcheck disable=SC2069 # it tells the time on standard error
     "$bench" "$@" 2>&1 >/dev/null

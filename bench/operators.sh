@@ -4,7 +4,7 @@
 # Prints both times, each the least of ten runs, and their ratio.
 # shellcheck source=bench/common.sh
 . "$(dirname "$(readlink -f "$0")")/common.sh"
-find_bench
+find_bench nf_bench
 
 # the two counts are timed in turn, so that a slow moment of the machine meets both
 while read -r operator count; do

@@ -32,11 +32,10 @@ awk -v a="$(least tasks)" -v b="$(least children)" 'BEGIN {
 }'
 
 # ---- the lane of shells
-find_bench
+find_bench nf_bench
 memory=$(mktemp -d /dev/shm/tasks.XXXXXX)
 trap 'rm -rf "$folder" "$memory"' EXIT
 cc -O2 -o "$folder/floor" "$top/bench/floor.c"
-bench=$(readlink -f "$bench")
 
 # a command in a new folder of the file system in memory
 anew() {
@@ -56,8 +55,9 @@ for _ in $(seq 5); do
     anew benched children 512 >>"$folder/held"
 done
 head -c 268435456 /dev/zero >"$memory/big"
-for _ in $(seq 5); do
-    anew benched digest 1 >>"$folder/digest"
+# the stored file goes only right before the next is stored, so that this takes memory that the system has at hand
+for _ in $(seq 10); do
+    (cd "$memory" && benched digest 1) >>"$folder/digest"
     anew benched store 1 >>"$folder/store"
 done
 

@@ -4,7 +4,7 @@
 # Prints both times, each the least of 40 runs, and their ratio.
 # shellcheck source=bench/common.sh
 . "$(dirname "$(readlink -f "$0")")/common.sh"
-find_bench
+find_bench nf_bench
 
 # what is read, and how often it stands in a whole text; the two lengths are timed in turn, so that a slow moment of the machine meets both
 while read -r operation count; do

@@ -3,7 +3,7 @@
 # Prints both times, each the least of five runs, and their ratio.
 # shellcheck source=bench/common.sh
 . "$(dirname "$(readlink -f "$0")")/common.sh"
-find_bench
+find_bench nf_bench
 
 for operation in copy compare sort encode decode; do
     for count in 500000 1000000; do
