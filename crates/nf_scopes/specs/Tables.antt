@@ -1,5 +1,6 @@
 -- Tables of names in memory.
-use Rattle.std.specs.Prelude.{◌≡◌, ℕ, List, [], ◌∷◌, bytes_eq, string_bytes, String, is_some, if◌then◌else◌, false, Option, Some, None}
+use Rattle.std.specs.Prelude.{◌≡◌, ℕ, List, [], ◌∷◌, bytes_eq, string_bytes, String, is_some, if◌then◌else◌, false}
+use Rattle.std.specs.Prelude.{Option, Some, None}
 use Rattle.std.specs.Global.{Global}
 use Rattle.std.specs.Map.{lookup}
 use Rattle.nf_graph.specs.Meaning.{Bags}

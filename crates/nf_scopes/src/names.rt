@@ -1,18 +1,12 @@
 //! The names of a body.
 
-ghost use Rattle.std.specs.Prelude.{◌≡◌, ◌<◌, ◌++◌, ◌∷◌, [], ℕ, List, map, length, Some, MatchOption, IfSome, OnOk, IfOk};
+ghost use Rattle.std.specs.Prelude.{◌≡◌, ◌++◌, ◌∷◌, [], ℕ, List, map, Some, MatchOption, IfSome, OnOk};
 ghost use Rattle.std.specs.Option.{option_copied};
-ghost use Rattle.nf_builtins.specs.Natives.{is_among};
 ghost use Rattle.nf_graph.specs.Meaning.{Bags};
-ghost use Rattle.nf_meaning.specs.Stands.{ThingStands};
-ghost use Rattle.nf_meaning.specs.Things as meaning;
-ghost use Rattle.nf_meaning.specs.Things.{thing_named};
 ghost use Rattle.nf_meaning.specs.Walk as walk;
-ghost use Rattle.nf_meaning.specs.Walk.{things_in};
-ghost use Rattle.nf_scopes.specs.Tables.{FoundStands, NoneHas, Names, TableStands, held};
+ghost use Rattle.nf_scopes.specs.Tables.{NoneHas, held};
 ghost use Rattle.nf_scopes.specs.declared.things.Thing.{Thing as Stored};
 ghost use Rattle.nf_scopes.specs.Last.{IsLast};
-ghost use Rattle.nf_scopes.specs.Things.{thing_of};
 
 use crate::things::Thing;
 use indexmap::IndexMap;
@@ -20,8 +14,8 @@ use nf_value::Mem;
 use std::alloc::Global;
 use std::mem::replace;
 
-/// The names of a workflow's body (own): those that `def` bound in the braces that are open, and the workflow's other names. Each is found in a
-/// time that doesn't grow with their number.
+/// The names of a workflow's body (own): those that `def` bound in the braces that are open, and the workflow's other names.
+/// Each is found in a time that doesn't grow with their number.
 #[derive(Drop)]
 pub struct BodyNames {
     alloc: Global,
@@ -34,12 +28,12 @@ pub struct BodyNames {
 }
 
 impl BodyNames {
-    ghost use Rattle.nf_scopes.specs.Standing.{NamesStand, HasBound};
+    ghost use Rattle.nf_scopes.specs.Standing.{BeginsWith, Binds, Braces, Finds, HasBound, NamesStand, TellsDefined};
     ghost use Rattle.nf_scopes.specs.Held.{Holds, HoldsAlso, HoldsNoMore};
 
     /// The names of a body that begins: the workflow's own alone. Takes no memory.
     pub fn new(alloc: Global, names: IndexMap<String, Thing>) -> BodyNames
-        ensures stands { (bags : Bags) (s : walk.Scope) → s.own ≡ [] → s.defined ≡ [] → TableStands bags names.entries s.names → NamesStand bags [] result s }
+        ensures stands { BeginsWith names.entries result }
         ensures holds { (n : List ℕ) (t : Stored) → Holds result n t → held n names.entries ≡ Some t }
     {
         BodyNames {
@@ -52,8 +46,7 @@ impl BodyNames {
 
     /// What a name stands for. Takes no memory.
     pub fn thing(&self, name: &str) -> Option<&Thing>
-        ensures stands { (bags : Bags) (around : List (List (List ℕ))) (s : walk.Scope) → NamesStand bags around self.now s
-            → FoundStands bags (option_copied result) (thing_named name.now (things_in s)) }
+        ensures stands { Finds self.now name.now (option_copied result) }
         ensures holds { IfSome result (λ t. Holds self.now name.now t.now) }
     {
         if let Some(thing) = self.inner.get(name) {
@@ -67,7 +60,7 @@ impl BodyNames {
 
     /// Whether `def` bound a name between the innermost braces. Takes no memory.
     pub fn is_defined(&self, name: &str) -> bool
-        ensures { (bags : Bags) (around : List (List (List ℕ))) (s : walk.Scope) → NamesStand bags around self.now s → result ≡ is_among name.now s.defined }
+        ensures { TellsDefined self.now name.now result }
     {
         self.inner.contains_key(name)
     }
@@ -78,8 +71,7 @@ impl BodyNames {
     ///
     /// `Mem` if there is no memory for it.
     pub fn define(&mut self, name: &str, thing: Thing) -> Result<(), Mem>
-        ensures stands { OnOk result ((bags : Bags) (around : List (List (List ℕ))) (s : walk.Scope) (t : meaning.Thing) → ThingStands bags (thing_of thing) t
-            → NamesStand bags around self.old s → NamesStand bags around self.new (walk.defining name.now t s)) }
+        ensures stands { OnOk result (Binds (λ s t. walk.defining name.now t s) thing self.old self.new) }
         ensures holds { OnOk result (HoldsAlso self.old thing self.new) }
     {
         let name = String::from_str(self.alloc, name)?;
@@ -93,8 +85,7 @@ impl BodyNames {
     ///
     /// `Mem` if there is no memory for it.
     pub fn assign(&mut self, name: &str, thing: Thing) -> Result<(), Mem>
-        ensures stands { OnOk result ((bags : Bags) (around : List (List (List ℕ))) (s : walk.Scope) (t : meaning.Thing) → ThingStands bags (thing_of thing) t
-            → NamesStand bags around self.old s → NamesStand bags around self.new (walk.assigning name.now t s)) }
+        ensures stands { OnOk result (Binds (λ s t. walk.assigning name.now t s) thing self.old self.new) }
         ensures holds { OnOk result (HoldsAlso self.old thing self.new) }
     {
         let key = String::from_str(self.alloc, name)?;
@@ -119,7 +110,7 @@ impl BodyNames {
     ///
     /// `Mem` if there is no memory for it.
     pub fn enter(&mut self) -> Result<(), Mem>
-        ensures stands { OnOk result ((bags : Bags) (around : List (List (List ℕ))) (s : walk.Scope) → NamesStand bags around self.old s
+        ensures stands { OnOk result ((bags : Bags) (around : Braces) (s : walk.Scope) → NamesStand bags around self.old s
             → NamesStand bags (around ++ s.defined ∷ []) self.new (walk.entering s) × HasBound around s) }
         ensures holds { OnOk result (HoldsNoMore self.old self.new) }
     {
@@ -130,8 +121,9 @@ impl BodyNames {
 
     /// Braces end: the names that `def` bound in them are gone. Takes no memory.
     pub fn leave(&mut self)
-        ensures stands { (bags : Bags) (around : List (List (List ℕ))) (before s : walk.Scope) → HasBound around before
-            → NamesStand bags (around ++ before.defined ∷ []) self.old s → NamesStand bags around self.new (walk.leaving before s) }
+        ensures stands { (bags : Bags) (around : Braces) (before s : walk.Scope) → HasBound around before
+            → NamesStand bags (around ++ before.defined ∷ []) self.old s
+            → NamesStand bags around self.new (walk.leaving before s) }
         ensures holds { HoldsNoMore self.old self.new }
     {
         let Some(inner) = self.outer.pop() else {
@@ -143,7 +135,8 @@ impl BodyNames {
 
 /// The place of the last table that has a name.
 fn last_with(tables: &[IndexMap<String, Thing>], name: &str) -> Option<usize>
-    ensures { MatchOption result (NoneHas name.now (map (λ m. m.entries) tables.now)) (λ i. IsLast name.now i (map (λ m. m.entries) tables.now)) }
+    ensures { let all = map (λ m. m.entries) tables.now in
+        MatchOption result (NoneHas name.now all) (λ i. IsLast name.now i all) }
 {
     let mut end = tables.len();
     while end > 0 {

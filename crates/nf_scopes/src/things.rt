@@ -3,7 +3,8 @@
 use nf_graph::Port;
 use nf_value::{Txt, Value};
 
-/// What a name of a workflow's body stands for while its graph is made (own). Contracts see it as a `PortThing`, by `thing_of`.
+/// What a name of a workflow's body stands for while its graph is made (own). Contracts see it as a `PortThing`, by
+/// `thing_of`.
 #[derive(Drop)]
 pub enum Thing {
     /// A value that is known before the run.
