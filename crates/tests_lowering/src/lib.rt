@@ -7,3 +7,5 @@ mod names;
 mod paths;
 #[cfg(test)]
 mod scopes;
+#[cfg(test)]
+mod unbuilt;
