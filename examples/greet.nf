@@ -1,3 +1,4 @@
+// A process over a channel: each item is a task.
 process GREET {
     input:
     val name

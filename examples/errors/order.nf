@@ -1,3 +1,4 @@
+// Two queues as inputs of one process: refused, since which items meet depends on their order.
 process PAIR {
     input:
     val left

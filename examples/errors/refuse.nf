@@ -1,3 +1,4 @@
+// A task that fails ends the run, and is named with its inputs.
 process CHECK {
     input:
     val limit

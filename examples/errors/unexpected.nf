@@ -1,1 +1,2 @@
+// A brace too many.
 workflow { } }
