@@ -103,11 +103,11 @@ both_apart body first middle last (p ∷ ps) qs b c d e =
 pub made_still : (ps qs : List (List ℕ)) (xs ys : List Instance) → qs ≡ ps → ys ≡ xs → MadeBy ps xs → MadeBy qs ys
 made_still ps qs xs ys e f h = subst (λ z. MadeBy z ys) (sym e) (subst (λ z. MadeBy ps z) (sym f) h)
 
-pub or_first : (b c : Bool) → b ≡ true → (b || c) ≡ true
+or_first : (b c : Bool) → b ≡ true → (b || c) ≡ true
 or_first true c e = refl
 or_first false c e = absurd (let f : false ≡ true = e in cc)
 
-pub or_second : (b c : Bool) → c ≡ true → (b || c) ≡ true
+or_second : (b c : Bool) → c ≡ true → (b || c) ≡ true
 or_second true c e = refl
 or_second false c e = e
 
@@ -366,7 +366,7 @@ of_path path ps [] e h = tt
 of_path path ps (z ∷ zs) e h = (subst (λ c. is_among c ps ≡ true) (sym h.0) e, of_path path ps zs e h.1)
 
 -- the path of the call itself
-pub own_path : (n : List ℕ) (s : State) → is_plain_name n ≡ true → is_among n s.scope.called ≡ false → (after : List (List ℕ)) → is_among n after ≡ true
+own_path : (n : List ℕ) (s : State) → is_plain_name n ≡ true → is_among n s.scope.called ≡ false → (after : List (List ℕ)) → is_among n after ≡ true
     → Belongs s.scope.path s.scope.called after (s.scope.path ++ n)
 own_path n s plain fresh after now = record {
   name = n;

@@ -1,11 +1,10 @@
 -- The paths of calls, which tell the calls of a script apart.
-use Rattle.std.specs.Prelude.{◌≡◌, ◌≤◌, ℕ, ◌==◌, Bool, true, false, not, ◌&&◌, List, [], ◌∷◌, ◌++◌, bytes_eq, count_by}
+use Rattle.std.specs.Prelude.{◌≡◌, ◌≤◌, ℕ, ◌==◌, Bool, true, false, not, ◌&&◌, List, [], ◌∷◌, ◌++◌, bytes_eq, codes, count_by}
 use Rattle.std.specs.List.{list_all}
 use Rattle.nf_builtins.specs.Natives.{is_among}
 use Rattle.nf_graph.specs.Meaning.{same_inputs}
 use Rattle.nf_meaning.specs.Given.{Definitions}
 use Rattle.nf_meaning.specs.Meaning.{Instance}
-use Rattle.nf_meaning.specs.Walk.{State}
 
 -- a colon joins names to a path, so no name has one; no name that a text can spell does
 abbrev pub is_plain_name : List ℕ → Bool
@@ -53,20 +52,29 @@ AllBelong body before after (p ∷ ps) = Belongs body before after p × AllBelon
 abbrev pub Within : List (List ℕ) → List (List ℕ) → Type 0
 Within ns ms = (n : List ℕ) → is_among n ns ≡ true → is_among n ms ≡ true
 
--- from one state of a body's walk to a later one: each path that came belongs to a call of a name that wasn't called before
-pub record GoesOn (s t : State) : Type 0 where
-  pub path : t.scope.path ≡ s.scope.path
-  pub within : t.scope.within ≡ s.scope.within
-  pub called : Within s.scope.called t.scope.called
+-- what is known of a body's calls: the path of the body, the names that are called in it, and the paths of the script's calls so far
+pub record BodyCalls : Type 0 where
+  pub path : List ℕ
+  pub called : List (List ℕ)
+  pub paths : List (List ℕ)
+
+-- from one point of a body to a later one: each path that came belongs to a call of a name that wasn't called before
+pub record GoesOn (s t : BodyCalls) : Type 0 where
+  pub path : t.path ≡ s.path
+  pub called : Within s.called t.called
   pub added : List (List ℕ)
   pub paths : t.paths ≡ s.paths ++ added
-  pub belong : AllBelong s.scope.path s.scope.called t.scope.called added
+  pub belong : AllBelong s.path s.called t.called added
 
--- each path so far that belongs to a call in this body is of a name that is called in it: so the path of any other name is new
-pub record PathsAreCalled (s : State) : Type 0 where
+-- each path so far that belongs to a call in this body is of a name that is called in it
+pub record PathsAreCalled (s : BodyCalls) : Type 0 where
   pub called : (p n rest : List ℕ) → is_among p s.paths ≡ true → is_plain_name n ≡ true → EndsName rest
-      → p ≡ s.scope.path ++ (n ++ rest) → is_among n s.scope.called ≡ true
+      → p ≡ s.path ++ (n ++ rest) → is_among n s.called ≡ true
 
--- the state after the name of a call, from which on these paths are kept
-abbrev pub begun : List ℕ → List (List ℕ) → State → State
-begun n paths s = record s { scope = record s.scope { called = n ∷ s.scope.called }; paths = s.paths ++ paths }
+-- no path so far belongs to a call of this name in the body
+pub record HasNoPath (s : BodyCalls) (n : List ℕ) : Type 0 where
+  pub none : (p rest : List ℕ) → is_among p s.paths ≡ true → EndsName rest → p ≡ s.path ++ (n ++ rest) → ⊥
+
+-- in the body of the workflow of this name that is called in the body
+abbrev pub inside : List ℕ → BodyCalls → BodyCalls
+inside n s = record { path = s.path ++ n ++ codes ":"; called = []; paths = s.paths }

@@ -18,7 +18,7 @@ ghost use Rattle.nf_meaning.specs.Given.{Given, Found};
 ghost use Rattle.nf_meaning.specs.Walk.{State};
 ghost use Rattle.nf_meaning.specs.Script.{around, around_at, definitions_of, meaning_of, paths_of, wants_of, workflow_walk};
 ghost use Rattle.nf_meaning.specs.Few.{ScopeFew, WalkFew};
-ghost use Rattle.nf_meaning.specs.CallPaths.{NamesArePlain, MadeBy, EachOnce, is_plain_name, begun, GoesOn, PathsAreCalled};
+ghost use Rattle.nf_meaning.specs.CallPaths.{NamesArePlain, MadeBy, EachOnce, BodyCalls, GoesOn, HasNoPath, PathsAreCalled, Within, inside, is_plain_name};
 ghost use Rattle.nf_builtins.specs.Natives.{is_among};
 ghost use Rattle.nf_meaning.specs.Outside.{fault_of, in_run};
 ghost use Rattle.nf_meaning.specs.Operators as operators;
@@ -105,18 +105,28 @@ pub fn calls_are_apart()
         → EachOnce m.instances }
 {}
 
-/// While a body is gone through, each path that comes belongs to a call of a name that wasn't called in it before, and so do the paths of
-/// one part after another. So each path so far that belongs to a call in the body is of a name that is called, and that of any other name is new.
+/// While a body is gone through, each path that comes belongs to a call of a name that wasn't called in it before; so do those of one
+/// part after another, and those of whole calls. So the path of a name that isn't called yet is new, also after its arguments.
 pub fn paths_stay_apart()
-    ensures same { (s : State) → (t : State) → t.scope.path ≡ s.scope.path → t.scope.within ≡ s.scope.within
-        → t.scope.called ≡ s.scope.called → t.paths ≡ s.paths → GoesOn s t }
-    ensures again { (s : State) → (t : State) → (u : State) → GoesOn s t → GoesOn t u → GoesOn s u }
-    ensures process { (s : State) → (n : List ℕ) → is_plain_name n ≡ true → is_among n s.scope.called ≡ false
-        → GoesOn s (begun n ((s.scope.path ++ n) ∷ []) s) }
-    ensures workflow { (s : State) → (n : List ℕ) → GoesOn s (begun n [] s) }
-    ensures called { (s : State) → (t : State) → GoesOn s t → PathsAreCalled s → PathsAreCalled t }
-    ensures new { (s : State) → (n : List ℕ) → PathsAreCalled s → is_plain_name n ≡ true
-        → is_among n s.scope.called ≡ false → is_among (s.scope.path ++ n) s.paths ≡ false }
+    ensures more { (s : BodyCalls) → (t : BodyCalls) → t.path ≡ s.path → t.paths ≡ s.paths → Within s.called t.called
+        → GoesOn s t }
+    ensures again { (s : BodyCalls) → (t : BodyCalls) → (u : BodyCalls) → GoesOn s t → GoesOn t u → GoesOn s u }
+    ensures called { (s : BodyCalls) → (t : BodyCalls) → GoesOn s t → PathsAreCalled s → PathsAreCalled t }
+    ensures none { (s : BodyCalls) → (n : List ℕ) → PathsAreCalled s → is_plain_name n ≡ true
+        → is_among n s.called ≡ false → HasNoPath s n }
+    ensures still { (s : BodyCalls) → (t : BodyCalls) → (n : List ℕ) → GoesOn s t → is_plain_name n ≡ true
+        → is_among n s.called ≡ true → HasNoPath s n → HasNoPath t n }
+    ensures new { (s : BodyCalls) → (n : List ℕ) → HasNoPath s n → is_among (s.path ++ n) s.paths ≡ false }
+    ensures process { (s : BodyCalls) → (t : BodyCalls) → (u : BodyCalls) → (n : List ℕ) → GoesOn s t
+        → is_plain_name n ≡ true → is_among n s.called ≡ false → is_among n t.called ≡ true → u.path ≡ t.path
+        → u.called ≡ t.called → u.paths ≡ t.paths ++ (s.path ++ n) ∷ [] → GoesOn s u }
+    ensures added { (s : BodyCalls) → (t : BodyCalls) → (n : List ℕ) → PathsAreCalled s → is_plain_name n ≡ true
+        → is_among n s.called ≡ true → t.path ≡ s.path → t.called ≡ s.called → t.paths ≡ s.paths ++ (s.path ++ n) ∷ []
+        → PathsAreCalled t }
+    ensures in_body { (s : BodyCalls) → (n : List ℕ) → HasNoPath s n → PathsAreCalled (inside n s) }
+    ensures workflow { (s : BodyCalls) → (t : BodyCalls) → (i : BodyCalls) → (u : BodyCalls) → (n : List ℕ)
+        → GoesOn s t → is_plain_name n ≡ true → is_among n s.called ≡ false → is_among n t.called ≡ true
+        → GoesOn (inside n t) i → u.path ≡ t.path → u.called ≡ t.called → u.paths ≡ i.paths → GoesOn s u }
 {}
 
 /// The fault of a script, the paths whose files it reads and the paths of its calls are the same in all its runs: they
