@@ -1,0 +1,11 @@
+mod Lists
+mod Nodes
+mod Reading
+mod Sites
+mod Standing
+mod Keeping
+mod Adding
+mod Fitting
+mod Pushing
+mod Whole
+mod Named
