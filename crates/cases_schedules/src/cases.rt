@@ -1,9 +1,10 @@
 //! `Case`: a graph with its rules and its outcomes.
 
 use crate::outcomes::Outcome;
-use crate::rules::Rules;
+use crate::rules::TableRules;
 use nf_bag::Row;
-use nf_graph::{Node, NodeKind, Port};
+use nf_graph::{Node, NodeKind};
+use nf_steps::GraphMaker;
 use std::alloc::Global;
 
 /// In which orders a row is run.
@@ -13,14 +14,16 @@ pub(crate) enum Orders {
     All,
     /// In a thousand.
     Seeded,
+    /// In twenty, each with the memory of each of its steps refused in turn.
+    Refused,
 }
 
 /// A graph, its rules, and what its tasks report.
 #[derive(Drop)]
 pub(crate) struct Case {
     pub(crate) orders: Orders,
-    pub(crate) nodes: Vec<Node>,
-    pub(crate) rules: Rules,
+    pub(crate) graph: GraphMaker,
+    pub(crate) rules: TableRules,
     pub(crate) outcomes: Vec<Outcome>,
     /// Whether an attempt may be reused.
     pub(crate) is_resumed: bool,
@@ -31,8 +34,8 @@ impl Case {
     pub(crate) fn new(alloc: Global) -> Case {
         Case {
             orders: Orders::All,
-            nodes: Vec::new(alloc),
-            rules: Rules::new(alloc),
+            graph: GraphMaker::new(alloc),
+            rules: TableRules::new(alloc),
             outcomes: Vec::new(alloc),
             is_resumed: false,
         }
@@ -40,15 +43,7 @@ impl Case {
 
     /// The node at a place, if there is one.
     pub(crate) fn node(&self, place: u32) -> Option<&Node> {
-        self.nodes.as_slice().get(place as usize)
-    }
-
-    /// Whether the node at a place is a process.
-    pub(crate) fn is_process(&self, place: u32) -> bool {
-        match self.node(place) {
-            Some(node) => matches!(&node.kind, NodeKind::Process { .. }),
-            None => false,
-        }
+        self.graph.node(place)
     }
 
     /// Whether the node at a place is a `view`.
@@ -57,10 +52,5 @@ impl Case {
             Some(node) => matches!(&node.kind, NodeKind::Op { row: Row::View, .. }),
             None => false,
         }
-    }
-
-    /// The port at a place of a node, if there is one.
-    pub(crate) fn port(&self, node: u32, port: u32) -> Option<Port> {
-        self.node(node)?.ports.items().get(port as usize).copied()
     }
 }

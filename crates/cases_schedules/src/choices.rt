@@ -1,157 +1,110 @@
 //! The steps that may come next.
 
+ghost use Rattle.nf_flow.specs.Questions.{IsFlying};
+ghost use Rattle.cases_schedules.specs.Held.{IsSound};
+ghost use Rattle.cases_schedules.specs.Table.{table_rules};
+
 use crate::cases::Case;
 use crate::items::small;
-use crate::machine::Choice;
-use crate::state::{Spot, State, Ticket};
-use anyhow::{Context, Result};
-use nf_graph::{Node, NodeKind};
+use crate::machine::{Choice, Machine};
+use anyhow::{Context, Result, bail};
+use nf_flight::Ticket;
+use nf_flow::Flow;
+use nf_graph::Node;
 use nf_machine::Move;
 use std::alloc::Global;
 
-/// The steps that may come next.
-pub(crate) fn choices(alloc: Global, case: &Case, state: &State) -> Result<Vec<Choice>> {
+/// The steps that may come next, as the flow tells them: none where the run is over.
+pub(crate) fn choices(alloc: Global, case: &Case, machine: &Machine) -> Result<Vec<Choice>>
+    requires { IsSound (table_rules case.now.rules) machine.now }
+{
     let mut found = Vec::new(alloc);
-    if state.stop.is_none() {
-        add_passes(case, state, &mut found)?;
-        for (place, node) in case.nodes.iter().enumerate() {
-            add_moves(state, small(place)?, node, &mut found)?;
-        }
+    add_moves(&machine.flow, &mut found)?;
+    if !is_ready(&machine.flow, &found) {
+        bail!("another move is ready");
     }
-    for ticket in &state.tickets {
-        if state.stop.is_none() {
-            add_next(case, ticket, &mut found)?;
-        } else {
-            add_last(ticket, &mut found)?;
+    for place in 0..machine.tickets.len() {
+        if let Some(ticket) = machine.ticket(place) {
+            add_next(case, &machine.flow, place, ticket, &mut found)?;
         }
     }
     Ok(found)
 }
 
-/// Adds the Takes and the Close of a node.
-fn add_moves(state: &State, place: u32, node: &Node, found: &mut Vec<Choice>) -> Result<()> {
-    let spot = state.spot(place)?;
-    add_takes(place, node, spot, found)?;
-    if may_close(state, place, node, spot)? {
-        found.push(Choice::Move(Move::Close { node: place }))?;
+/// Whether the flow is ready for one of these moves, or for none where there is none.
+fn is_ready(flow: &Flow, moves: &[Choice]) -> bool {
+    match flow.ready() {
+        Some(step) => moves.iter().any(|choice| *choice == Choice::Move(step)),
+        None => moves.is_empty(),
+    }
+}
+
+/// Adds the Passes, and each node's Takes and Close.
+fn add_moves(flow: &Flow, found: &mut Vec<Choice>) -> Result<()> {
+    let nodes = flow.graph().nodes();
+    let mut ports = 0u32;
+    for node in nodes {
+        let count = small(node.ports.items().len())?;
+        ports = ports.checked_add(count).context("too many ports")?;
+    }
+    for port in 0..ports {
+        add_legal(flow, Move::Pass { port }, found)?;
+    }
+    for (place, node) in nodes.iter().enumerate() {
+        let place = small(place)?;
+        add_takes(flow, place, node, found)?;
+        add_legal(flow, Move::Close { node: place }, found)?;
     }
     Ok(())
 }
 
-/// Adds what may come next of a ticket in a run that is stopped: a started one may still come back.
-fn add_last(ticket: &Ticket, found: &mut Vec<Choice>) -> Result<()> {
-    found.push(Choice::GiveUp(ticket.number))?;
-    if ticket.is_started {
-        found.push(Choice::Finish(ticket.number))?;
-    }
-    Ok(())
-}
-
-/// Adds a Pass for each port to whose producer's items there are more than passed.
-fn add_passes(case: &Case, state: &State, found: &mut Vec<Choice>) -> Result<()> {
-    let mut place = 0u32;
-    for (node, spot) in case.nodes.iter().zip(&state.spots) {
-        for (port, passed) in node.ports.items().iter().zip(&spot.passed) {
-            if *passed < state.feed(*port)?.len() {
-                found.push(Choice::Move(Move::Pass { port: place }))?;
-            }
-            place = place.checked_add(1).context("too many ports")?;
-        }
-    }
-    Ok(())
-}
-
-/// Adds the Takes of a node.
-fn add_takes(place: u32, node: &Node, spot: &Spot, found: &mut Vec<Choice>) -> Result<()> {
-    match &node.kind {
-        NodeKind::Source { .. } => {}
-        NodeKind::Op { .. } => {
-            for port in 0..small(node.ports.items().len())? {
-                add_items(place, port, spot, found)?;
-            }
-        }
-        NodeKind::Process { queue } => {
-            if !holds_all(node, spot)? {
-                return Ok(());
-            }
-            match queue {
-                Some(queue) => add_items(place, *queue, spot, found)?,
-                None => {
-                    if spot.taken.is_empty() {
-                        let port = 0;
-                        let first = Move::Take {
-                            node: place,
-                            port,
-                            place: 0,
-                        };
-                        found.push(Choice::Move(first))?;
-                    }
-                }
+/// Adds the Takes of a node. One without ports takes at port 0.
+fn add_takes(flow: &Flow, node: u32, told: &Node, found: &mut Vec<Choice>) -> Result<()> {
+    let ports = small(told.ports.items().len())?;
+    for port in 0..ports.max(1) {
+        for place in 0..u32::MAX {
+            if !add_legal(flow, Move::Take { node, port, place }, found)? {
+                break;
             }
         }
     }
     Ok(())
 }
 
-/// Adds a Take for each item that waits at a port.
-fn add_items(node: u32, port: u32, spot: &Spot, found: &mut Vec<Choice>) -> Result<()> {
-    for place in 0..small(spot.waits(port))? {
-        found.push(Choice::Move(Move::Take { node, port, place }))?;
+/// Adds a move if it is legal.
+fn add_legal(flow: &Flow, step: Move, found: &mut Vec<Choice>) -> Result<bool> {
+    let is_legal = flow.is_legal(step);
+    if is_legal {
+        found.push(Choice::Move(step))?;
     }
-    Ok(())
+    Ok(is_legal)
 }
 
-/// Whether an item waits at each value port.
-fn holds_all(node: &Node, spot: &Spot) -> Result<bool> {
-    for (place, port) in node.ports.items().iter().enumerate() {
-        if port.value && spot.waits(small(place)?) == 0 {
-            return Ok(false);
+/// Adds what may come next of a ticket. In a run that is stopped a started one may still come back.
+fn add_next(
+    case: &Case,
+    flow: &Flow,
+    place: usize,
+    ticket: &Ticket,
+    found: &mut Vec<Choice>,
+) -> Result<()>
+    requires { IsFlying flow.now ticket.now }
+{
+    let is_started = flow.is_started(ticket);
+    if flow.is_stopped() {
+        found.push(Choice::GiveUp(place))?;
+    }
+    if !nf_steps::is_task(flow, ticket) {
+        if !flow.is_stopped() {
+            found.push(Choice::Give(place))?;
         }
-    }
-    Ok(true)
-}
-
-/// Whether a node may be closed: nothing more comes to it, and it has nothing more to take.
-fn may_close(state: &State, place: u32, node: &Node, spot: &Spot) -> Result<bool> {
-    if spot.is_closed || state.tickets.iter().any(|ticket| ticket.node == place) {
-        return Ok(false);
-    }
-    for (port, passed) in node.ports.items().iter().zip(&spot.passed) {
-        if !state.spot(port.from)?.is_closed || *passed != state.feed(*port)?.len() {
-            return Ok(false);
-        }
-    }
-    match &node.kind {
-        NodeKind::Source { .. } => Ok(false),
-        NodeKind::Op { .. } => Ok(spot.waiting.iter().all(|items| items.is_empty())),
-        NodeKind::Process { queue: Some(queue) } => Ok(
-            !holds_all(node, spot)? || spot.waits(*queue) == 0,
-        ),
-        NodeKind::Process { queue: None } => Ok(!holds_all(node, spot)? || spot.taken.len() == 1),
-    }
-}
-
-/// Adds what may come next of a ticket in a run that isn't stopped.
-fn add_next(case: &Case, ticket: &Ticket, found: &mut Vec<Choice>) -> Result<()> {
-    let number = ticket.number;
-    if !case.is_process(ticket.node) {
-        found.push(Choice::Give(number))?;
-    } else if ticket.is_started {
-        found.push(Choice::Finish(number))?;
-    } else if is_refused(case, ticket) {
-        found.push(Choice::Refuse(number))?;
-    } else {
-        found.push(Choice::Start(number))?;
-        if case.is_resumed {
-            found.push(Choice::Reuse(number))?;
+    } else if is_started {
+        found.push(Choice::Finish(place))?;
+    } else if !flow.is_stopped() {
+        found.push(Choice::Start(place))?;
+        if case.is_resumed && case.rules.has_job(ticket) {
+            found.push(Choice::Reuse(place))?;
         }
     }
     Ok(())
-}
-
-/// Whether the ticket's attempt has a fault in place of a job.
-fn is_refused(case: &Case, ticket: &Ticket) -> bool {
-    case.rules
-        .refusal(ticket.node, &ticket.inputs, ticket.attempt)
-        .is_some()
 }

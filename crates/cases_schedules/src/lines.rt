@@ -4,9 +4,10 @@ use crate::cases::{Case, Orders};
 use crate::items::{fault, item, list, text};
 use crate::nodes::node_of;
 use crate::outcomes::outcome_of;
-use crate::rules::{Answer, Refused, Strategy, Told};
-use crate::tasks::emitted;
+use crate::rules::{Answer, Handling, Refused, Strategy, Told};
 use anyhow::{Context, Result, bail};
+use nf_job::Emitted;
+use nf_value::Value;
 use std::alloc::Global;
 
 /// Adds what a line tells.
@@ -16,8 +17,10 @@ pub(crate) fn add_line(alloc: Global, case: &mut Case, line: &str) -> Result<()>
         return Ok(());
     }
     if let Some(given) = line.strip_prefix("node ") {
-        let node = node_of(alloc, case, given)?;
-        case.nodes.push(node)?;
+        let node = node_of(alloc, given)?;
+        if !case.graph.add(node)? {
+            bail!("{given}: a node that doesn't fit");
+        }
         return Ok(());
     }
     let (head, tail) = line.split_once(": ").context("no colon")?;
@@ -33,6 +36,7 @@ fn orders_of(name: &str) -> Result<Orders> {
     match name {
         "all" => Ok(Orders::All),
         "seeded" => Ok(Orders::Seeded),
+        "refused" => Ok(Orders::Refused),
         _ => bail!("{name}: no orders"),
     }
 }
@@ -42,7 +46,8 @@ fn add_rule(alloc: Global, case: &mut Case, what: &str, node: u32, given: &str) 
     match what {
         "answer" => add_answers(alloc, case, node, given),
         "errors" => {
-            case.rules.strategies.push((node, strategy_of(given)?))?;
+            let strategy = strategy_of(given)?;
+            case.rules.strategies.push(Handling { node, strategy })?;
             Ok(())
         }
         "outputs" => add_outputs(alloc, case, node, given),
@@ -84,7 +89,7 @@ fn add_outputs(alloc: Global, case: &mut Case, node: u32, given: &str) -> Result
     for pair in given.split(';') {
         let (from, to) = pair.split_once(" -> ").context("no outputs")?;
         let from = text(alloc, from.trim())?;
-        let values = emitted(alloc, to)?;
+        let values = Emitted::of(emitted(alloc, to)?);
         case.rules.outputs.push(Told {
             node,
             text: from,
@@ -92,6 +97,22 @@ fn add_outputs(alloc: Global, case: &mut Case, node: u32, given: &str) -> Result
         })?;
     }
     Ok(())
+}
+
+/// The outputs that a list spells: nothing where it has `null`.
+fn emitted(alloc: Global, given: &str) -> Result<Vec<Option<Value>>> {
+    let mut outputs = Vec::new(alloc);
+    for value in list(alloc, given)?.into_items() {
+        outputs.push(output(value))?;
+    }
+    Ok(outputs)
+}
+
+fn output(value: Value) -> Option<Value> {
+    match value {
+        Value::Null => None,
+        value => Some(value),
+    }
 }
 
 fn add_refused(alloc: Global, case: &mut Case, node: u32, given: &str) -> Result<()> {

@@ -1,59 +1,45 @@
-//! `Machine`: a run of a row's graph, a step at a time.
+//! `Machine`: a run of a row's flow, with its tickets.
 
-use crate::cases::Case;
-use crate::choices::choices;
-use crate::report::report;
-use crate::state::State;
-use crate::steps::step;
-use anyhow::Result;
+ghost use Rattle.std.specs.Prelude.{◌≡◌, None, slice_index_or};
+ghost use Rattle.std.specs.Option.{option_copied};
+
+use nf_flight::Ticket;
+use nf_flow::Flow;
 use nf_machine::Move;
-use std::alloc::Global;
 
-/// A step that may come next. The rules and the outcomes of the row tell all else of it.
+/// A step that may come next. The rules and the outcomes of the row tell all else of it. A ticket is named by its place among those of the run.
 #[derive(Debug, Clone, Copy, PartialEq, Eq, Drop)]
 pub(crate) enum Choice {
     /// A step that the run takes by itself.
     Move(Move),
     /// The closure answers to the ticket's item.
-    Give(u32),
-    /// The ticket's attempt starts.
-    Start(u32),
+    Give(usize),
+    /// The ticket's attempt starts, or is refused if it has no job.
+    Start(usize),
     /// A record of the ticket's attempt is taken in place of a start.
-    Reuse(u32),
+    Reuse(usize),
     /// The ticket's attempt ends.
-    Finish(u32),
-    /// The ticket is given up, since its attempt has no job.
-    Refuse(u32),
-    /// The ticket is given up, since the run is stopped.
-    GiveUp(u32),
+    Finish(usize),
+    /// The ticket is given up.
+    GiveUp(usize),
 }
 
-/// A run of a row's graph.
+/// A run of a row's flow, with its tickets.
 #[derive(Drop)]
 pub(crate) struct Machine {
-    state: State,
+    pub(crate) flow: Flow,
+    /// By their numbers from 1; nothing for a ticket that left.
+    pub(crate) tickets: Vec<Option<Ticket>>,
 }
 
 impl Machine {
-    /// The run before its first step.
-    pub(crate) fn begin(alloc: Global, case: &Case) -> Result<Machine> {
-        Ok(Machine {
-            state: State::opening(alloc, case)?,
-        })
-    }
-
-    /// The steps that may come next: none where the run is over.
-    pub(crate) fn choices(&self, alloc: Global, case: &Case) -> Result<Vec<Choice>> {
-        choices(alloc, case, &self.state)
-    }
-
-    /// Takes a step that may come next.
-    pub(crate) fn step(&mut self, alloc: Global, case: &Case, choice: Choice) -> Result<()> {
-        step(alloc, case, &mut self.state, choice)
-    }
-
-    /// What the run that is over reports.
-    pub(crate) fn report(&self, alloc: Global, case: &Case) -> Result<String> {
-        report(alloc, case, &self.state)
+    /// The ticket at a place, if it is in flight.
+    pub(crate) fn ticket(&self, place: usize) -> Option<&Ticket>
+        ensures { option_copied result ≡ slice_index_or self.now.tickets.items place None }
+    {
+        match self.tickets.as_slice().get(place) {
+            Some(Some(ticket)) => Some(ticket),
+            _ => None,
+        }
     }
 }

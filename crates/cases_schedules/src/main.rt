@@ -1,8 +1,8 @@
-//! Runs graphs in many orders of their steps, to show that every order gives one report. Standard input has rows, each with a line for each
+//! Runs flows in many orders of their steps, to show that every order gives one report. Standard input has rows, each with a line for each
 //! thing that it tells:
 //!
-//! - `row all: TEXT` or `row seeded: TEXT` begins a row, which goes up to an empty line. `all` runs every order, of which there may be 20,000;
-//!   `seeded` runs a thousand.
+//! - `row all: TEXT`, `row seeded: TEXT` or `row refused: TEXT` begins a row, which goes up to an empty line. `all` runs every order, of which there
+//!   may be 20,000; `seeded` runs a thousand; `refused` runs twenty, each with the memory for its first step refused, for its second, and so on.
 //! - `node source ITEMS`, with semicolons between the items; `node OPERATOR PORTS | OPTIONS` or `node process PORTS | OUTPUTS`. A port is the
 //!   node that it reads and the output there, `3.1` or `3`, after `=` where it is a value port. Nodes count from 0.
 //! - `answer NODE: ITEM -> ANSWER; ..` is the closure of an operator. An answer `!KIND` is a fault. An item that isn't there is its own answer.
@@ -21,6 +21,7 @@ mod cases;
 mod choices;
 mod items;
 mod lines;
+mod lookup;
 mod machine;
 mod nodes;
 mod options;
@@ -28,9 +29,8 @@ mod orders;
 mod outcomes;
 mod report;
 mod rules;
-mod state;
 mod steps;
-mod tasks;
+mod tickets;
 mod values;
 
 use anyhow::Result;
@@ -61,7 +61,7 @@ fn run<R: AllocGlobal + Input + Print>(rt: &R) -> Result<()> {
 /// Prints the reports of a row, if there is one, and gives the row that comes next, of which nothing is told yet.
 fn ended<R: AllocGlobal + Print>(rt: &R, case: Case) -> Result<Case> {
     let alloc: Global = rt.alloc();
-    if !case.nodes.is_empty() {
+    if case.node(0).is_some() {
         for report in &orders::reports(alloc, &case)? {
             println!(rt; "=> {report}")?;
         }

@@ -1,12 +1,11 @@
 //! The nodes of a row.
 
-use crate::cases::Case;
 use crate::items::{items, small};
 use crate::options::options;
-use anyhow::{Context, Result, bail};
+use anyhow::{Result, bail};
 use nf_bag::Row;
 use nf_graph::{Node, NodeKind, Port, Ports};
-use nf_operator::{OutputKind, allows, output_kind, outs, takes_ports};
+use nf_operator::outs;
 use std::alloc::Global;
 
 /// All operators that have a bag.
@@ -39,8 +38,8 @@ const ROWS: &[Row] = &[
     Row::View,
 ];
 
-/// The node that a text tells, behind those of the case.
-pub(crate) fn node_of(alloc: Global, case: &Case, given: &str) -> Result<Node> {
+/// The node that a text tells.
+pub(crate) fn node_of(alloc: Global, given: &str) -> Result<Node> {
     let (name, rest) = given.split_once(' ').unwrap_or((given, ""));
     if name == "source" {
         return Ok(Node {
@@ -52,7 +51,7 @@ pub(crate) fn node_of(alloc: Global, case: &Case, given: &str) -> Result<Node> {
         });
     }
     let (given_ports, rest) = rest.split_once('|').unwrap_or((rest, ""));
-    let ports = ports_of(alloc, case, given_ports)?;
+    let ports = ports_of(alloc, given_ports)?;
     if name == "process" {
         return process(ports, rest.trim());
     }
@@ -84,9 +83,6 @@ fn process(ports: Vec<Port>, outs: &str) -> Result<Node> {
 fn operator(alloc: Global, name: &str, ports: Vec<Port>, given: &str) -> Result<Node> {
     let row = row_named(name)?;
     let opts = options(alloc, given)?;
-    if !allows(row, &opts) || !takes_ports(row, ports.len()) {
-        bail!("{name}: other options or ports");
-    }
     let outs = outs(row, &opts);
     Ok(Node {
         kind: NodeKind::Op { row, opts },
@@ -104,43 +100,24 @@ fn row_named(name: &str) -> Result<Row> {
     bail!("{name}: no operator")
 }
 
-fn ports_of(alloc: Global, case: &Case, given: &str) -> Result<Vec<Port>> {
+fn ports_of(alloc: Global, given: &str) -> Result<Vec<Port>> {
     let mut ports = Vec::new(alloc);
     for text in given.split_whitespace() {
-        ports.push(port_of(case, text)?)?;
+        ports.push(port_of(text)?)?;
     }
     Ok(ports)
 }
 
-/// The port that a text tells, which reads an output of an earlier node. A value port reads a value channel.
-fn port_of(case: &Case, given: &str) -> Result<Port> {
+/// The port that a text tells.
+fn port_of(given: &str) -> Result<Port> {
     let (value, rest) = match given.strip_prefix('=') {
         Some(rest) => (true, rest),
         None => (false, given),
     };
     let (from, out) = rest.split_once('.').unwrap_or((rest, "0"));
-    let port = Port {
+    Ok(Port {
         from: from.parse::<u32>()?,
         out: out.parse::<u32>()?,
         value,
-    };
-    let producer = case.node(port.from).context("no such node")?;
-    if port.out >= producer.outs || (value && !gives_values(producer)) {
-        bail!("{given}: no such output");
-    }
-    Ok(port)
-}
-
-/// Whether the outputs of a node are value channels.
-fn gives_values(node: &Node) -> bool {
-    let all_values = node.ports.items().iter().all(|port| port.value);
-    match &node.kind {
-        NodeKind::Source { items } => items.len() <= 1,
-        NodeKind::Process { .. } => all_values,
-        NodeKind::Op { row, .. } => match output_kind(*row) {
-            OutputKind::Value => true,
-            OutputKind::Queue => false,
-            OutputKind::AsInputs => all_values,
-        },
-    }
+    })
 }

@@ -1,7 +1,14 @@
 //! The orders in which a row is run.
 
+ghost use Rattle.std.specs.Prelude.{OnOk};
+ghost use Rattle.cases_schedules.specs.Held.{IsSound};
+ghost use Rattle.cases_schedules.specs.Table.{table_rules};
+
 use crate::cases::{Case, Orders};
+use crate::choices::choices;
 use crate::machine::Machine;
+use crate::report::report;
+use crate::steps::{opened, refuse, step};
 use anyhow::{Result, bail};
 use std::alloc::Global;
 
@@ -10,6 +17,9 @@ const MOST_ORDERS: usize = 20_000;
 
 /// How many orders `seeded` has.
 const SEEDS: u64 = 1_000;
+
+/// How many orders `refused` has.
+const REFUSED_SEEDS: u64 = 20;
 
 /// How many steps a run may have.
 const MOST_STEPS: usize = 10_000;
@@ -28,6 +38,8 @@ enum Chooser {
     Turns(Vec<Turn>, usize),
     /// The latest number of a row of random numbers.
     Random(u64),
+    /// The same, and how many steps are taken before one is refused its memory.
+    Refusing(u64, usize),
 }
 
 /// Each distinct report of a row, in order.
@@ -35,6 +47,7 @@ pub(crate) fn reports(alloc: Global, case: &Case) -> Result<Vec<String>> {
     let mut found = match case.orders {
         Orders::All => of_all(alloc, case)?,
         Orders::Seeded => of_seeds(alloc, case)?,
+        Orders::Refused => of_refused(alloc, case)?,
     };
     found.sort()?;
     Ok(found)
@@ -49,7 +62,7 @@ fn of_all(alloc: Global, case: &Case) -> Result<Vec<String>> {
         add(&mut found, run(alloc, case, &mut chooser)?)?;
         turns = match chooser {
             Chooser::Turns(turns, _) => turns,
-            Chooser::Random(_) => bail!("no turns"),
+            Chooser::Random(_) | Chooser::Refusing(_, _) => bail!("no turns"),
         };
         if !turn_on(&mut turns) {
             return Ok(found);
@@ -62,6 +75,22 @@ fn of_seeds(alloc: Global, case: &Case) -> Result<Vec<String>> {
     let mut found = Vec::new(alloc);
     for seed in 0..SEEDS {
         add(&mut found, run(alloc, case, &mut Chooser::Random(seed))?)?;
+    }
+    Ok(found)
+}
+
+/// The reports of some orders, each with the memory of its first step refused, of its second, and so on, and last with none refused.
+fn of_refused(alloc: Global, case: &Case) -> Result<Vec<String>> {
+    let mut found = Vec::new(alloc);
+    for seed in 0..REFUSED_SEEDS {
+        for refused in 0..MOST_STEPS {
+            let report = run(alloc, case, &mut Chooser::Refusing(seed, refused))?;
+            let is_refused = report.as_str() == "stop: Mem";
+            add(&mut found, report)?;
+            if !is_refused {
+                break;
+            }
+        }
     }
     Ok(found)
 }
@@ -91,7 +120,7 @@ fn turn_on(turns: &mut Vec<Turn>) -> bool {
 
 /// Runs a row to its end, and gives its report.
 fn run(alloc: Global, case: &Case, chooser: &mut Chooser) -> Result<String> {
-    let mut machine = Machine::begin(alloc, case)?;
+    let mut machine = opened(alloc, case)?;
     end_of(alloc, case, &mut machine, chooser)
 }
 
@@ -100,31 +129,35 @@ fn end_of(
     case: &Case,
     machine: &mut Machine,
     chooser: &mut Chooser,
-) -> Result<String> {
-    for _ in 0..MOST_STEPS {
+) -> Result<String>
+    requires { IsSound (table_rules case.now.rules) machine.old }
+{
+    'steps: for _ in 0..MOST_STEPS {
         if !goes_on(alloc, case, machine, chooser)? {
-            return machine.report(alloc, case);
+            return report(alloc, case, &machine.flow);
         }
     }
     bail!("more than {MOST_STEPS} steps")
 }
 
 /// Takes the next step, if the run isn't over.
-fn goes_on(
-    alloc: Global,
-    case: &Case,
-    machine: &mut Machine,
-    chooser: &mut Chooser,
-) -> Result<bool> {
-    let choices = machine.choices(alloc, case)?;
+fn goes_on(alloc: Global, case: &Case, machine: &mut Machine, chooser: &mut Chooser) -> Result<bool>
+    requires { IsSound (table_rules case.now.rules) machine.old }
+    ensures { OnOk result (IsSound (table_rules case.now.rules) machine.new) }
+{
+    let choices = choices(alloc, case, machine)?;
     if choices.is_empty() {
         return Ok(false);
     }
     let place = chooser.choose(choices.len())?;
-    match choices.as_slice().get(place) {
-        Some(choice) => machine.step(alloc, case, *choice)?,
-        None => bail!("no such choice"),
+    let Some(choice) = choices.as_slice().get(place) else {
+        bail!("no such choice");
+    };
+    if chooser.refuses() {
+        refuse(case, machine, *choice)?;
+        return Ok(true);
     }
+    step(alloc, case, machine, *choice)?;
     Ok(true)
 }
 
@@ -141,7 +174,7 @@ impl Chooser {
                 turns.push(Turn { place: 0, count })?;
                 Ok(0)
             }
-            Chooser::Random(latest) => {
+            Chooser::Random(latest) | Chooser::Refusing(latest, _) => {
                 *latest = latest
                     .wrapping_mul(6364136223846793005)
                     .wrapping_add(1442695040888963407);
@@ -151,6 +184,18 @@ impl Chooser {
                     None => bail!("no choice"),
                 }
             }
+        }
+    }
+
+    /// Whether the next step is refused its memory.
+    fn refuses(&mut self) -> bool {
+        match self {
+            Chooser::Refusing(_, left) => {
+                let is_last = *left == 0;
+                *left = left.checked_sub(1).unwrap_or(usize::MAX);
+                is_last
+            }
+            Chooser::Turns(_, _) | Chooser::Random(_) => false,
         }
     }
 }

@@ -1,8 +1,11 @@
-//! The rules of a row: what closures answer, which attempts have no job, and what reports come to.
+//! `TableRules`: the rules of a row. They tell what closures answer, which attempts have no job, and what reports come to.
 
-use crate::tasks::{copied, spelled};
-use nf_job::{Captured, Emitted, Outputs, Report, TaskFault};
-use nf_value::{EvalFault, Mem, Txt, Vals, Value};
+use crate::lookup::{answer_to, outputs_of, refusal_of};
+use nf_flight::Ticket;
+use nf_job::{Emitted, Job, Outputs, Report, TaskFault, TaskRefusal};
+use nf_steps::echo_job;
+use nf_stored::Rules;
+use nf_value::{EvalFault, EvalRefusal, Txt, Vals, Value};
 use std::alloc::Global;
 
 /// What becomes of a process that fails (Nextflow reference documentation, "Process directives: errorStrategy").
@@ -24,12 +27,19 @@ pub(crate) struct Answer {
     pub(crate) answer: Result<Value, EvalFault>,
 }
 
+/// The strategy of a process.
+#[derive(Drop)]
+pub(crate) struct Handling {
+    pub(crate) node: u32,
+    pub(crate) strategy: Strategy,
+}
+
 /// What a process emits for a standard output.
 #[derive(Drop)]
 pub(crate) struct Told {
     pub(crate) node: u32,
     pub(crate) text: Txt,
-    pub(crate) values: Vec<Option<Value>>,
+    pub(crate) values: Emitted,
 }
 
 /// An attempt that has a fault in place of a job.
@@ -43,17 +53,17 @@ pub(crate) struct Refused {
 
 /// The rules of all nodes.
 #[derive(Drop)]
-pub(crate) struct Rules {
+pub(crate) struct TableRules {
     pub(crate) answers: Vec<Answer>,
-    pub(crate) strategies: Vec<(u32, Strategy)>,
+    pub(crate) strategies: Vec<Handling>,
     pub(crate) outputs: Vec<Told>,
     pub(crate) refused: Vec<Refused>,
 }
 
-impl Rules {
+impl TableRules {
     /// No rules.
-    pub(crate) fn new(alloc: Global) -> Rules {
-        Rules {
+    pub(crate) fn new(alloc: Global) -> TableRules {
+        TableRules {
             answers: Vec::new(alloc),
             strategies: Vec::new(alloc),
             outputs: Vec::new(alloc),
@@ -61,85 +71,51 @@ impl Rules {
         }
     }
 
-    /// The answer of a node's closure to an item: the item itself where no rule tells another.
-    pub(crate) fn answer(&self, node: u32, item: &Value) -> Result<Result<Value, EvalFault>, Mem> {
-        for rule in &self.answers {
-            if rule.node == node && rule.item == *item {
-                return match &rule.answer {
-                    Ok(value) => Ok(Ok(value.copy()?)),
-                    Err(fault) => Ok(Err(*fault)),
-                };
-            }
-        }
-        Ok(Ok(item.copy()?))
+    /// Whether the ticket's attempt has a job.
+    pub(crate) fn has_job(&self, ticket: &Ticket) -> bool {
+        let refused = self.refused.as_slice();
+        refusal_of(refused, ticket.node(), ticket.inputs(), ticket.attempt()).is_none()
+    }
+}
+
+impl Rules for TableRules {
+    ghost use Rattle.cases_schedules.specs.Table.{table_are_rules, table_rules};
+
+    ghost meaning = { λ t. table_rules t };
+
+    ghost keeps = { λ t. Unit {0} };
+
+    fn gives(&self, _alloc: Global, node: u32, item: &Value) -> Result<Value, EvalRefusal> {
+        answer_to(self.answers.as_slice(), node, item)
     }
 
-    /// The fault that an attempt has in place of a job, if it has one.
-    pub(crate) fn refusal(&self, node: u32, inputs: &Vals, attempt: u32) -> Option<EvalFault> {
-        for rule in &self.refused {
-            if rule.node == node
-                && rule.attempt == attempt
-                && rule.inputs.items() == inputs.items()
-            {
-                return Some(rule.fault);
-            }
+    fn job(
+        &self,
+        alloc: Global,
+        node: u32,
+        inputs: &Vals,
+        n: u32,
+        attempt: u32,
+    ) -> Result<Job, TaskRefusal> {
+        match refusal_of(self.refused.as_slice(), node, inputs, attempt) {
+            Some(fault) => Err(TaskRefusal::Fault(TaskFault::Eval(fault))),
+            None => Ok(echo_job(alloc, inputs, n, attempt)?),
         }
-        None
     }
 
-    /// What the report of an attempt at a process with these inputs comes to.
-    pub(crate) fn outputs(
+    fn outputs(
         &self,
         alloc: Global,
         node: u32,
         inputs: &Vals,
         attempt: u32,
         report: &Report,
-    ) -> Result<Result<Outputs, TaskFault>, Mem> {
-        if let Some(fault) = self.refusal(node, inputs, attempt) {
-            return Ok(Err(TaskFault::Eval(fault)));
-        }
-        if report.exit != 0 {
-            let fault = TaskFault::Exit {
-                status: report.exit,
-            };
-            return Ok(Ok(self.failed(node, attempt, fault)));
-        }
-        match &report.captured {
-            Captured::Text(text) => Ok(Ok(self.emits(alloc, node, text)?)),
-            Captured::None | Captured::Bad => Ok(Ok(self.failed(
-                node,
-                attempt,
-                TaskFault::BadStdout,
-            ))),
+    ) -> Result<Outputs, TaskRefusal> {
+        match refusal_of(self.refused.as_slice(), node, inputs, attempt) {
+            Some(fault) => Err(TaskRefusal::Fault(TaskFault::Eval(fault))),
+            None => Ok(outputs_of(alloc, self, node, attempt, report)?),
         }
     }
 
-    /// What becomes of a failed attempt.
-    fn failed(&self, node: u32, attempt: u32, fault: TaskFault) -> Outputs {
-        match self.strategy(node) {
-            Strategy::Ignore => Outputs::Ignored,
-            Strategy::Retry(times) if attempt <= times.min(100) => Outputs::Again,
-            Strategy::Terminate | Strategy::Retry(_) => Outputs::Failed(fault),
-        }
-    }
-
-    fn strategy(&self, node: u32) -> Strategy {
-        for (at, strategy) in &self.strategies {
-            if *at == node {
-                return *strategy;
-            }
-        }
-        Strategy::Terminate
-    }
-
-    /// What a process emits for this standard output.
-    fn emits(&self, alloc: Global, node: u32, text: &Txt) -> Result<Outputs, Mem> {
-        for rule in &self.outputs {
-            if rule.node == node && rule.text.as_str() == text.as_str() {
-                return Ok(Outputs::Emits(Emitted::of(copied(alloc, &rule.values)?)));
-            }
-        }
-        Ok(Outputs::Emits(Emitted::of(spelled(alloc, text)?)))
-    }
+    ghost proper = { λ t. table_are_rules t };
 }

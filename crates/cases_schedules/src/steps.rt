@@ -1,281 +1,165 @@
 //! What each step does.
 
+ghost use Rattle.std.specs.Prelude.{IfOk, OnOk};
+ghost use Rattle.cases_schedules.specs.Held.{IsSound};
+ghost use Rattle.cases_schedules.specs.Table.{table_rules};
+
 use crate::cases::Case;
-use crate::items::small;
-use crate::machine::Choice;
+use crate::machine::{Choice, Machine};
 use crate::outcomes::report_of;
-use crate::state::{LIMIT, Spot, State, Ticket};
+use crate::tickets::{hold, put_back, take_out};
 use anyhow::{Context, Result, bail};
-use nf_bag::OpFault;
-use nf_graph::{Node, NodeKind};
-use nf_job::{Outputs, TaskFault};
-use nf_machine::{Move, Stop};
-use nf_value::{Vals, Value, weight};
+use nf_flight::Ticket;
+use nf_job::Report;
+use nf_machine::{Cause, Move};
+use nf_steps::begin;
 use std::alloc::Global;
 
+/// The run of a row before its first step.
+pub(crate) fn opened(alloc: Global, case: &Case) -> Result<Machine>
+    ensures { IfOk result (IsSound (table_rules case.now.rules)) }
+{
+    let graph = case.graph.graph()?;
+    let flow = begin(alloc, graph, &case.rules)?;
+    Ok(Machine {
+        flow,
+        tickets: Vec::new(alloc),
+    })
+}
+
 /// Takes a step that may come next.
-pub(crate) fn step(alloc: Global, case: &Case, state: &mut State, choice: Choice) -> Result<()> {
+pub(crate) fn step(alloc: Global, case: &Case, machine: &mut Machine, choice: Choice) -> Result<()>
+    requires { IsSound (table_rules case.now.rules) machine.old }
+    ensures { OnOk result (IsSound (table_rules case.now.rules) machine.new) }
+{
     match choice {
-        Choice::Move(Move::Pass { port }) => pass(case, state, port),
-        Choice::Move(Move::Take { node, port, place }) => take(
-            alloc, case, state, node, port, place,
-        ),
-        Choice::Move(Move::Close { node }) => close(state, node),
-        Choice::Give(ticket) => give(case, state, ticket),
-        Choice::Start(ticket) => start(state, ticket),
-        Choice::Reuse(ticket) | Choice::Finish(ticket) => finish(alloc, case, state, ticket),
-        Choice::Refuse(ticket) => refuse(case, state, ticket),
-        Choice::GiveUp(ticket) => {
-            let _gone = state.take_ticket(ticket)?;
-            Ok(())
-        }
+        Choice::Move(step) => go(case, machine, step),
+        Choice::Give(place) => give(alloc, case, machine, place),
+        Choice::Start(place) => start(alloc, case, machine, place),
+        Choice::Reuse(place) => reuse(alloc, case, machine, place),
+        Choice::Finish(place) => finish(alloc, case, machine, place),
+        Choice::GiveUp(place) => give_up(case, machine, place),
     }
 }
 
-/// The node and the place there of a port among the ports of all nodes.
-fn port_at(case: &Case, place: u32) -> Result<(u32, u32)> {
-    let mut before = 0u32;
-    for (node, told) in case.nodes.iter().enumerate() {
-        let ports = small(told.ports.items().len())?;
-        let port = place.checked_sub(before).context("no such port")?;
-        if port < ports {
-            return Ok((small(node)?, port));
-        }
-        before = before.checked_add(ports).context("too many ports")?;
+/// Refuses the memory for a step: the run is stopped for want of it, and the step's ticket is given up.
+pub(crate) fn refuse(case: &Case, machine: &mut Machine, choice: Choice) -> Result<()>
+    requires { IsSound (table_rules case.now.rules) machine.old }
+    ensures { OnOk result (IsSound (table_rules case.now.rules) machine.new) }
+{
+    match choice {
+        Choice::Move(_) => halt(case, machine),
+        Choice::Give(place) => give_up(case, machine, place),
+        Choice::Start(place) => give_up(case, machine, place),
+        Choice::Reuse(place) => give_up(case, machine, place),
+        Choice::Finish(place) => give_up(case, machine, place),
+        Choice::GiveUp(place) => give_up(case, machine, place),
     }
-    bail!("no such port")
 }
 
-/// The next item waits at the port. Where the charge passes the limit it doesn't, and the run is stopped.
-fn pass(case: &Case, state: &mut State, place: u32) -> Result<()> {
-    let (node, port) = port_at(case, place)?;
-    let told = case.port(node, port).context("no such port")?;
-    let passed = *state
-        .spot(node)?
-        .passed
-        .as_slice()
-        .get(port as usize)
-        .context("no such port")?;
-    let item = state
-        .feed(told)?
-        .get(passed)
-        .context("no more items")?
-        .copy()?;
-    state.charge = state
-        .charge
-        .saturating_add(64)
-        .saturating_add(weight(&item));
-    let is_past = state.charge > LIMIT;
-    let spot = state.spot_mut(node)?;
-    *spot.passed.get_mut(port as usize).context("no such port")? = passed.saturating_add(1);
-    if is_past {
-        let sum = state.charge;
-        state.stop_for(Stop::Charge { sum });
-    } else {
-        spot.waiting
-            .get_mut(port as usize)
-            .context("no such port")?
-            .push(item)?;
-    }
+fn halt(case: &Case, machine: &mut Machine) -> Result<()>
+    requires { IsSound (table_rules case.now.rules) machine.old }
+    ensures { OnOk result (IsSound (table_rules case.now.rules) machine.new) }
+{
+    nf_steps::halt(&mut machine.flow, &case.rules);
     Ok(())
 }
 
-/// An item leaves a port, or a process without a queue port takes. It gets a ticket.
-fn take(
-    alloc: Global,
-    case: &Case,
-    state: &mut State,
-    node: u32,
-    port: u32,
-    place: u32,
-) -> Result<()> {
-    let told = case.node(node).context("no such node")?;
-    let number = state.next;
-    let spot = state.spot_mut(node)?;
-    let (inputs, n) = match &told.kind {
-        NodeKind::Source { .. } => bail!("a source takes nothing"),
-        NodeKind::Op { .. } => (Vals::of(vec![in alloc; leaving(spot, port, place)?]?), 0),
-        NodeKind::Process { queue } => process_inputs(alloc, told, spot, *queue, place)?,
+/// A legal move. For want of memory the run is stopped.
+fn go(case: &Case, machine: &mut Machine, step: Move) -> Result<()>
+    requires { IsSound (table_rules case.now.rules) machine.old }
+    ensures { OnOk result (IsSound (table_rules case.now.rules) machine.new) }
+{
+    if !machine.flow.is_legal(step) {
+        bail!("no legal move");
+    }
+    let Ok(ticket) = nf_steps::go(&mut machine.flow, &case.rules, step) else {
+        return Ok(());
     };
-    state.tickets.push(Ticket {
-        number,
-        node,
-        port,
-        inputs,
-        n,
-        attempt: 1,
-        is_started: false,
-    })?;
-    state.next = number.checked_add(1).context("too many tickets")?;
-    Ok(())
-}
-
-/// The item that leaves a port.
-fn leaving(spot: &mut Spot, port: u32, place: u32) -> Result<Value> {
-    let items = spot.waiting.get_mut(port as usize).context("no such port")?;
-    if place as usize >= items.len() {
-        bail!("no such item");
-    }
-    Ok(items.remove(place as usize))
-}
-
-/// The inputs that a process takes, with their number among equal ones.
-fn process_inputs(
-    alloc: Global,
-    node: &Node,
-    spot: &mut Spot,
-    queue: Option<u32>,
-    place: u32,
-) -> Result<(Vals, u32)> {
-    let mut inputs = Vec::new(alloc);
-    for (port, told) in node.ports.items().iter().enumerate() {
-        if told.value {
-            let items = spot.waiting.as_slice().get(port).context("no such port")?;
-            inputs.push(items.as_slice().first().context("no item")?.copy()?)?;
-        } else {
-            inputs.push(leaving(spot, queue.context("no queue")?, place)?)?;
-        }
-    }
-    let inputs = Vals::of(inputs);
-    let mut n = 0usize;
-    for taken in &spot.taken {
-        if taken.items() == inputs.items() {
-            n = n.saturating_add(1);
-        }
-    }
-    spot.taken.push(inputs.copy()?)?;
-    Ok((inputs, small(n)?))
-}
-
-/// The item is pushed with its answer.
-fn give(case: &Case, state: &mut State, number: u32) -> Result<()> {
-    let Ticket {
-        node,
-        port,
-        inputs,
-        ..
-    } = state.take_ticket(number)?;
-    let item = inputs.items().first().context("no item")?;
-    match case.rules.answer(node, item)? {
-        Ok(answer) => {
-            let spot = state.spot_mut(node)?;
-            if case.is_view(node) {
-                spot.printed.push(answer.copy()?)?;
-            }
-            let given = push(spot, port, item.copy()?, answer)?;
-            emitted(state, node, given)
-        }
-        Err(fault) => {
-            let item = item.copy()?;
-            state.stop_for(Stop::Item { node, item, fault });
+    match ticket {
+        Some(ticket) => {
+            hold(&mut machine.tickets, ticket)?;
             Ok(())
         }
+        None => Ok(()),
     }
 }
 
-fn push(
-    spot: &mut Spot,
-    port: u32,
-    item: Value,
-    answer: Value,
-) -> Result<Result<Vec<(u32, Value)>, OpFault>> {
-    let operator = spot.operator.as_mut().context("no operator")?;
-    if !operator.has_room() {
-        bail!("too many items");
-    }
-    Ok(operator.push(port, item, answer))
-}
-
-/// What an operator gives goes to its outputs, or its fault stops the run.
-fn emitted(state: &mut State, node: u32, given: Result<Vec<(u32, Value)>, OpFault>) -> Result<()> {
-    match given {
-        Ok(emits) => {
-            let spot = state.spot_mut(node)?;
-            for (out, value) in emits {
-                spot.emit(out as usize, value)?;
-            }
-        }
-        Err(OpFault::Mem) => bail!("want of memory"),
-        Err(fault) => state.stop_for(Stop::Op { node, fault }),
-    }
+fn give(alloc: Global, case: &Case, machine: &mut Machine, place: usize) -> Result<()>
+    requires { IsSound (table_rules case.now.rules) machine.old }
+    ensures { OnOk result (IsSound (table_rules case.now.rules) machine.new) }
+{
+    let Some(ticket) = take_out(&mut machine.tickets, place) else {
+        bail!("no such ticket");
+    };
+    nf_steps::give(alloc, &mut machine.flow, &case.rules, ticket);
     Ok(())
 }
 
-fn start(state: &mut State, number: u32) -> Result<()> {
-    let mut ticket = state.take_ticket(number)?;
-    ticket.is_started = true;
-    state.tickets.push(ticket)?;
-    Ok(())
-}
-
-/// The attempt's report comes back.
-fn finish(alloc: Global, case: &Case, state: &mut State, number: u32) -> Result<()> {
-    let mut ticket = state.take_ticket(number)?;
-    let attempt = ticket.attempt;
-    let found = report_of(
-        case.outcomes.as_slice(),
-        ticket.node,
-        &ticket.inputs,
-        ticket.n,
-        attempt,
+fn start(alloc: Global, case: &Case, machine: &mut Machine, place: usize) -> Result<()>
+    requires { IsSound (table_rules case.now.rules) machine.old }
+    ensures { OnOk result (IsSound (table_rules case.now.rules) machine.new) }
+{
+    let Some(ticket) = take_out(&mut machine.tickets, place) else {
+        bail!("no such ticket");
+    };
+    let back = nf_steps::start(
+        alloc,
+        &mut machine.flow,
+        &case.rules,
+        ticket,
+        Cause::NotAsked,
     );
-    let report = found.context("no report")?;
-    match case
-        .rules
-        .outputs(alloc, ticket.node, &ticket.inputs, attempt, report)?
-    {
-        Ok(Outputs::Emits(values)) => {
-            let spot = state.spot_mut(ticket.node)?;
-            for (out, value) in values.into_items().into_iter().enumerate() {
-                if let Some(value) = value {
-                    spot.emit(out, value)?;
-                }
-            }
-        }
-        Ok(Outputs::Ignored) => {}
-        Ok(Outputs::Again) => {
-            ticket.attempt = attempt.checked_add(1).context("too many attempts")?;
-            ticket.is_started = false;
-            state.tickets.push(ticket)?;
-        }
-        Ok(Outputs::Failed(fault)) | Err(fault) => fail(state, ticket, fault),
-    }
+    put_back(&mut machine.tickets, place, back);
     Ok(())
 }
 
-/// The attempt's fault, which it has in place of a job, stops the run.
-fn refuse(case: &Case, state: &mut State, number: u32) -> Result<()> {
-    let ticket = state.take_ticket(number)?;
-    let fault = case
-        .rules
-        .refusal(ticket.node, &ticket.inputs, ticket.attempt)
-        .context("a job")?;
-    fail(state, ticket, TaskFault::Eval(fault));
-    Ok(())
-}
-
-fn fail(state: &mut State, ticket: Ticket, fault: TaskFault) {
-    let Ticket {
-        node,
-        inputs,
-        n,
-        ..
-    } = ticket;
-    state.stop_for(Stop::Task {
-        node,
-        inputs,
-        n,
-        fault,
-    });
-}
-
-/// The node is closed, also where its operator's close has a fault.
-fn close(state: &mut State, node: u32) -> Result<()> {
-    let spot = state.spot_mut(node)?;
-    spot.is_closed = true;
-    let given = match spot.operator.as_mut() {
-        Some(operator) => operator.close(),
-        None => return Ok(()),
+/// A record has the report that the attempt would have.
+fn reuse(alloc: Global, case: &Case, machine: &mut Machine, place: usize) -> Result<()>
+    requires { IsSound (table_rules case.now.rules) machine.old }
+    ensures { OnOk result (IsSound (table_rules case.now.rules) machine.new) }
+{
+    let Some(ticket) = take_out(&mut machine.tickets, place) else {
+        bail!("no such ticket");
     };
-    emitted(state, node, given)
+    let report = report_for(case, &ticket)?;
+    let back = nf_steps::reuse(alloc, &mut machine.flow, &case.rules, ticket, report);
+    put_back(&mut machine.tickets, place, back);
+    Ok(())
+}
+
+fn finish(alloc: Global, case: &Case, machine: &mut Machine, place: usize) -> Result<()>
+    requires { IsSound (table_rules case.now.rules) machine.old }
+    ensures { OnOk result (IsSound (table_rules case.now.rules) machine.new) }
+{
+    let Some(ticket) = take_out(&mut machine.tickets, place) else {
+        bail!("no such ticket");
+    };
+    let report = report_for(case, &ticket)?;
+    let back = nf_steps::finish(alloc, &mut machine.flow, &case.rules, ticket, report);
+    put_back(&mut machine.tickets, place, back);
+    Ok(())
+}
+
+fn give_up(case: &Case, machine: &mut Machine, place: usize) -> Result<()>
+    requires { IsSound (table_rules case.now.rules) machine.old }
+    ensures { OnOk result (IsSound (table_rules case.now.rules) machine.new) }
+{
+    let Some(ticket) = take_out(&mut machine.tickets, place) else {
+        bail!("no such ticket");
+    };
+    nf_steps::give_up(&mut machine.flow, &case.rules, ticket);
+    Ok(())
+}
+
+/// The report of the ticket's attempt.
+fn report_for(case: &Case, ticket: &Ticket) -> Result<Report> {
+    let report = report_of(
+        case.outcomes.as_slice(),
+        ticket.node(),
+        ticket.inputs(),
+        ticket.n(),
+        ticket.attempt(),
+    );
+    Ok(report.context("no report")?.copy()?)
 }
