@@ -9,7 +9,7 @@ use std::alloc::{AllocError, Global};
 use std::test::Fail;
 
 /// The tree of an expression.
-fn read(alloc: Global, text: &str) -> Result<Expr, Fail> {
+pub(crate) fn read(alloc: Global, text: &str) -> Result<Expr, Fail> {
     let tokens = tokens(alloc, text.as_bytes())?;
     match expr(alloc, &tokens, 0) {
         Ok((expr, _next)) => Ok(expr),
@@ -17,7 +17,7 @@ fn read(alloc: Global, text: &str) -> Result<Expr, Fail> {
     }
 }
 
-fn read_closure(alloc: Global, text: &str) -> Result<ClosureExpr, Fail> {
+pub(crate) fn read_closure(alloc: Global, text: &str) -> Result<ClosureExpr, Fail> {
     match read(alloc, text)? {
         Expr::Closure(closure) => Ok(closure),
         _ => Err(Fail::from("no closure")),
