@@ -1,0 +1,7 @@
+//! What a call reads before it runs a script, each public function once.
+#![tactic(auto)]
+
+#[cfg(test)]
+mod forms;
+#[cfg(test)]
+mod sources;
