@@ -1,0 +1,12 @@
+mod Steps
+mod Chains
+mod Turns
+mod Once
+mod Known
+mod Labels
+mod ByName
+mod Settled
+mod Words
+mod Folders
+mod Listed
+mod Whole

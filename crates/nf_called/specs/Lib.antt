@@ -1,0 +1,10 @@
+pub mod Lists
+pub mod Formulas
+pub mod Leaves
+pub mod Inputs
+pub mod Names
+pub mod Options
+pub mod Outputs
+pub mod Publishing
+pub mod Directives
+pub mod Called
