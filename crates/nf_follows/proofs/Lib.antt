@@ -1,0 +1,4 @@
+pub mod Steps
+mod Growth
+pub mod Binds
+mod Rooming

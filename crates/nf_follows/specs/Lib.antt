@@ -1,0 +1,5 @@
+pub mod Follows
+pub mod Extends
+pub mod Things
+pub mod Lowers
+pub mod Rooms
