@@ -1,0 +1,12 @@
+pub mod Among
+pub mod Bound
+pub mod Texts
+pub mod Firsts
+pub mod EachKind
+pub mod Judging
+pub mod Growing
+pub mod Rounds
+pub mod Placing
+pub mod Leading
+pub mod Leads
+pub mod Whole
