@@ -1,0 +1,7 @@
+mod Lasting
+mod Planned
+mod Counting
+mod Converting
+mod Naming
+mod Beginning
+mod Opening
