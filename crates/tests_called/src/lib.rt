@@ -1,0 +1,5 @@
+//! A test of processes as their calls have them.
+#![tactic(auto)]
+
+#[cfg(test)]
+mod processes;
