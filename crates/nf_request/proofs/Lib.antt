@@ -1,0 +1,5 @@
+pub mod Reading
+pub mod Refused
+pub mod Texts
+pub mod Parameters
+pub mod Trees

@@ -1,0 +1,5 @@
+pub mod Words
+pub mod Wishes
+pub mod Held
+pub mod Script
+pub mod Steps
