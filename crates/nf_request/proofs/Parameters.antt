@@ -1,5 +1,5 @@
 -- The parameters of a run, by what was read of their file.
-use Rattle.std.proofs.Common.{◌≡◌, ◌≤◌, ℕ, List, [], length, Option, Some, None, Result, Ok, Err, IfSome, refl, sym, subst}
+use Rattle.std.proofs.Common.{◌≡◌, ◌≤◌, ℕ, List, length, Option, Some, None, Result, Ok, Err, IfSome, refl, subst}
 use Rattle.nf_host.specs.Files.{Files}
 use Rattle.nf_host.specs.Whole.{IsWhole, IsWithin}
 use Rattle.nf_host.specs.declared.host.HostRefusal.{HostRefusal}

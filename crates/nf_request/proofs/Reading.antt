@@ -1,5 +1,5 @@
 -- What was read stands at the path: of the host, if it tells its files, and else of some.
-use Rattle.std.proofs.Common.{◌≡◌, ℕ, ◌+◌, ◌<◌, ◌≤◌, List, length, replicate, Option, Some, None, IfSome, refl, sym, arith}
+use Rattle.std.proofs.Common.{◌≡◌, ℕ, ◌+◌, ◌<◌, List, length, replicate, Option, Some, None, IfSome, refl, sym, arith}
 use Rattle.std.proofs.lemmas.List.{length-replicate}
 use Rattle.nf_host.specs.Files.{Files}
 use Rattle.nf_host.specs.Whole.{IsWhole}

@@ -1,5 +1,5 @@
 -- The text of a script, by what was read.
-use Rattle.std.proofs.Common.{◌≡◌, ℕ, List, Option, Some, None, Result, Ok, Err, IfSome, sym, subst}
+use Rattle.std.proofs.Common.{◌≡◌, ℕ, List, Option, Some, None, Result, Ok, Err, IfSome, subst}
 use Rattle.nf_host.specs.Files.{Files}
 use Rattle.nf_host.specs.Whole.{IsWhole}
 use Rattle.nf_host.specs.declared.host.HostRefusal.{HostRefusal}

@@ -1,5 +1,5 @@
 -- The one tree of a text, or its one fault.
-use Rattle.std.proofs.Common.{◌≡◌, ℕ, ◌<◌, List, length, Result, Ok, Err, refl, ap, subst, arith}
+use Rattle.std.proofs.Common.{◌≡◌, ℕ, ◌<◌, List, length, refl, ap, subst, arith}
 use Rattle.nf_value.specs.declared.place.Place.{Place}
 use Rattle.nf_ast.specs.Tree.{Tree}
 use Rattle.nf_token.specs.declared.token.Lexeme.{Lexeme}
@@ -11,7 +11,6 @@ use Rattle.nf_lexer.specs.Tokens.{Refuses as LexRefuses}
 use Rattle.nf_exprs.specs.declared.fault.ParseFault.{ParseFault}
 use Rattle.nf_exprs.specs.declared.fault.ParseFault.TheVariants as parse
 use Rattle.nf_parser.specs.Spells.{Spells, Whole, IsUnexpected, IsTooDeep, Refuses}
-use Rattle.nf_ends.specs.declared.end.End.{End}
 use Rattle.nf_ends.specs.Causes.{end_of_lex, end_of_parse}
 use Rattle.nf_request.specs.Script.{SpellNone, IsOnlyScript, IsOnlyBreak, IsOnlyFault}
 use Rattle.nf_request.specs.Steps.{LacksTree}

@@ -1,5 +1,5 @@
 -- What a command says about the run of its script.
-use Rattle.std.specs.Prelude.{◌≡◌, ◌≤◌, ℕ, Bool, false, List, [], length, codes, unwrap_or, Option, Some, None, Result, Ok, Err}
+use Rattle.std.specs.Prelude.{◌≡◌, ◌≤◌, ℕ, Bool, false, List, [], length, codes, unwrap_or, Option, Some, None, Ok, Err}
 use Rattle.nf_value.specs.Plain.{Plain}
 use Rattle.nf_pairs.specs.Pairs.{put_all}
 use Rattle.nf_params.specs.Params.{params_in}

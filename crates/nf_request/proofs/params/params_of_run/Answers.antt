@@ -1,9 +1,7 @@
-use Rattle.std.proofs.Common.{ℕ, List, Option, Result, IfErr, Err, ap, sym, subst, ◌∙◌}
+use Rattle.std.proofs.Common.{ap, sym, subst, ◌∙◌}
 use Rattle.nf_pairs.specs.Pairs.{put_all}
-use Rattle.nf_ends.specs.declared.end.End.{End}
 use Rattle.nf_ends.specs.declared.end.End.TheVariants as end
-use Rattle.nf_request.specs.Held.{IsAtPath}
-use Rattle.nf_request.specs.Wishes.{Params, wish_of_run}
+use Rattle.nf_request.specs.Wishes.{wish_of_run}
 use Rattle.nf_request.specs.Steps.{GivesParams}
 use Rattle.nf_request.proofs.Refused.{err_is}
 use Rattle.nf_request.proofs.Parameters.{no_memory}
