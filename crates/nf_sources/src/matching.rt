@@ -17,8 +17,8 @@ use nf_shell::Stored;
 use nf_value::{FileRef, Mem, Txt};
 use std::alloc::Global;
 
-/// The folder that a path leads to: what stands before its last slash, and the folder that the program runs in for a path without one.
-/// Takes no memory.
+/// The folder that a path leads to: what stands before its last slash, and the folder that the program runs in for a
+/// path without one. Takes no memory.
 pub fn folder_at(path: &str) -> &str
     ensures { result.now ≡ folder_at_of path.now }
 {
@@ -28,16 +28,17 @@ pub fn folder_at(path: &str) -> &str
     }
 }
 
-/// The files of a folder that match a pattern, in the order of their names (Nextflow reference documentation, "Channel factories",
-/// "fromPath"). Each is read whole, and copied to the file store of the work folder unless it stands whole there (own).
+/// The files of a folder that match a pattern, in the order of their names (Nextflow reference documentation,
+/// "Channel factories", "fromPath"). Each is read whole, and copied to the file store of the work folder unless it
+/// stands whole there (own).
 ///
-/// If the host reveals its files and the folder isn't in the file store, these are exactly the folder's own files that match, with the
-/// digests and lengths of their bytes. Only the file store is written.
+/// If the host reveals its files and the folder isn't in the file store, these are exactly the folder's own files
+/// that match, with the digests and lengths of their bytes. Only the file store is written.
 ///
 /// # Errors
 ///
-/// `FileTooLong` if such a file has more than 1,099,511,627,775 bytes, with the path of the first. `Host` if the host failed in this call, which it counted, or if
-/// there is no memory.
+/// `FileTooLong` if such a file has more than 1,099,511,627,775 bytes, with the path of the first. `Host` if the host
+/// failed in this call, which it counted, or if there is no memory.
 pub fn matching_files<H: Host>(
     alloc: Global,
     host: &mut H,
