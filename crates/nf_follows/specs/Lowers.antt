@@ -7,13 +7,14 @@ use Rattle.nf_plan.specs.declared.builder.PlanBuilder.{PlanBuilder}
 use Rattle.nf_plan.specs.Runs.{Run, RunsNodes}
 use Rattle.nf_follows.specs.Extends.{Extends}
 
--- of a kind of state S in memory: its plan, and for which states of the walk it stands, with what all bodies have around them
+-- of a kind of state S in memory: its plan, and for which states of the walk it stands, with what all bodies have
+-- around them
 pub record Kind (S : Type 0) : Type 1 where
   pub plan : S → PlanBuilder
   pub Stands : Run → Around → S → State → Type 0
 
--- of a step: for what of the meaning what goes in stands, in the plan before it; the walk that it follows; and for what that comes out stands, in the plan
--- after it
+-- of a step: for what of the meaning what goes in stands, in the plan before it; the walk that it follows; and for
+-- what that comes out stands, in the plan after it
 pub record Owed (I A B : Type 0) : Type 1 where
   pub In : Run → PlanBuilder → I → Type 0
   pub walk : I → Walk B

@@ -15,8 +15,8 @@ ghost use Rattle.nf_follows.specs.Things.{ThingReads};
 
 use nf_graph::laws::added_later;
 
-/// A plan with a node more is one to which nodes were added behind, and so is one to which more were added then. The rules and outcomes of its
-/// run are those of its first nodes, and the bags of these stay.
+/// A plan with a node more is one to which nodes were added behind, and so is one to which more were added then. The
+/// rules and outcomes of its run are those of its first nodes, and the bags of these stay.
 pub fn plans_extend()
     ensures same { (b : PlanBuilder) → Extends b b }
     ensures one { (old : PlanBuilder) → (new : PlanBuilder) → (node : Node) → (info : NodeInfo) → Adds old new node info
@@ -31,7 +31,8 @@ pub fn plans_extend()
     added_later();
 }
 
-/// What a name stands for where a plan is made reads the plan, and stands for the same value, channel or outputs, after nodes are added behind.
+/// What a name stands for where a plan is made reads the plan, and stands for the same value, channel or outputs,
+/// after nodes are added behind.
 pub fn things_last()
     ensures reads { (old : PlanBuilder) → (new : PlanBuilder) → Extends old new → (t : PortThing) → ThingReads old t
         → ThingReads new t }
@@ -42,8 +43,8 @@ pub fn things_last()
     added_later();
 }
 
-/// A call that is counted keeps its room while its arguments are gone through, each of which may be calls that are counted and added. With its
-/// own node then, no more was added than was counted.
+/// A call that is counted keeps its room while its arguments are gone through, each of which may be calls that are
+/// counted and added. With its own node then, no more was added than was counted.
 pub fn rooms_last()
     ensures same { (b : PlanBuilder) → KeepsRoom b b }
     ensures again { (one : PlanBuilder) → (two : PlanBuilder) → (three : PlanBuilder) → KeepsRoom one two

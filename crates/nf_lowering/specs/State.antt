@@ -39,8 +39,8 @@ calls_in z = record {
   paths = process_paths z.plan.infos.items;
 }
 
--- What is known of it between two steps, whatever the script means: each thing that it holds reads its plan, and each process of the plan that
--- is called in the body at hand is of a name that is called there
+-- What is known of it between two steps, whatever the script means: each thing that it holds reads its plan, and each
+-- process of the plan that is called in the body at hand is of a name that is called there
 pub record IsLowering (z : Lowering) : Type 0 where
   pub plan : IsPlan z.plan
   pub names : (n : List ℕ) (t : Thing) → Holds z.names n t → ThingReads z.plan (thing_of t)

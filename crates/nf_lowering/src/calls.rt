@@ -15,7 +15,8 @@ use nf_meaning::laws::paths_stay_apart;
 use std::alloc::Global;
 
 impl Lowering {
-    /// Whether a process or a workflow of this name is called in the body, from the name of its call on. Takes no memory.
+    /// Whether a process or a workflow of this name is called in the body, from the name of its call on. Takes no
+    /// memory.
     pub fn is_called(&self, name: &str) -> bool
         ensures called { result ≡ contains_text self.now.called name.now }
         ensures walk { (braces : List (List (List ℕ))) (x : Run) (s : State) → StandsIn braces x self.now s
@@ -24,8 +25,9 @@ impl Lowering {
         self.called.contains(name)
     }
 
-    /// The call of a process or a workflow of this name begins. No call of the name may have begun in the body, and the name has no colon. In the
-    /// walk the path of a process that is called is kept; in memory its node has it later, and until then no other has it.
+    /// The call of a process or a workflow of this name begins. No call of the name may have begun in the body, and
+    /// the name has no colon. In the walk the path of a process that is called is kept; in memory its node has it
+    /// later, and until then no other has it.
     ///
     /// # Errors
     ///

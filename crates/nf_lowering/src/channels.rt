@@ -37,12 +37,13 @@ impl Lowering {
         self.plan.count(place, ports)
     }
 
-    /// A thing as a channel (Nextflow reference documentation, "Channels"): a value becomes a value channel, which counts as a source, and a
-    /// call with one output is that output. `place` is where its expression begins.
+    /// A thing as a channel (Nextflow reference documentation, "Channels"): a value becomes a value channel, which
+    /// counts as a source, and a call with one output is that output. `place` is where its expression begins.
     ///
     /// # Errors
     ///
-    /// `BadOption` at the place if it is what a call gives that hasn't one output; `TooManyNodes` as for `count`. `Mem` for want of memory.
+    /// `BadOption` at the place if it is what a call gives that hasn't one output; `TooManyNodes` as for `count`.
+    /// `Mem` for want of memory.
     pub fn channel(&mut self, alloc: Global, place: Place, thing: Thing) -> Result<Port, LowerFault>
         requires before { IsLowering self.old }
         requires reads { ThingReads self.old.plan (thing_of thing) }
