@@ -66,7 +66,7 @@ pub record IsEnded (F : Opening) (z : Seen) (t : Ticket) (job : JobParts) (r : R
 
 module _ {D : Type 0} {genuine : D → Type 0} {job_in : D → List ℕ} {told : D → Report} where
   pub ended : (F : Opening) (f z : Seen) (t : Ticket) (job : JobParts) (x : Ran D) → f ≡ z → IsFlying z t → IsTask z t → IsJobOf F.rules (attempt_by t) job → IsStarted f t true
-      → IsEnteredBy F genuine job_in told t job x → IsEnded F f t job (report_of x) (outs_of x) (bytes_of x)
+      → IsEnteredBy F (record { genuine = genuine; job = job_in; told = told }) t job x → IsEnded F f t job (report_of x) (outs_of x) (bytes_of x)
   ended F f z t job x is flying task of started by = record {
     flying = subst (λ y. IsFlying y t) (sym is) flying;
     task = task_here f z t is task;
@@ -78,7 +78,7 @@ module _ {D : Type 0} {genuine : D → Type 0} {job_in : D → List ℕ} {told :
   }
 
   pub done_so : (F : Opening) (f : Seen) (t : Ticket) (job : JobParts) (x : Ran D) (flying : IsFlying f t) → IsJobOf F.rules (attempt_by t) job
-      → IsEnteredBy F genuine job_in told t job x → IsDoneOf genuine job_in told F.rules (done_of x) (record { attempt = attempt_at flying.ticket; report = report_of x })
+      → IsEnteredBy F (record { genuine = genuine; job = job_in; told = told }) t job x → IsDoneOf genuine job_in told F.rules (done_of x) (record { attempt = attempt_at flying.ticket; report = report_of x })
   done_so F f t job x flying of by = record {
     real = by.real;
     text = record { job = job; of = job_at F.rules t flying.ticket job flying.is of; is = by.text };

@@ -84,9 +84,15 @@ abbrev pub EndsOrUp : Seen → Ticket → Event → Outs → Option Ticket → S
 EndsOrUp old t x outs (Some u) new = Ends old t x outs (Some u) new
 EndsOrUp old t x outs None new = Ends old t x outs None new ⊎ GivesUp old t new
 
+-- what a lane says of its Dones: which are genuine, and of each the text of its job and the report
+pub record Saying (D : Type 0) : Type 1 where
+  pub genuine : D → Type 0
+  pub job : D → List ℕ
+  pub told : D → Report
+
 -- what may be entered for the ticket's job: a genuine Done of the job, whose report one of the lanes' worlds gives, with what the rules make of it
-pub record IsEnteredBy (F : Opening) {D : Type 0} (genuine : D → Type 0) (job_of : D → List ℕ) (told : D → Report) (t : Ticket) (job : JobParts) (x : Ran D) : Type 0 where
-  pub real : genuine (done_of x)
-  pub text : job_of (done_of x) ≡ job_text job
-  pub ran : IsRan F.rules t job (done_of x) (told (done_of x)) x
+pub record IsEnteredBy (F : Opening) {D : Type 0} (says : Saying D) (t : Ticket) (job : JobParts) (x : Ran D) : Type 0 where
+  pub real : says.genuine (done_of x)
+  pub text : says.job (done_of x) ≡ job_text job
+  pub ran : IsRan F.rules t job (done_of x) (says.told (done_of x)) x
   pub world : GivesReport F (job_text job) (report_of x)

@@ -1,6 +1,6 @@
 //! Steps of a flow alone, which the calls of a run are made of.
 
-ghost use Rattle.std.specs.Prelude.{◌≡◌, MatchBool, true};
+ghost use Rattle.std.specs.Prelude.{◌≡◌, ◌<◌, ◌++◌, ◌∷◌, [], MatchBool, true, vec_capacity, vec_len};
 ghost use Rattle.nf_machine.specs.declared.event.Event.TheVariants as e;
 ghost use Rattle.nf_flight.specs.Ticket.{number_of};
 ghost use Rattle.nf_flow.specs.Seen.{MayAdd, grown};
@@ -81,4 +81,12 @@ pub(crate) fn start_in(flow: &mut Flow, ticket: Ticket, cause: Cause) -> Option<
     }
     flow.start(&ticket, cause);
     Some(ticket)
+}
+
+/// Keeps a Done behind the others, for which there is room. Takes no memory.
+pub(crate) fn keep_done<D: Drop>(dones: &mut Vec<D>, done: D)
+    requires { vec_len dones.old < vec_capacity dones.old }
+    ensures { dones.new.items ≡ dones.old.items ++ done ∷ [] }
+{
+    dones.push_reserved(done);
 }

@@ -17,7 +17,7 @@ ghost use Rattle.nf_core.specs.Kept.{LeavesRecord};
 ghost use Rattle.nf_core.specs.Records.{key_of};
 
 use crate::fixed::Fixed;
-use crate::leaves::{can_end, can_start, give_back};
+use crate::leaves::{can_end, can_start, give_back, keep_done};
 use crate::ran::Ran;
 use crate::run_state::RunState;
 use nf_flight::Ticket;
@@ -102,7 +102,8 @@ impl<L: Lane, K: Keeper, J: Fixed> RunState<L, K, J> {
         requires ticket { IsFlying self.old ticket }
         requires task { IsTask self.old ticket }
         requires job { IsJobOf J.facts.rules (attempt_by ticket) job.now }
-        requires ran { IsEnteredBy J.facts L.Done.genuine L.Done.job L.Done.told ticket job.now ran }
+        requires ran { IsEnteredBy J.facts
+            (record { genuine = L.Done.genuine; job = L.Done.job; told = L.Done.told }) ticket job.now ran }
         ensures { EndsOrUp self.old ticket (e.Finish (number_of ticket) (report_of ran) (outs_of ran)) (outs_of ran) result self.new }
     {
         records_read_back();
@@ -141,7 +142,7 @@ impl<L: Lane, K: Keeper, J: Fixed> RunState<L, K, J> {
         let Ok(back) = flow.finish(ticket, rules, report, outs) else {
             return None;
         };
-        kept.dones.push_reserved(done);
+        keep_done(&mut kept.dones, done);
         back
     }
 

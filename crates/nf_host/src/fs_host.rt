@@ -21,10 +21,21 @@ const CHILD_COMMAND: &str =
 
 /// The files and processes of the system that the program runs on. It doesn't reveal them. A path that is missing, empty or
 /// leads through a plain file is absent; a folder in a file's place is a failure (own).
+///
+/// It keeps the file open that it made last, so that the pieces of a long file are written without opening it anew. It closes
+/// that file before it makes or renames a file, clears a folder or starts a child.
 #[derive(Drop)]
-pub struct FsHost<R> {
+pub struct FsHost<R: Files> {
     rt: R,
     faults: u64,
+    written: Option<Written<R::File>>,
+}
+
+// The file that was made last, and its path.
+#[derive(Drop)]
+struct Written<F> {
+    path: String,
+    file: F,
 }
 
 impl<R: Files + Processes + Copy + Drop> FsHost<R> {
@@ -34,7 +45,11 @@ impl<R: Files + Processes + Copy + Drop> FsHost<R> {
     pub fn new(rt: R) -> FsHost<R>
         ensures { faults_of result ≡ 0 }
     {
-        FsHost { rt, faults: 0 }
+        FsHost {
+            rt,
+            faults: 0,
+            written: None,
+        }
     }
 
     fn fail(&mut self) -> HostRefusal
@@ -100,29 +115,38 @@ impl<R: Files + Processes + Copy + Drop> Host for FsHost<R> {
     }
 
     fn clear_dir(&mut self, alloc: Global, dir: &str) -> Result<(), HostRefusal> {
+        self.written = None;
         match self.rt.remove_dir_all(alloc, dir) {
             Err(error) if is_absence(&error) => Ok(()),
             cleared => self.count(cleared),
         }
     }
 
-    fn create(&mut self, _alloc: Global, path: &str) -> Result<(), HostRefusal> {
+    fn create(&mut self, alloc: Global, path: &str) -> Result<(), HostRefusal> {
+        self.written = None;
+        let name = String::from_str(alloc, path)?;
         let created = File::create(&self.rt, path);
-        let _ = self.count(created)?;
+        let file = self.count(created)?;
+        self.written = Some(Written { path: name, file });
         Ok(())
     }
 
     fn append(&mut self, _alloc: Global, path: &str, piece: &[u8]) -> Result<(), HostRefusal> {
-        let appended = append_all(&self.rt, path, piece);
+        let appended = match &mut self.written {
+            Some(written) if written.path.as_str() == path => written.file.write_all(piece),
+            _ => append_all(&self.rt, path, piece),
+        };
         self.count(appended)
     }
 
     fn rename(&mut self, _alloc: Global, from: &str, to: &str) -> Result<(), HostRefusal> {
+        self.written = None;
         let renamed = fs::rename(&self.rt, from, to);
         self.count(renamed)
     }
 
     fn child(&mut self, alloc: Global, dir: &str) -> Result<i32, HostRefusal> {
+        self.written = None;
         let status = run_child(&self.rt, alloc, dir);
         Ok(status_of(self.count(status)?))
     }

@@ -59,7 +59,7 @@ falls_so law R z y x is graph rules lawful =
 -- ---- one way after another
 
 -- nothing was entered
-goes_nowhere : (z : Seen) (a b : LaneNow) → b.runs ≡ a.runs → a.faults ≤ b.faults → Goes z z a b
+pub goes_nowhere : (z : Seen) (a b : LaneNow) → b.runs ≡ a.runs → a.faults ≤ b.faults → Goes z z a b
 goes_nowhere z a b runs faults = record {
   events = [];
   graph = refl;
@@ -117,7 +117,7 @@ goes_one z f x a b is runs faults blame = record {
   by_place t (inr q) = blame t q
 
 -- an event for which no lane runs and none is blamed
-alone_one : (z f : Seen) (x : Event) → is_start x ≡ false → ((t : ℕ) → x ≡ e.Abort t (Some (s.Outside Lane)) → ⊥) → f ≡ grown z x → work_of f < work_of z → GoesAlone z f
+pub alone_one : (z f : Seen) (x : Event) → is_start x ≡ false → ((t : ℕ) → x ≡ e.Abort t (Some (s.Outside Lane)) → ⊥) → f ≡ grown z x → work_of f < work_of z → GoesAlone z f
 alone_one z f x still clean is less = record {
   goes = λ l. goes_one z f x l l is (let w : ◌≡◌ {A = ℕ} (cond (is_start x) 1 0) 0 = rw still refl in omega (arith, w)) (omega arith) (λ t h. absurd (clean t h));
   less = less;

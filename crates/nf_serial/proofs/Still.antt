@@ -49,16 +49,16 @@ still_is_over law R z graph lawful idle no_pass no_take no_close = by_test (is_o
 
 -- ---- how much is left
 
-lawful_front : (g : List PlainNode) (R : Rules) (s : State) (xs ys : List PlainEvent) → IsLawful g R s (xs ++ ys) → IsLawful g R s xs
+pub lawful_front : (g : List PlainNode) (R : Rules) (s : State) (xs ys : List PlainEvent) → IsLawful g R s (xs ++ ys) → IsLawful g R s xs
 lawful_front g R s [] ys l = tt
 lawful_front g R s (x ∷ xs) ys l = (l.0, lawful_front g R (step g s x) xs ys l.1)
 
-lawful_last : (g : List PlainNode) (R : Rules) (s : State) (xs : List PlainEvent) (e : PlainEvent) → IsLawful g R s (xs ++ e ∷ []) → IsLegal g R (replay g s xs) e
+pub lawful_last : (g : List PlainNode) (R : Rules) (s : State) (xs : List PlainEvent) (e : PlainEvent) → IsLawful g R s (xs ++ e ∷ []) → IsLegal g R (replay g s xs) e
 lawful_last g R s [] e l = l.0
 lawful_last g R s (x ∷ xs) e l = lawful_last g R (step g s x) xs e l.1
 
 -- later there is no more to do than before
-less_later : Falls → (g : List PlainNode) (R : Rules) (xs ys : List PlainEvent) → IsGraph g → IsRules R → IsHistory g R (xs ++ ys) → work g (after g (xs ++ ys)) ≤ work g (after g xs)
+pub less_later : Falls → (g : List PlainNode) (R : Rules) (xs ys : List PlainEvent) → IsGraph g → IsRules R → IsHistory g R (xs ++ ys) → work g (after g (xs ++ ys)) ≤ work g (after g xs)
 less_later law g R xs [] graph rules l = let e = ap (λ h. work g (after g h)) (append-nil xs) in omega (arith, e)
 less_later law g R xs (y ∷ ys) graph rules l =
     let moved : xs ++ y ∷ ys ≡ (xs ++ y ∷ []) ++ ys = sym (append_assoc xs (y ∷ []) ys) in
@@ -85,7 +85,7 @@ open_work node (source items) = let a = nothing_waits (length node.ports) in let
 open_work node (operator op) = let a = nothing_waits (length node.ports) in let b = new_at_most node.kind [] in omega (arith, a, b)
 open_work node (process q) = let a = nothing_waits (length node.ports) in let b = new_at_most node.kind [] in omega (arith, a, b)
 
-opening_work : (g : List PlainNode) (n : ℕ) → work_to g (opening g).spots n ≤ 2 * n
+pub opening_work : (g : List PlainNode) (n : ℕ) → work_to g (opening g).spots n ≤ 2 * n
 opening_work g zero = omega arith
 opening_work g (suc i) = let a = opening_work g i in let b = open_work (node_at g i) (node_at g i).kind in omega (arith, a, b)
 

@@ -42,7 +42,7 @@ use Rattle.nf_core.proofs.Orderly.{made}
 
 -- ---- who is in flight
 
-tickets_grown : (z f : Seen) (x : Event) → f ≡ grown z x → (state_of f).tickets ≡ (step (plain_of z) (state_of z) (event_in z x)).tickets
+pub tickets_grown : (z f : Seen) (x : Event) → f ≡ grown z x → (state_of f).tickets ≡ (step (plain_of z) (state_of z) (event_in z x)).tickets
 tickets_grown z f x is = ap (λ y. (state_of y).tickets) is ∙ ap (λ u. u.tickets) (state_grown z x)
 
 pub alone_flying : (z : Seen) (t : Ticket) → IsAlone z t → IsFlying z t
@@ -50,7 +50,7 @@ alone_flying z t a = record { ticket = a.ticket; there = here a.ticket (state_of
 
 -- ---- moves
 
-pass_stays : (s : State) (i k : ℕ) (x : Plain) → (do_pass s i k x).tickets ≡ s.tickets
+pub pass_stays : (s : State) (i k : ℕ) (x : Plain) → (do_pass s i k x).tickets ≡ s.tickets
 pass_stays s i k x = by_test (nat_lt limit (s.charge + cost x)) where
   sp : Spot
   sp = passed_on (s.spots i) k
@@ -60,7 +60,7 @@ pass_stays s i k x = by_test (nat_lt limit (s.charge + cost x)) where
   by_test true = refl
   by_test false = refl
 
-close_stays : (s : State) (i : ℕ) (r : Given) → (do_close s i r).tickets ≡ s.tickets
+pub close_stays : (s : State) (i : ℕ) (r : Given) → (do_close s i r).tickets ≡ s.tickets
 close_stays s i (Ok es) = refl
 close_stays s i (Err f) = refl
 
@@ -100,7 +100,7 @@ one_found ts m k n one found = elim (cases_Bool (m.number == n)) [
   | inr e ↦ (let a : None ≡ Some k = rw (one, e) at found in absurd (cc))
 ]
 
-one_input : (node : PlainNode) (kind : Kind) (sp : Spot) (x : Plain) → IsOperatorKind kind → inputs_in node kind sp x ≡ x ∷ []
+pub one_input : (node : PlainNode) (kind : Kind) (sp : Spot) (x : Plain) → IsOperatorKind kind → inputs_in node kind sp x ≡ x ∷ []
 one_input node (source items) sp x h = absurd h
 one_input node (operator op) sp x h = refl
 one_input node (process queue) sp x h = absurd h
@@ -156,7 +156,7 @@ took_none z f r x at idle err = halt_idle z f idle (subst (λ o. OnErr o (f ≡ 
 
 -- ---- whose ticket it is
 
-plain_at : (nodes : List Node) (i : ℕ) (n : Node) → n ≡ get_or nodes i n → i < length nodes → node_at (plain_graph nodes) i ≡ plain_node n
+pub plain_at : (nodes : List Node) (i : ℕ) (n : Node) → n ≡ get_or nodes i n → i < length nodes → node_at (plain_graph nodes) i ≡ plain_node n
 plain_at [] i n is l = absurd (omega arith)
 plain_at (m ∷ nodes) zero n is l = ap plain_node (sym is)
 plain_at (m ∷ nodes) (suc i) n is l = plain_at nodes i n is (omega arith)
@@ -166,7 +166,7 @@ past_all [] i l = refl
 past_all (m ∷ nodes) zero l = absurd (omega arith)
 past_all (m ∷ nodes) (suc i) l = past_all nodes i (omega arith)
 
-kind_within : (nodes : List Node) (i : ℕ) → IsOperatorKind (node_at (plain_graph nodes) i).kind ⊎ IsProcessKind (node_at (plain_graph nodes) i).kind → i < length nodes
+pub kind_within : (nodes : List Node) (i : ℕ) → IsOperatorKind (node_at (plain_graph nodes) i).kind ⊎ IsProcessKind (node_at (plain_graph nodes) i).kind → i < length nodes
 kind_within nodes i kind = elim (cases_Bool (nat_lt i (length nodes))) [
   | inl e ↦ grind (arith, nat_tests, e)
   | inr e ↦ (let past : length nodes ≤ i = grind (arith, nat_tests, e) in absurd (none kind (past_all nodes i past)))
@@ -179,7 +179,7 @@ pub node_within : (z : Seen) (t : Ticket) → HasItem z t ⊎ HasTask z t → no
 node_within z t (inl i) = kind_within z.graph (node_of t) (inl i.kind)
 node_within z t (inr h) = kind_within z.graph (node_of t) (inr h.task)
 
-not_both : (kind : Kind) → IsOperatorKind kind → IsProcessKind kind → ⊥
+pub not_both : (kind : Kind) → IsOperatorKind kind → IsProcessKind kind → ⊥
 not_both (source items) a b = a
 not_both (operator op) a b = b
 not_both (process queue) a b = a
@@ -243,7 +243,7 @@ pub gave_idle : (z f : Seen) (t : Ticket) (answer : Result Value EvalFault) → 
 gave_idle z f t answer a (inl is) = tickets_grown z f (e.Give (number_of t) answer) is ∙ give_idle (plain_of z) (state_of z) (number_of t) a.ticket a.alone a.is.number _
 gave_idle z f t answer a (inr up) = up_idle z f t a up
 
-task_on : (z f : Seen) (t : Ticket) (x : Event) → f ≡ grown z x → IsTask z t → IsTask f t
+pub task_on : (z f : Seen) (t : Ticket) (x : Event) → f ≡ grown z x → IsTask z t → IsTask f t
 task_on z f t x is task = subst (λ y. IsTask y t) (sym is) task
 
 pub start_task : (z f : Seen) (t : Ticket) (cause : Cause) → HasTask z t → f ≡ grown z (e.Start (number_of t) cause) → HasTask f t
@@ -262,7 +262,7 @@ start_task z f t cause h is = record {
   i = h.alone.is
 
 -- the same take with one report more
-again_is : (t : Ticket) (k : machine.Ticket) (r : Report) → IsTicket t k → IsTicket (next_attempt t) (record k { told = k.told ++ r ∷ []; started = false })
+pub again_is : (t : Ticket) (k : machine.Ticket) (r : Report) → IsTicket t k → IsTicket (next_attempt t) (record k { told = k.told ++ r ∷ []; started = false })
 again_is t k r i = record {
   number = i.number;
   node = i.node;
@@ -273,7 +273,7 @@ again_is t k r i = record {
 }
 
 -- a ticket that came back for its next attempt is a task's, alone in flight
-again_back : (z f : Seen) (t u : Ticket) (x : Event) (r : Report) (h : HasTask z t) → f ≡ grown z x → u ≡ next_attempt t
+pub again_back : (z f : Seen) (t u : Ticket) (x : Event) (r : Report) (h : HasTask z t) → f ≡ grown z x → u ≡ next_attempt t
     → (step (plain_of z) (state_of z) (event_in z x)).tickets ≡ record h.alone.ticket { told = h.alone.ticket.told ++ r ∷ []; started = false } ∷ [] → HasTask f u
 again_back z f t u x r h is next tickets = subst (HasTask f) (sym next) (record {
   alone = record {

@@ -33,7 +33,8 @@ pub(crate) fn ran_by<L: Lane, K: Keeper, J: Fixed, R: Rules>(
     ensures once { L.runs lane.new ≡ L.runs lane.old + 1 }
     ensures later { Later (lane_now (L.runs lane.old) (L.faults lane.old) (L.world lane.old) (L.store lane.old))
         (lane_now (L.runs lane.new) (L.faults lane.new) (L.world lane.new) (L.store lane.new)) }
-    ensures ran { MatchResult result (IsEnteredBy J.facts L.Done.genuine L.Done.job L.Done.told ticket.now job.now)
+    ensures ran { MatchResult result (IsEnteredBy J.facts
+        (record { genuine = L.Done.genuine; job = L.Done.job; told = L.Done.told }) ticket.now job.now)
         (IsLaneStop (L.faults lane.old) (L.faults lane.new)) }
 {
     let done = match lane.run(run.alloc(), job) {

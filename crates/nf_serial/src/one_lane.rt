@@ -38,7 +38,7 @@ pub fn serial<L: Lane, K: Keeper, J: Fixed, R: Rules>(
     requires keeps { R.keeps rules.now }
     requires idle { IsIdle run.old }
     requires lane { IsLane J.facts (L.world lane.old) (L.store lane.old) }
-    requires runs { L.runs lane.old < 2 ^ 62 + 2 ^ 32 }
+    requires runs { L.runs lane.old < 2 ^ 62 + 2 ^ 35 }
     ensures over { is_over (plain_of run.new) (state_of run.new) ≡ true }
     ensures idle { IsIdle run.new }
     ensures lawful { IsHistory (plain_of run.new) J.facts.rules (events_of run.new) }

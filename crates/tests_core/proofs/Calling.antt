@@ -75,7 +75,7 @@ starts_so law F z f t u cause o lawful flying next is =
 -- what a lane gave may be entered
 pub entered : {D : Type 0} (F : Opening) (genuine : D → Type 0) (job_in : D → List ℕ) (told : D → Report) (t : Ticket) (job : JobParts) (d : D) (x : Ran D) (world : Option World) (store : Option Store)
     → IsTried F → IsLane F world store → IfSome world (λ w. told d ≡ lanes.report_of w (job_text job)) → genuine d → job_in d ≡ job_text job → IsRan tried_rules t job d (told d) x
-    → IsEnteredBy F genuine job_in told t job x
+    → IsEnteredBy F (record { genuine = genuine; job = job_in; told = told }) t job x
 entered {D} F genuine job_in told t job d x world store tried lane steady real text ran = record {
   real = subst genuine (sym ran.done_is) real;
   text = ap job_in ran.done_is ∙ text;

@@ -128,8 +128,8 @@ pub invariant_of-self-2 : goal.invariant_of-self-2
 invariant_of-self-2 g c =
     let f = c.self.inside.flow in let z = c.args.self.now in let t = c.args.ticket in let job = c.args.job.now in let x = c.args.ran in let can = c.if-not-can_end.ensures in let u = c.finish.new.self in
     let k = ended g.J.Fixed.facts f z t job x c.self.view_is c.requires.ticket c.requires.task c.requires.job can.started c.requires.ran in
-    kept_ended _ _ _ c.records_read_back.ensures c.no_front_is_a_record.ensures t job (report_of x) (outs_of x) (bytes_of x) u (done_of x) c.reserve.new.self.items c.push_reserved.new.self.items
-    (g.K.Keeper.held c.put_record.new.keeper) (g.K.Keeper.faults c.put_record.new.keeper) c.self.invariant k c.reserve.ensures.items c.push_reserved.ensures.items
+    kept_ended _ _ _ c.records_read_back.ensures c.no_front_is_a_record.ensures t job (report_of x) (outs_of x) (bytes_of x) u (done_of x) c.reserve.new.self.items c.keep_done.new.dones.items
+    (g.K.Keeper.held c.put_record.new.keeper) (g.K.Keeper.faults c.put_record.new.keeper) c.self.invariant k c.reserve.ensures.items c.keep_done.ensures
     (done_so g.J.Fixed.facts f t job x k.flying c.requires.job c.requires.ran) c.in-Ok-put_record.ensures.content c.put_record.ensures.later
     (grown_on f c.can_end.new.flow u (e.Finish (number_of t) (report_of x) (outs_of x)) can.room c.in-Ok-finish.ensures.ok)
 
