@@ -138,7 +138,7 @@ pub alone_taken : {A E : Type 0} (z f : Seen) (i p k : ℕ) (r : Result A E) →
 alone_taken z f i p k (Ok v) ok err falls = alone_one z f (take_of z i p k) refl (λ t h. cc) ok (falls z (take_of z i p k) ok)
 alone_taken z f i p k (Err v) ok err falls = alone_halt z f err falls
 
-cause_same : (n t : ℕ) (c d : Option Stop) → e.Abort n c ≡ e.Abort t d → c ≡ d
+pub cause_same : (n t : ℕ) (c d : Option Stop) → e.Abort n c ≡ e.Abort t d → c ≡ d
 cause_same n t c d h = ap cause_of h
 
 pub alone_lost : (z f : Seen) (n : ℕ) (cause : Option Stop) → cause ≢ Some (s.Outside Lane) → f ≡ grown z (e.Abort n cause) → work_of f < work_of z → GoesAlone z f

@@ -94,7 +94,7 @@ ready_legal z (v.Close node) h = h.2
 -- ---- takes
 
 -- the one ticket is the one that is found
-one_found : (ts : List machine.Ticket) (m k : machine.Ticket) (n : ℕ) → ts ≡ m ∷ [] → ticket_at n ts ≡ Some k → k ≡ m
+pub one_found : (ts : List machine.Ticket) (m k : machine.Ticket) (n : ℕ) → ts ≡ m ∷ [] → ticket_at n ts ≡ Some k → k ≡ m
 one_found ts m k n one found = elim (cases_Bool (m.number == n)) [
   | inl e ↦ (let a : Some m ≡ Some k = rw (one, e) at found in let b : k ≡ m = cc in b)
   | inr e ↦ (let a : None ≡ Some k = rw (one, e) at found in absurd (cc))
@@ -105,7 +105,7 @@ one_input node (source items) sp x h = absurd h
 one_input node (operator op) sp x h = refl
 one_input node (process queue) sp x h = absurd h
 
-takers : (node : PlainNode) (kind : Kind) (sp : Spot) (port place : ℕ) → legal.MayTake node kind sp port place → IsOperatorKind kind ⊎ IsProcessKind kind
+pub takers : (node : PlainNode) (kind : Kind) (sp : Spot) (port place : ℕ) → legal.MayTake node kind sp port place → IsOperatorKind kind ⊎ IsProcessKind kind
 takers node (source items) sp port place h = absurd h
 takers node (operator op) sp port place h = inl tt
 takers node (process queue) sp port place h = inr tt
