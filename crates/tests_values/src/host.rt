@@ -24,6 +24,12 @@ const CHILD_INPUT: &str = "nf_host_test_child/below/.command.in";
 
 const CHILD_OUTPUT: &str = "nf_host_test_child/below/.command.out";
 
+const PIECES: &str = "nf_host_test_pieces";
+
+const FIRST: &str = "nf_host_test_pieces/first";
+
+const LAST: &str = "nf_host_test_pieces/last";
+
 const MISSING: &str = "nf_host_test_files/missing";
 
 fn counted(alloc: Global, len: usize) -> Result<Vec<u8>, AllocError> {
@@ -267,6 +273,30 @@ fn children_of_the_system(rt: HostRuntime) -> Result<(), Fail> {
     host.clear_dir(alloc, CHILD)?;
     assert!(rt; host.list(alloc, CHILD)?.is_none());
     assert_eq!(rt; host.faults(), 0);
+    Ok(())
+}
+
+// A file that is renamed, cleared or made anew takes no more pieces under its old path.
+#[test]
+fn pieces_of_a_file(rt: HostRuntime) -> Result<(), Fail> {
+    let alloc = rt.alloc();
+    let mut host = FsHost::new(&rt);
+    host.make_dir(PIECES)?;
+    host.create(alloc, FIRST)?;
+    host.append(alloc, FIRST, b"a")?;
+    host.append(alloc, FIRST, b"b")?;
+    assert!(rt; reads(&mut host, alloc, FIRST, b"ab"));
+    host.rename(alloc, FIRST, LAST)?;
+    host.append(alloc, FIRST, b"c")?;
+    assert!(rt; reads(&mut host, alloc, LAST, b"ab"));
+    host.create(alloc, LAST)?;
+    host.append(alloc, FIRST, b"d")?;
+    assert!(rt; reads(&mut host, alloc, FIRST, b"cd"));
+    assert!(rt; reads(&mut host, alloc, LAST, b""));
+    host.clear_dir(alloc, PIECES)?;
+    assert_eq!(rt; host.faults(), 0);
+    assert!(rt; host.append(alloc, LAST, b"e").is_err());
+    assert_eq!(rt; host.faults(), 1);
     Ok(())
 }
 
