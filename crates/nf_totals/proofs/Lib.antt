@@ -1,0 +1,4 @@
+pub mod Named
+pub mod Folded
+pub mod Signed
+pub mod Bodies
