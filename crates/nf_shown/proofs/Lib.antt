@@ -1,0 +1,5 @@
+pub mod Printed
+pub mod Events
+pub mod Kept
+pub mod Histories
+pub mod Lists
