@@ -1,0 +1,5 @@
+mod Lists
+mod Arguments
+mod Forms
+pub mod Behind
+mod Splits
