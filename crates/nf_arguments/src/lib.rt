@@ -5,8 +5,6 @@ mod args;
 mod closures;
 mod counts;
 mod one;
-#[cfg(test)]
-mod tests;
 mod written;
 
 pub use args::{Args, Before};

@@ -1,0 +1,6 @@
+mod Lists
+mod Sizes
+mod Arms
+mod Naming
+mod Things
+mod Outputs
