@@ -1,6 +1,6 @@
 -- What a thing is as a channel.
 use Rattle.std.specs.Prelude.{IfOk}
-use Rattle.std.proofs.Common.{◌≡◌, ◌<◌, ℕ, Bool, true, List, [], ◌∷◌, ◌++◌, Result, Ok, Err, map, length, refl, sym, ap, ◌∙◌, subst, arith}
+use Rattle.std.proofs.Common.{◌≡◌, ℕ, Bool, true, List, [], ◌∷◌, Result, Ok, Err, length, refl, sym, ap, ◌∙◌, subst, arith}
 use Rattle.nf_value.specs.Plain.{Plain}
 use Rattle.nf_value.specs.View.{plain_of}
 use Rattle.nf_value.specs.declared.place.Place.{Place}
@@ -9,25 +9,24 @@ use Rattle.nf_graph.specs.declared.node.Node.{Node}
 use Rattle.nf_graph.specs.declared.port.Port.{Port}
 use Rattle.nf_bodies.specs.declared.body.NodeInfo.{NodeInfo}
 use Rattle.nf_meaning.specs.declared.fault.LowerFault.{LowerFault}
-use Rattle.nf_meaning.specs.declared.fault.LowerFault.TheVariants.{BadOption}
 use Rattle.nf_meaning.specs.Expressions.{channel_wanted}
 use Rattle.nf_meaning.specs.Lowered.{Lowered}
 use Rattle.nf_meaning.specs.Sizes.{counted, grown}
-use Rattle.nf_meaning.specs.Stands.{PortOutput, PortThing, known, read, results, OutputsStand, StandsFor, ThingStands}
+use Rattle.nf_meaning.specs.Stands.{PortOutput, known, read, results, OutputsStand, ThingStands}
 use Rattle.nf_meaning.specs.Things as meaning
 use Rattle.nf_meaning.specs.Things.{Channel, Output, a_value, a_channel, outputs, value_channel}
 use Rattle.nf_meaning.specs.Walk.{Around, State, gives, then_by}
 use Rattle.nf_lowered.specs.Given.{Gives, HasFault}
 use Rattle.nf_scopes.specs.declared.things.Thing.{Thing}
 use Rattle.nf_scopes.specs.declared.things.Thing.TheVariants as thing
-use Rattle.nf_scopes.specs.Things.{thing_of, output_of}
+use Rattle.nf_scopes.specs.Things.{thing_of}
 use Rattle.nf_plan.specs.declared.builder.PlanBuilder.{PlanBuilder}
 use Rattle.nf_plan.specs.declared.calls.SourceCall.{SourceCall}
 use Rattle.nf_plan.specs.declared.sizes.Sizes.{Sizes}
 use Rattle.nf_plan.specs.Calls.{CanAddSource, PortsRead, next_port, source_info, source_node}
 use Rattle.nf_plan.specs.Counts.{Counts, Grows}
 use Rattle.nf_plan.specs.Plans.{Adds, HasRoom, IsSamePlan, ports_in}
-use Rattle.nf_plan.specs.Runs.{Run, RunsNodes, SourceStands, bags_of}
+use Rattle.nf_plan.specs.Runs.{Run, SourceStands, bags_of}
 use Rattle.nf_plan.specs.Sizes.{sizes_of}
 use Rattle.nf_follows.specs.Extends.{Extends}
 use Rattle.nf_follows.specs.Lowers.{Gave, Lowers}
@@ -35,7 +34,7 @@ use Rattle.nf_follows.specs.Rooms.{KeepsRoom}
 use Rattle.nf_follows.specs.Things.{OutputsRead, PortReads, ThingReads}
 use Rattle.nf_follows.proofs.Steps.{fault_on}
 use Rattle.nf_lowering.specs.declared.state.Lowering.{Lowering}
-use Rattle.nf_lowering.specs.State.{IsLowering, IsPort, IsThing, StandsIn, lowering, process_paths}
+use Rattle.nf_lowering.specs.State.{IsLowering, IsPort, StandsIn, lowering, process_paths}
 use Rattle.nf_lowering.specs.Steps.{as_channel, as_value_channel, counting, only_port}
 use Rattle.nf_lowering.proofs.Counting.{counted_is, counted_state, count_extends, count_walks}
 use Rattle.nf_lowering.proofs.Lasting.{StandsOn}

@@ -11,7 +11,7 @@ use Rattle.nf_meaning.specs.Walk.{Around, Sizes, State}
 use Rattle.nf_lowered.specs.Given.{HasFault}
 use Rattle.nf_plan.specs.declared.builder.PlanBuilder.{PlanBuilder}
 use Rattle.nf_plan.specs.Counts.{Counts, Grows}
-use Rattle.nf_plan.specs.Plans.{HasRoom, IsPlan}
+use Rattle.nf_plan.specs.Plans.{HasRoom}
 use Rattle.nf_plan.specs.Sizes.{sizes_of}
 use Rattle.nf_follows.specs.Extends.{Extends}
 use Rattle.nf_follows.specs.Lowers.{Lowers}
@@ -49,6 +49,10 @@ refused_is p ports a s n same h =
 pub count_extends : (old : PlanBuilder) (p : Place) (ports : ℕ) (new : PlanBuilder) (r : Result (Unit {0}) LowerFault) → Counts old p ports new r → Extends old new
 count_extends old p ports new (Ok u) g = extends_same old new g.nodes g.infos
 count_extends old p ports new (Err e) g = extends_same old new (ap (λ (b : PlanBuilder). b.nodes.items) g.2) (ap (λ (b : PlanBuilder). b.infos.items) g.2)
+
+pub count_grows : (old : PlanBuilder) (p : Place) (ports : ℕ) (new : PlanBuilder) (r : Result (Unit {0}) LowerFault) → Counts old p ports new r → OnOk r (Grows old ports new)
+count_grows old p ports new (Ok u) g = g
+count_grows old p ports new (Err e) g = tt
 
 pub count_room : (old : PlanBuilder) (p : Place) (ports : ℕ) (new : PlanBuilder) (r : Result (Unit {0}) LowerFault) → Counts old p ports new r → OnOk r (HasRoom new ports)
 count_room old p ports new (Ok u) g = g.room

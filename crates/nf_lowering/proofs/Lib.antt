@@ -5,3 +5,10 @@ mod Converting
 mod Naming
 mod Beginning
 mod Opening
+mod Sourcing
+mod Outputs
+mod Applying
+mod Keeping
+mod Tasking
+mod Entering
+mod Returning

@@ -1,5 +1,5 @@
 -- What the names of a body stand for after a step.
-use Rattle.std.proofs.Common.{◌≡◌, ◌∙◌, ℕ, Bool, true, false, if◌then◌else◌, List, [], ◌∷◌, ◌++◌, Ok, refl, sym, ap, subst, ◌⊎◌, inl, inr}
+use Rattle.std.proofs.Common.{◌≡◌, ◌∙◌, ℕ, Bool, true, false, if◌then◌else◌, List, [], ◌∷◌, ◌++◌, Ok, refl, sym, ap, subst, inl, inr}
 use Rattle.nf_builtins.specs.Natives.{is_among}
 use Rattle.nf_graph.specs.Meaning.{Bags}
 use Rattle.nf_meaning.specs.Stands.{ThingStands}

@@ -1,5 +1,5 @@
 -- Where the entry of a script begins.
-use Rattle.std.proofs.Common.{◌≡◌, ℕ, true, false, List, [], ◌∷◌, None, Some, refl, ap, ◌∙◌, sym, subst}
+use Rattle.std.proofs.Common.{◌≡◌, ℕ, true, false, List, [], None, Some, ap, ◌∙◌, sym, subst}
 use Rattle.std.specs.Prelude.{String}
 use Rattle.std.specs.Global.{Global}
 use Rattle.std.specs.HashSet.{HashSet, IsEmpty, contains_text}
@@ -18,7 +18,7 @@ use Rattle.nf_plan.specs.Runs.{Run, PlanStands, bags_of}
 use Rattle.nf_lowering.specs.declared.state.Lowering.{Lowering}
 use Rattle.nf_lowering.specs.State.{IsLowering, StandsIn, process_paths}
 
-nothing_held : {A : Type 0} (es : Table) (n : List ℕ) (t : Thing) → es ≡ [] → held n es ≡ Some t → A
+pub nothing_held : {A : Type 0} (es : Table) (n : List ℕ) (t : Thing) → es ≡ [] → held n es ≡ Some t → A
 nothing_held es n t none h = absurd (let f : None ≡ Some t = ap (held n) (sym none) ∙ h in cc)
 
 pub empty_stands : (bags : Bags) (es : Table) → es ≡ [] → TableStands bags es []

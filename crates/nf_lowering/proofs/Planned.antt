@@ -1,6 +1,6 @@
 -- A plan that grew, under the names of a body.
-use Rattle.std.proofs.Common.{◌≡◌, ℕ, List, [], ◌∷◌, ◌++◌, map, string_bytes, true, Result, Err, refl, sym, ap, ◌∙◌, subst}
-use Rattle.std.proofs.lemmas.List.{append-nil, append_assoc}
+use Rattle.std.proofs.Common.{◌≡◌, ℕ, List, [], ◌∷◌, ◌++◌, map, string_bytes, true, Result, Err, sym, ap, ◌∙◌, subst}
+use Rattle.std.proofs.lemmas.List.{append-nil}
 use Rattle.nf_builtins.specs.Natives.{is_among}
 use Rattle.nf_bodies.specs.declared.body.NodeInfo.{NodeInfo}
 use Rattle.nf_meaning.specs.declared.fault.LowerFault.{LowerFault}
@@ -8,12 +8,10 @@ use Rattle.nf_meaning.specs.declared.fault.LowerFault.TheVariants.{Mem}
 use Rattle.nf_meaning.specs.CallPaths.{BodyCalls}
 use Rattle.nf_meaning.specs.Meaning.{ScriptMeaning}
 use Rattle.nf_meaning.specs.Walk.{Sizes, State, Want}
-use Rattle.nf_scopes.specs.declared.things.Thing.{Thing}
-use Rattle.nf_scopes.specs.Held.{Holds}
 use Rattle.nf_scopes.specs.Things.{thing_of}
 use Rattle.nf_plan.specs.declared.builder.PlanBuilder.{PlanBuilder}
 use Rattle.nf_plan.specs.Plans.{IsPlan, is_process}
-use Rattle.nf_plan.specs.Runs.{Run, PlanStands, bags_of}
+use Rattle.nf_plan.specs.Runs.{Run, PlanStands}
 use Rattle.nf_follows.specs.Extends.{Extends}
 use Rattle.nf_follows.specs.Lowers.{Lowers, Owed}
 use Rattle.nf_lowering.specs.declared.state.Lowering.{Lowering}

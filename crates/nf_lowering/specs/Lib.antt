@@ -1,2 +1,4 @@
 pub mod State
 pub mod Steps
+pub mod Nodes
+pub mod Workflows

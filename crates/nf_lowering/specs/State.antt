@@ -16,6 +16,7 @@ use Rattle.nf_scopes.specs.Standing.{NamesStand}
 use Rattle.nf_scopes.specs.Tables.{TableStands, held}
 use Rattle.nf_scopes.specs.Things.{thing_of}
 use Rattle.nf_plan.specs.declared.builder.PlanBuilder.{PlanBuilder}
+use Rattle.nf_plan.specs.declared.plan.Plan.{Plan}
 use Rattle.nf_plan.specs.Plans.{IsPlan, is_process}
 use Rattle.nf_plan.specs.Runs.{Run, PlanStands, bags_of}
 use Rattle.nf_follows.specs.Lowers.{Kind, Lowers, Owed}
@@ -80,3 +81,12 @@ IsPort x b p c = PortReads b p × StandsFor (bags_of x b) p c
 -- a thing in memory for one of the meaning
 abbrev pub IsThing : Thing → Run → PlanBuilder → meaning.Thing → Type 0
 IsThing t x b y = ThingReads b (thing_of t) × ThingStands (bags_of x b) (thing_of t) y
+
+-- ---- where the walk ends
+
+-- the plan is what was made
+pub record IsFinished (made : PlanBuilder) (plan : Plan) : Type 0 where
+  pub graph : plan.graph ≡ made.nodes.items
+  pub infos : plan.infos ≡ made.infos
+  pub views : plan.views ≡ made.views
+  pub wants : plan.wants ≡ made.wants

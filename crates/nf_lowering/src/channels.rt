@@ -3,6 +3,7 @@
 ghost use Rattle.std.specs.Prelude.{◌≡◌, [], ◌∷◌, map, true, IfOk, OnOk};
 ghost use Rattle.nf_value.specs.View.{plain_of};
 ghost use Rattle.nf_scopes.specs.Things.{output_of, thing_of};
+ghost use Rattle.nf_plan.specs.Counts.{Grows};
 ghost use Rattle.nf_plan.specs.Plans.{HasRoom};
 ghost use Rattle.nf_follows.specs.Rooms.{KeepsRoom};
 ghost use Rattle.nf_follows.specs.Things.{PortReads, ThingReads};
@@ -28,9 +29,11 @@ impl Lowering {
         requires { IsLowering self.old }
         ensures keeps { IsLowering self.new }
         ensures walk { Walks (counting place ports) self.old self.new result }
+        ensures grows { OnOk result (Grows self.old.plan ports self.new.plan) }
         ensures room { OnOk result (HasRoom self.new.plan ports) }
         ensures kept { KeepsRoom self.old.plan self.new.plan }
         ensures calls { calls_in self.new ≡ calls_in self.old }
+        ensures within { self.new.within ≡ self.old.within }
     {
         things_last();
         rooms_last();
@@ -52,6 +55,7 @@ impl Lowering {
         ensures walk { Walks (as_channel place thing) self.old self.new result }
         ensures kept { KeepsRoom self.old.plan self.new.plan }
         ensures calls { calls_in self.new ≡ calls_in self.old }
+        ensures within { self.new.within ≡ self.old.within }
     {
         rooms_last();
         match thing {
@@ -74,6 +78,7 @@ impl Lowering {
         ensures walk { Walks (as_value_channel place value) self.old self.new result }
         ensures kept { KeepsRoom self.old.plan self.new.plan }
         ensures calls { calls_in self.new ≡ calls_in self.old }
+        ensures within { self.new.within ≡ self.old.within }
     {
         plans_extend();
         things_last();

@@ -3,7 +3,12 @@
 
 mod calls;
 mod channels;
+mod copies;
 mod names;
+mod nodes;
 mod state;
+mod workflows;
 
+pub use copies::copy_thing;
 pub use state::Lowering;
+pub use workflows::Outer;

@@ -11,9 +11,17 @@ ghost use Rattle.nf_lowering.specs.Steps.{assigns, defines};
 
 use crate::state::Lowering;
 use nf_meaning::LowerFault;
-use nf_scopes::Thing;
+use nf_scopes::{BodyNames, Thing};
+use nf_value::Mem;
 
 impl Lowering {
+    /// The names that the body knows. Takes no memory.
+    pub fn names(&self) -> &BodyNames
+        ensures { result.now ≡ self.now.names }
+    {
+        &self.names
+    }
+
     /// `def name = ..` (Nextflow reference documentation, "Syntax", "Variables").
     ///
     /// # Errors
@@ -25,6 +33,7 @@ impl Lowering {
         ensures keeps { OnOk result (IsLowering self.new) }
         ensures walk { Walks (defines name.now thing) self.old self.new result }
         ensures plan { self.new.plan ≡ self.old.plan }
+        ensures within { self.new.within ≡ self.old.within }
         ensures calls { calls_in self.new ≡ calls_in self.old }
     {
         self.names.define(name, thing)?;
@@ -42,6 +51,7 @@ impl Lowering {
         ensures keeps { OnOk result (IsLowering self.new) }
         ensures walk { Walks (assigns name.now thing) self.old self.new result }
         ensures plan { self.new.plan ≡ self.old.plan }
+        ensures within { self.new.within ≡ self.old.within }
         ensures calls { calls_in self.new ≡ calls_in self.old }
     {
         self.names.assign(name, thing)?;
@@ -53,13 +63,14 @@ impl Lowering {
     /// # Errors
     ///
     /// `Mem` for want of memory.
-    pub fn enter(&mut self) -> Result<(), LowerFault>
+    pub fn enter(&mut self) -> Result<(), Mem>
         requires { IsLowering self.old }
         ensures keeps { OnOk result (IsLowering self.new) }
         ensures walk { OnOk result ((braces : List (List (List ℕ))) (x : Run) (s : State) → StandsIn braces x self.old s
             → StandsIn (braces ++ s.scope.defined ∷ []) x self.new (record s { scope = entering s.scope })
             × HasBound braces s.scope) }
         ensures plan { self.new.plan ≡ self.old.plan }
+        ensures within { self.new.within ≡ self.old.within }
         ensures calls { calls_in self.new ≡ calls_in self.old }
     {
         self.names.enter()?;
@@ -74,6 +85,7 @@ impl Lowering {
             → StandsIn (braces ++ before.defined ∷ []) x self.old s
             → StandsIn braces x self.new (record s { scope = leaving before s.scope }) }
         ensures plan { self.new.plan ≡ self.old.plan }
+        ensures within { self.new.within ≡ self.old.within }
         ensures calls { calls_in self.new ≡ calls_in self.old }
     {
         self.names.leave();

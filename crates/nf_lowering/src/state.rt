@@ -1,10 +1,11 @@
 //! `Lowering`: what the walk through a script has in memory.
 
 use indexmap::{IndexMap, IndexSet};
-use nf_plan::PlanBuilder;
+use nf_plan::{Plan, PlanBuilder};
 use nf_scopes::{BodyNames, Thing};
 use nf_value::Txt;
 use std::alloc::Global;
+use std::collections::VecDeque;
 
 /// What the walk through a script has in memory (own): the plan so far, and what the body at hand knows.
 #[derive(Drop)]
@@ -20,14 +21,14 @@ pub struct Lowering {
     /// What stands before the name of a call here: the workflows that lead here, each with a colon.
     pub(crate) path: Txt,
     /// The workflows in whose bodies this one stands, the innermost first.
-    pub(crate) within: Vec<Txt>,
+    pub(crate) within: VecDeque<Txt>,
 }
 
 impl Lowering {
     ghost use Rattle.std.specs.Prelude.{[]};
     ghost use Rattle.nf_meaning.specs.Script.{opening};
     ghost use Rattle.nf_plan.specs.Runs.{Run};
-    ghost use Rattle.nf_lowering.specs.State.{IsLowering, StandsIn};
+    ghost use Rattle.nf_lowering.specs.State.{IsFinished, IsLowering, StandsIn};
 
     /// Where a script's entry begins: a plan of no nodes, and a body that knows no name. Takes no memory.
     pub fn new(alloc: Global) -> Lowering
@@ -40,7 +41,7 @@ impl Lowering {
         let called = IndexSet::new(alloc);
         let calls = IndexMap::new(alloc);
         let path = Txt::of(String::new(alloc));
-        let within = Vec::new(alloc);
+        let within = VecDeque::new(alloc);
         Lowering {
             plan,
             names,
@@ -49,5 +50,13 @@ impl Lowering {
             path,
             within,
         }
+    }
+
+    /// The plan, where the walk ends.
+    pub fn into_plan(self) -> Plan
+        requires { IsLowering self }
+        ensures { IsFinished self.plan result }
+    {
+        self.plan.finish()
     }
 }

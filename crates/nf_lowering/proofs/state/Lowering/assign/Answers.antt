@@ -10,6 +10,7 @@ returns c = record {
   keeps = also_keeps c.args.self.now c.assign.new.self c.args.thing c.requires.before c.requires.reads c.in_ok-assign.ensures.holds;
   walk = λ braces. assign_walks c.args.self.now c.assign.new.self c.args.name.now c.args.thing braces c.in_ok-assign.ensures.stands;
   plan = refl;
+  within = refl;
   calls = refl;
 }
 

@@ -18,6 +18,7 @@ returns c =
       workflow = λ braces. workflow_walks old new n refl sets braces;
       process = λ braces. process_walks old new n refl sets braces;
       plan = refl;
+      within = refl;
       goes = begin_goes old new n refl sets;
       here = begin_called old new n refl sets;
       none = begin_none old new n refl sets c.paths_stay_apart.ensures.none c.requires.before c.requires.plain c.requires.fresh;

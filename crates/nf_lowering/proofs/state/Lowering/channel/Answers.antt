@@ -11,6 +11,7 @@ returns-in-Known c = record {
   walk = λ braces. known_channel c.args.self.now c.value_channel.new.self c.args.place braces c.in-Known.value c.args.thing c.value_channel.result c.in-Known.is (c.value_channel.ensures.walk braces);
   kept = c.value_channel.ensures.kept;
   calls = c.value_channel.ensures.calls;
+  within = c.value_channel.ensures.within;
 }
 
 pub returns-in-Channel : goal.returns-in-Channel
@@ -20,6 +21,7 @@ returns-in-Channel c = record {
   walk = λ braces. port_channel c.args.self.now c.args.place braces c.args.thing c.in-Channel.port c.in-Channel.is;
   kept = c.rooms_last.ensures.same c.args.self.now.plan;
   calls = refl;
+  within = refl;
 }
 
 pub returns-in-Outputs : goal.returns-in-Outputs
@@ -29,4 +31,5 @@ returns-in-Outputs c = record {
   walk = λ braces. only_channel c.args.self.now c.args.place braces c.args.thing (map output_of c.in-Outputs.outputs.items) c.only_output.result (ap thing_of c.in-Outputs.is) (c.only_output.ensures ∙ ap (λ xs. only_port c.args.place (map output_of xs)) c.as_slice.ensures.value);
   kept = c.rooms_last.ensures.same c.args.self.now.plan;
   calls = refl;
+  within = refl;
 }

@@ -7,5 +7,6 @@ returns c = record {
   keeps = less_keeps c.args.self.now c.enter.new.self c.requires c.in_ok-enter.ensures.holds;
   walk = enter_stands c.args.self.now c.enter.new.self c.in_ok-enter.ensures.stands;
   plan = refl;
+  within = refl;
   calls = refl;
 }

@@ -7,5 +7,6 @@ returns c = record {
   keeps = less_keeps c.args.self.now c.leave.new.self c.requires c.leave.ensures.holds;
   walk = leave_stands c.args.self.now c.leave.new.self c.leave.ensures.stands;
   plan = refl;
+  within = refl;
   calls = refl;
 }

@@ -1,4 +1,4 @@
-use Rattle.std.proofs.Common.{◌≡◌, ◌∙◌, [], refl}
+use Rattle.std.proofs.Common.{◌∙◌, refl}
 use Rattle.nf_meaning.specs.Script.{opening}
 use Rattle.nf_plan.specs.Runs.{bags_of}
 use Rattle.nf_lowering.specs.declared.state.Lowering.{Lowering}

@@ -95,4 +95,5 @@ returns c =
           c.in_ok-source.ensures.items c.in_ok-source.ensures.kind adds one c.in_ok-port.ensures.stands c.in_ok-port.ensures.port c.in_ok-port.ensures.reads;
       kept = c.rooms_last.ensures.call old.plan mid 0 mid new (source_node source) (source_info source) g (c.rooms_last.ensures.same mid) adds (omega arith);
       calls = calls_same old new (source_paths old.plan mid new source g.infos adds);
+      within = refl;
     }
