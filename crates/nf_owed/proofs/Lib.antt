@@ -5,3 +5,4 @@ pub mod Meanings
 pub mod Publishing
 pub mod Finishes
 pub mod NoClash
+pub mod Faultless

@@ -1,5 +1,5 @@
 -- What a run owes whose history is known: a row for each end.
-use Rattle.std.specs.Prelude.{◌≡◌, ◌<◌, ◌≤◌, List, map, true}
+use Rattle.std.specs.Prelude.{◌≡◌, ◌<◌, ◌≤◌, List, [], map, true}
 use Rattle.std.specs.declared.option.Option.TheVariants.{Some}
 use Rattle.std.specs.List.{Contains}
 use Rattle.nf_value.specs.View.{plain_of}
@@ -73,3 +73,17 @@ pub record EndsByStop (run : Run) (h : List Event) (e : End) : Type 0 where
   pub stopped : (state_after run h).stop ≡ Some stop
   pub named : NamesStop run stop e
   pub meant : IsMeant run h e
+
+-- ---- runs that nothing in the script fails
+
+-- a meaning without a fault, whose deliveries cost no more than the limit
+pub record IsFaultless (m : ScriptMeaning) : Type 0 where
+  pub faults : m.faults ≡ []
+  pub cost : charge_of m ≤ limit
+
+-- an end that has its cause outside of the script: an object failed, or there was no memory
+abbrev pub IsFromOutside : End → Type 0
+IsFromOutside end.LaneFault = Unit {0}
+IsFromOutside end.KeeperFault = Unit {0}
+IsFromOutside end.Mem = Unit {0}
+IsFromOutside _ = ⊥
