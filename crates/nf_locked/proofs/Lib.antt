@@ -1,0 +1,10 @@
+pub mod Returns
+pub mod Changes
+pub mod Copies
+pub mod Steps
+pub mod Frees
+pub mod Tickets
+pub mod Taking
+pub mod Few
+pub mod Places
+pub mod Working

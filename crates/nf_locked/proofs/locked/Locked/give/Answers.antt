@@ -1,0 +1,11 @@
+use Rattle.nf_locked.proofs.Places.{found_flying, gave_at, unfound}
+use Rattle.nf_locked.proofs.locked.Locked.give.Goals as goal
+
+pub give-requires-clause-ticket : goal.give-requires-clause-ticket
+give-requires-clause-ticket g c = found_flying g.J.Fixed.facts g.J.Fixed.facts.rules (λ v. v.items) c.self.inside.out.items c.args.index c.index_mut-tickets.result.now c.take_back.new.tickets c.self.inside.begun.total c.self.inside.failed.total c.self.inside.run c.self.inside.run c.self.invariant c.requires.lane c.index_mut-tickets.ensures.value c.in-Some.ticket c.in-Some.ensures.left
+
+pub invariant_of-self : goal.invariant_of-self
+invariant_of-self g c = unfound g.J.Fixed.facts g.J.Fixed.facts.rules (λ v. v.items) c.self.inside.out.items c.args.index c.index_mut-tickets.result.now c.take_back.new.tickets c.self.inside.begun.total c.self.inside.failed.total c.self.inside.run c.halt.new.run c.self.invariant c.requires.lane c.index_mut-tickets.ensures.value c.in_default.ensures.left c.halt.ensures
+
+pub invariant_of-self-2 : goal.invariant_of-self-2
+invariant_of-self-2 g c = gave_at g.J.Fixed.facts g.J.Fixed.facts.rules (λ v. v.items) c.self.inside.out.items c.args.index c.index_mut-tickets.result.now c.take_back.new.tickets c.self.inside.begun.total c.self.inside.failed.total c.self.inside.run c.give.new.run c.self.invariant c.requires.lane c.index_mut-tickets.ensures.value c.in-Some.ticket c.args.answer c.in-Some.ensures.left c.holds.ensures.lawful c.give.ensures
