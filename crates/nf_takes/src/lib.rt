@@ -1,0 +1,8 @@
+//! What workflows take and emit, as their bodies tell it: the names that they take, and the names of what they emit.
+#![tactic(auto)]
+
+mod emits;
+mod takes;
+
+pub use emits::{check_label, copy_name, emit_parts};
+pub use takes::{check_taken, names_taken};
