@@ -25,8 +25,8 @@ pub fn value_wanted(place: Place, thing: Thing) -> Result<Value, LowerFault>
     }
 }
 
-/// Nothing, for a thing that is neither a file nor a list or map that holds one (own): such a value is no statement. Its expression begins at `place`. Takes no
-/// memory.
+/// Nothing, for a thing that is neither a file nor a list or map that holds one (own): such a value is no statement. Its
+/// expression begins at `place`. Takes no memory.
 ///
 /// # Errors
 ///

@@ -17,5 +17,6 @@ pub record IsWithout (t : Ticket) (old new : List Ticket) : Type 0 where
 -- its attempt is the first, and one of an operator has one item
 pub record IsTaken (F : Opening) (t : Ticket) : Type 0 where
   pub first : attempt_of t ≡ 1
-  pub kind : IsOperatorKind (node_at (plain_graph F.graph) (node_of t)).kind ⊎ IsProcessKind (node_at (plain_graph F.graph) (node_of t)).kind
+  pub kind : IsOperatorKind (node_at (plain_graph F.graph) (node_of t)).kind
+      ⊎ IsProcessKind (node_at (plain_graph F.graph) (node_of t)).kind
   pub item : IsOperatorKind (node_at (plain_graph F.graph) (node_of t)).kind → length (inputs_of t) ≡ 1

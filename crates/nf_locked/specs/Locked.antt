@@ -96,7 +96,8 @@ AnswersIt F t answer = (x : Plain) → inputs_of t ≡ x ∷ [] → answer_of an
 abbrev pub IsLoss : Opening → Ticket → Stop → Type 0
 IsLoss F t s.Mem = Unit {0}
 IsLoss F t (s.Task node inputs n fault) =
-    (node ≡ node_of t) × (inputs ≡ inputs_of t) × (n ≡ n_of t) × (F.rules.job (node_of t) (inputs_of t) (n_of t) (attempt_of t) ≡ Err fault)
+    (node ≡ node_of t) × (inputs ≡ inputs_of t) × (n ≡ n_of t)
+    × (F.rules.job (node_of t) (inputs_of t) (n_of t) (attempt_of t) ≡ Err fault)
 IsLoss F t (s.Outside outside) = ⊥
 IsLoss F t (s.Charge sum) = ⊥
 IsLoss F t (s.Op node fault) = ⊥

@@ -47,8 +47,8 @@ impl<L: Lane, K: Keeper, J: Fixed, B: Ledger, F: Ledger> Locked<L, K, J, B, F> {
         give(run, ticket, rules, answer);
     }
 
-    /// Takes the report that an earlier run left of a task's job in place of a run (as `RunState::reuse`). Answers whether the task is tried
-    /// again; its ticket, for the next attempt, is out with the lane then.
+    /// Takes the report that an earlier run left of a task's job in place of a run (as `RunState::reuse`). Answers whether
+    /// the task is tried again; its ticket, for the next attempt, is out with the lane then.
     pub fn reuse<R: Rules>(
         &mut self,
         index: usize,
@@ -84,8 +84,8 @@ impl<L: Lane, K: Keeper, J: Fixed, B: Ledger, F: Ledger> Locked<L, K, J, B, F> {
         true
     }
 
-    /// Enters what a lane gave for a task's started attempt, after its record is put (as `RunState::finish`). Answers whether the task is
-    /// tried again; its ticket, for the next attempt, is out with the lane then.
+    /// Enters what a lane gave for a task's started attempt, after its record is put (as `RunState::finish`). Answers
+    /// whether the task is tried again; its ticket, for the next attempt, is out with the lane then.
     pub fn finish<R: Rules>(
         &mut self,
         index: usize,

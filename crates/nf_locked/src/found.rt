@@ -16,7 +16,8 @@ use nf_lane::Lane;
 use nf_stored::Rules;
 use nf_value::{EvalFault, Value};
 
-/// Enters the rules' answer for the one item of an operator's ticket. Where the run is stopped or there is no memory, the ticket is given up.
+/// Enters the rules' answer for the one item of an operator's ticket. Where the run is stopped or there is no memory, the
+/// ticket is given up.
 pub(crate) fn give<L: Lane, K: Keeper, J: Fixed, R: Rules>(
     run: &mut RunState<L, K, J>,
     ticket: Ticket,
