@@ -1,6 +1,6 @@
 -- The outputs of calls, by their places and their names.
 use Rattle.std.proofs.Common.{◌≡◌, ℕ, zero, suc, ◌+◌, ◌≤◌, Bool, true, false, ◌&&◌, ◌||◌, List, [], ◌∷◌, ◌++◌, Option, Some, None, IfSome, refl, sym, ap, ◌∙◌, subst, true≢false, arith}
-use Rattle.std.specs.Prelude.{if◌then◌else◌, slice_get, ◌==◌}
+use Rattle.std.specs.Prelude.{if◌then◌else◌, not, slice_get, ◌==◌}
 use Rattle.std.specs.Str.{bytes_eq}
 use Rattle.std.proofs.lemmas.Bool.Decides.{Decides-eqb}
 use Rattle.nf_kinds.specs.declared.kinds.Kinds.{Kinds}
@@ -12,7 +12,8 @@ use Rattle.nf_kinds.specs.Args.{any_queue}
 use Rattle.nf_opkinds.specs.Results.{named_output, outputs_from, whole_kind, shape_of, all_of_kind}
 use Rattle.nf_opkinds.specs.Calls.{has_two_queues}
 use Rattle.nf_meaning.specs.Things.{Channel, Output, channels_of, only_one, has_label, output_named, are_values}
-use Rattle.nf_agreed.specs.Fits.{MayFlow, MayBeChannel, OutputsFit, MayBeResult, ArgsFit, has_one_queue}
+use Rattle.nf_meaning.specs.Calls as meant
+use Rattle.nf_agreed.specs.Fits.{MayFlow, MayBeChannel, OutputsFit, MayBeResult, ArgsFit}
 
 -- ---- a result with outputs of these kinds
 
@@ -141,25 +142,26 @@ no_queues (g ∷ gs) (c ∷ cs) h none =
     and_both c.is_value (are_values cs) (no_queue g.shape.kinds.queue c.is_value h.0.queue apart.0) (no_queues gs cs h.1 apart.1)
 
 -- value channels, with no queue among them
-values_one : (cs : List Channel) → are_values cs ≡ true → has_one_queue cs ≡ true
+values_one : (cs : List Channel) → are_values cs ≡ true → meant.has_two_queues cs ≡ false
 values_one [] h = refl
 values_one (c ∷ cs) h = by c.is_value h (values_one cs)
   where
-    by : (v : Bool) → (v && are_values cs) ≡ true → (are_values cs ≡ true → has_one_queue cs ≡ true) → (if v then has_one_queue cs else are_values cs) ≡ true
+    by : (v : Bool) → (v && are_values cs) ≡ true → (are_values cs ≡ true → meant.has_two_queues cs ≡ false)
+        → (if v then meant.has_two_queues cs else not (are_values cs)) ≡ false
     by true h rest = rest h
     by false h rest = absurd (true≢false (sym h))
 
 -- where the first rule isn't broken, at most one channel is a queue
-pub one_queue : (gs : List Given) (cs : List Channel) → ArgsFit gs cs → has_two_queues gs ≡ false → has_one_queue cs ≡ true
+pub one_queue : (gs : List Given) (cs : List Channel) → ArgsFit gs cs → has_two_queues gs ≡ false → meant.has_two_queues cs ≡ false
 one_queue [] [] h none = refl
 one_queue [] (c ∷ cs) h none = absurd h
 one_queue (g ∷ gs) [] h none = absurd h
 one_queue (g ∷ gs) (c ∷ cs) h none = by g.shape.kinds.queue c.is_value h.0.queue none (one_queue gs cs h.1) (no_queues gs cs h.1)
   where
     by : (q v : Bool) → (v ≡ false → q ≡ true) → (if q then any_queue gs else has_two_queues gs) ≡ false
-        → (has_two_queues gs ≡ false → has_one_queue cs ≡ true) → (any_queue gs ≡ false → are_values cs ≡ true)
-        → (if v then has_one_queue cs else are_values cs) ≡ true
+        → (has_two_queues gs ≡ false → meant.has_two_queues cs ≡ false) → (any_queue gs ≡ false → are_values cs ≡ true)
+        → (if v then meant.has_two_queues cs else not (are_values cs)) ≡ false
     by true true f none rest values = values_one cs (values none)
-    by true false f none rest values = values none
+    by true false f none rest values = ap not (values none)
     by false true f none rest values = rest none
     by false false f none rest values = absurd (true≢false (sym (f refl)))

@@ -1,5 +1,5 @@
 -- Where what may be, as it is known before a run, fits what is in the run.
-use Rattle.std.specs.Prelude.{◌≡◌, ℕ, Bool, true, false, List, [], ◌∷◌, Option, Some, None, IfSome, IsSomeAnd, slice_get, if◌then◌else◌}
+use Rattle.std.specs.Prelude.{◌≡◌, ℕ, true, false, List, [], ◌∷◌, Option, Some, None, IfSome, IsSomeAnd, slice_get}
 use Rattle.nf_kinds.specs.declared.kinds.Kinds.{Kinds}
 use Rattle.nf_kinds.specs.declared.kinds.Key.{Key}
 use Rattle.nf_kinds.specs.declared.kinds.Key.TheVariants as key
@@ -8,7 +8,7 @@ use Rattle.nf_kinds.specs.declared.args.Given.{Given}
 use Rattle.nf_kinds.specs.Kinds.{Shaped, is_channel, output_in}
 use Rattle.nf_kinds.specs.Scope as order
 use Rattle.nf_kinds.specs.Scope.{Bindings, shape_in, is_bound, is_named}
-use Rattle.nf_meaning.specs.Things.{Thing, a_value, a_channel, outputs, Channel, Output, channels_of, only_one, output_named, are_values, thing_named}
+use Rattle.nf_meaning.specs.Things.{Thing, a_value, a_channel, outputs, Channel, Output, channels_of, only_one, output_named, thing_named}
 use Rattle.nf_meaning.specs.Walk.{Scope}
 
 -- ---- things
@@ -84,11 +84,6 @@ pub record ScopeFits (o : order.Scope) (x : Scope) : Type 0 where
   pub calls : NamesFit o.calls x.calls
 
 -- ---- arguments
-
--- at most one of these channels is a queue: those after it are value channels
-abbrev pub has_one_queue : List Channel → Bool
-has_one_queue [] = true
-has_one_queue (c ∷ cs) = if c.is_value then has_one_queue cs else are_values cs
 
 -- what arguments may be fits the channels that they are where channels are due
 abbrev pub ArgsFit : List Given → List Channel → Type 0

@@ -13,9 +13,10 @@ ghost use Rattle.nf_kinds.specs.Scope as order;
 ghost use Rattle.nf_kinds.specs.Scope.{defined, assigned, call_made, left_by, after_both, read_name};
 ghost use Rattle.nf_opkinds.specs.Operators.{rules_of, set_to};
 ghost use Rattle.nf_opkinds.specs.Calls.{has_two_queues};
+ghost use Rattle.nf_meaning.specs.Calls as meant;
 ghost use Rattle.nf_meaning.specs.Things.{Thing, a_channel, outputs, Channel, Output, thing_named};
 ghost use Rattle.nf_meaning.specs.Walk.{Scope, things_in, defining, assigning, calling, leaving};
-ghost use Rattle.nf_agreed.specs.Fits.{MayFlow, output_by, Fits, SameNames, ScopeFits, ArgsFit, has_one_queue};
+ghost use Rattle.nf_agreed.specs.Fits.{MayFlow, output_by, Fits, SameNames, ScopeFits, ArgsFit};
 
 /// After both arms of an `if`, what is known of a body fits its names, whichever arm was taken.
 pub fn either_arm()
@@ -57,10 +58,10 @@ pub fn outputs_read()
         → output_by k os ≡ Some c → Fits (alone (output_of k s)) (a_channel c) }
 {}
 
-/// A process whose call doesn't break the first rule reads at most one queue.
+/// A process whose call doesn't break the first rule reads at most one queue, so that the meaning doesn't refuse it for that.
 pub fn one_queue()
     ensures { (gs : List Given) → (cs : List Channel) → ArgsFit gs cs → has_two_queues gs ≡ false
-        → has_one_queue cs ≡ true }
+        → meant.has_two_queues cs ≡ false }
 {}
 
 /// `first` and `last`, where their call breaks no rule, are of a value channel.

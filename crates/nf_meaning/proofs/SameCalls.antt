@@ -1,6 +1,6 @@
 -- Calls of operators, processes and workflows go the same way in two runs.
 use Rattle.std.proofs.Common.{◌≡◌, ◌≤◌, ℕ, suc, List, [], ◌∷◌, ◌++◌, map, length, Bool, true, false, ◌&&◌, Option, Some, None, Ok, Err, refl, ap, sym, subst, ◌∙◌, if◌then◌else◌, arith}
-use Rattle.std.specs.Prelude.{◌==◌, ◌||◌, codes, is_some}
+use Rattle.std.specs.Prelude.{◌==◌, ◌||◌, ◌^◌, not, nat_le, codes, is_some}
 use Rattle.std.specs.List.{AllByRecursion, list_all}
 use Rattle.std.specs.Str.{bytes_eq}
 use Rattle.std.proofs.lemmas.List.{append-nil}
@@ -28,7 +28,7 @@ use Rattle.nf_opstream.proofs.Tally.{one_if, tally, tally-map}
 use Rattle.nf_tasks.specs.Inputs.{seen_names}
 use Rattle.nf_tasks.specs.Memory.{Program}
 use Rattle.nf_meaning.specs.declared.fault.LowerFault.{LowerFault}
-use Rattle.nf_meaning.specs.declared.fault.LowerFault.TheVariants.{TwiceDefined, CallCycle, WrongArity, BadOption}
+use Rattle.nf_meaning.specs.declared.fault.LowerFault.TheVariants.{TwiceDefined, CallCycle, WrongArity, BadOption, TooManyNodes}
 use Rattle.nf_meaning.specs.Lowered.{Lowered, or_else, fault_if}
 use Rattle.nf_meaning.specs.Places.{begins_at}
 use Rattle.nf_meaning.specs.Things.{Thing, a_value, a_channel, outputs, Channel, Output, are_values}
@@ -45,7 +45,7 @@ use Rattle.nf_meaning.specs.Meaning.{Instance, and_meant}
 use Rattle.nf_meaning.specs.Directives.{inside, seen_fault}
 use Rattle.nf_meaning.specs.Processes.{inputs_in, called_process, process_with}
 use Rattle.nf_meaning.specs.CallPaths.{is_plain_name, NamesArePlain, is_same_task}
-use Rattle.nf_meaning.specs.Calls.{again_fault, arity_fault, called_here, task_call, tasks_mean, process_at, process_call, workflow_fault, entered, workflow_call, Receiver, and_other, receiver_or, receiver, operator_for, operator_on, call_of, named_call, take_of, cycle_fault}
+use Rattle.nf_meaning.specs.Calls.{again_fault, arity_fault, called_here, task_call, tasks_mean, has_two_queues, call_fault, process_at, process_call, workflow_fault, entered, workflow_call, Receiver, and_other, receiver_or, receiver, operator_for, operator_on, call_of, named_call, take_of, cycle_fault}
 use Rattle.nf_meaning.specs.Processes.{inputs_of}
 use Rattle.nf_meaning.proofs.Growth.{Grows, AllOf, Once, process_grows, workflow_grows}
 use Rattle.nf_meaning.proofs.Twins.{Channels, AllChannels, Outputs, Things, Named, Scopes, States, Ends, Arounds, Twin, Same, EndsInside, ends_on, on, on_same, weaker, given, given_same, refusal, meaning, in_scope}
@@ -477,44 +477,65 @@ tasks_left n c d i v a b r s w u e grow =
     (record w { meant = and_meant w.meant (task_meaning c) }) (record u { meant = and_meant u.meant (task_meaning d) })
     (record { scope = e.scope; sizes = e.sizes; wants = e.wants; paths = e.paths }))
 
-process_left : (n : List ℕ) (t : Tree) (path : List ℕ) (cs ds : List Channel) → AllChannels cs ds → (a b : Around) → Arounds a b → (s w u : State) → States w u
-    → Grown a.definitions s w path → Ends Things a.definitions s (process_at n t path cs a w) (process_at n t path ds b u)
-process_left n t path cs ds h a b r s w u e grow = of_two (called_process a path t) (called_process b path t) (processes_alike a b r path t)
+-- a step that goes on only without a fault, from a state that the walk has reached
+unless_from : {A : Type 0} (P : A → A → Type 0) (d : Definitions) (r s u : State) (a b : Around) (f g : Option LowerFault) (w v : Walk A) → f ≡ g
+    → (f ≡ None → Ends P d r (w a s) (v b u)) → Ends P d r ((unless_fault f >>= λ _. w) a s) ((unless_fault g >>= λ _. v) b u)
+unless_from P d r s u a b f g w v i h = subst (λ z. Ends P d r ((unless_fault f >>= λ _. w) a s) ((unless_fault z >>= λ _. v) b u)) i (of_one f h)
   where
-    of_one : (m : Lowered CalledProcess) → Ends Things a.definitions s (then_by a (λ c. tasks_mean n (task_call a path c cs)) (at_state w m)) (then_by b (λ c. tasks_mean n (task_call b path c ds)) (at_state u m))
-    of_one (Ok c) = tasks_left n (task_call a path c cs) (task_call b path c ds) refl (values_alike cs ds h) a b r s w u e (grow (task_call a path c cs) refl)
-    of_one (Err f) = refl
-
-    of_two : (m k : Lowered CalledProcess) → m ≡ k
-        → Ends Things a.definitions s (then_by a (λ c. tasks_mean n (task_call a path c cs)) (at_state w m)) (then_by b (λ c. tasks_mean n (task_call b path c ds)) (at_state u k))
-    of_two m k i = subst (λ z. Ends Things a.definitions s (then_by a (λ c. tasks_mean n (task_call a path c cs)) (at_state w m)) (then_by b (λ c. tasks_mean n (task_call b path c ds)) (at_state u z))) i (of_one m)
-
-process_entered : (n : List ℕ) (t : Tree) (path : List ℕ) (a b : Around) → Arounds a b → (s r : State) → ((w : State) → (NamesArePlain a.definitions → Grows r w) → Grown a.definitions s w path)
-    → (m k : Lowered (List Channel × State)) → Ends AllChannels a.definitions r m k → Ends Things a.definitions s (then_by a (process_at n t path) m) (then_by b (process_at n t path) k)
-process_entered n t path a b h s r grow (Ok x) (Ok y) e = process_left n t path x.0 y.0 e.0 a b h s x.1 y.1 e.1 (grow x.1 e.2)
-process_entered n t path a b h s r grow (Err i) (Err j) e = e
-process_entered n t path a b h s r grow (Ok x) (Err j) e = absurd e
-process_entered n t path a b h s r grow (Err i) (Ok y) e = absurd e
-
-counted_left : (n : List ℕ) (t : Tree) (path : List ℕ) (xs ys : List Arg) → AllArgs xs ys → (a b : Around) → Arounds a b → (s r : State)
-    → ((w : State) → (NamesArePlain a.definitions → Grows r w) → Grown a.definitions s w path)
-    → (m k : Lowered (Unit {0} × State)) → Ends Same a.definitions r m k
-    → Ends Things a.definitions s (then_by a (λ x. channel_args xs >>= process_at n t path) m) (then_by b (λ x. channel_args ys >>= process_at n t path) k)
-counted_left n t path xs ys h a b i s r grow (Ok x) (Ok y) e =
-    process_entered n t path a b i s r grow (channel_args xs a x.1) (channel_args ys b y.1)
-    (ends_on AllChannels a.definitions r x.1 (channel_args xs a x.1) (channel_args ys b y.1) e.2 ((channel_args_alike xs ys h).at a b i x.1 y.1 e.1))
-counted_left n t path xs ys h a b i s r grow (Err f) (Err g) e = e
-counted_left n t path xs ys h a b i s r grow (Ok x) (Err g) e = absurd e
-counted_left n t path xs ys h a b i s r grow (Err f) (Ok y) e = absurd e
-
--- a step that goes on only without a fault
-unless_then : {A : Type 0} (P : A → A → Type 0) (d : Definitions) (s u : State) (a b : Around) (f g : Option LowerFault) (w v : Walk A) → f ≡ g
-    → (f ≡ None → Ends P d s (w a s) (v b u)) → Ends P d s ((unless_fault f >>= λ _. w) a s) ((unless_fault g >>= λ _. v) b u)
-unless_then P d s u a b f g w v i h = subst (λ z. Ends P d s ((unless_fault f >>= λ _. w) a s) ((unless_fault z >>= λ _. v) b u)) i (of_one f h)
-  where
-    of_one : (f : Option LowerFault) → (f ≡ None → Ends P d s (w a s) (v b u)) → Ends P d s ((unless_fault f >>= λ _. w) a s) ((unless_fault f >>= λ _. v) b u)
+    of_one : (f : Option LowerFault) → (f ≡ None → Ends P d r (w a s) (v b u)) → Ends P d r ((unless_fault f >>= λ _. w) a s) ((unless_fault f >>= λ _. v) b u)
     of_one None h = h refl
     of_one (Some g) h = refl
+
+unless_then : {A : Type 0} (P : A → A → Type 0) (d : Definitions) (s u : State) (a b : Around) (f g : Option LowerFault) (w v : Walk A) → f ≡ g
+    → (f ≡ None → Ends P d s (w a s) (v b u)) → Ends P d s ((unless_fault f >>= λ _. w) a s) ((unless_fault g >>= λ _. v) b u)
+unless_then P d s u a b f g w v i h = unless_from P d s s u a b f g w v i h
+
+queues_alike : (cs ds : List Channel) → AllChannels cs ds → has_two_queues cs ≡ has_two_queues ds
+queues_alike [] [] h = refl
+queues_alike (c ∷ cs) (d ∷ ds) h =
+    ap (λ b. if b then has_two_queues cs else not (are_values cs)) h.0.kind
+    ∙ ap (λ z. if d.is_value then z else not (are_values cs)) (queues_alike cs ds h.1)
+    ∙ ap (λ z. if d.is_value then has_two_queues ds else not z) (values_alike cs ds h.1)
+queues_alike [] (d ∷ ds) h = absurd h
+queues_alike (c ∷ cs) [] h = absurd h
+
+call_faults : (p : Place) (c : CalledProcess) (cs ds : List Channel) → AllChannels cs ds → call_fault p c cs ≡ call_fault p c ds
+call_faults p c cs ds h = ap (λ b. or_else (fault_if b (BadOption p)) (fault_if (nat_le (2 ^ 32) (length c.labels)) (TooManyNodes p))) (queues_alike cs ds h)
+
+-- the tasks of a call, unless the call has two queues
+abbrev tasks_from : Place → List ℕ → List ℕ → List Channel → Around → CalledProcess → Walk Thing
+tasks_from p n path cs a c = unless_fault (call_fault p c cs) >>= λ _. tasks_mean n (task_call a path c cs)
+
+process_left : (p : Place) (n : List ℕ) (t : Tree) (path : List ℕ) (cs ds : List Channel) → AllChannels cs ds → (a b : Around) → Arounds a b → (s w u : State) → States w u
+    → Grown a.definitions s w path → Ends Things a.definitions s (process_at p n t path cs a w) (process_at p n t path ds b u)
+process_left p n t path cs ds h a b r s w u e grow = of_two (called_process a path t) (called_process b path t) (processes_alike a b r path t)
+  where
+    of_one : (m : Lowered CalledProcess) → Ends Things a.definitions s (then_by a (tasks_from p n path cs a) (at_state w m)) (then_by b (tasks_from p n path ds b) (at_state u m))
+    of_one (Ok c) =
+        unless_from Things a.definitions s w u a b (call_fault p c cs) (call_fault p c ds) (tasks_mean n (task_call a path c cs)) (tasks_mean n (task_call b path c ds)) (call_faults p c cs ds h)
+        (λ none. tasks_left n (task_call a path c cs) (task_call b path c ds) refl (values_alike cs ds h) a b r s w u e (grow (task_call a path c cs) refl))
+    of_one (Err f) = refl
+
+    of_two : (m k : Lowered CalledProcess) → m ≡ k → Ends Things a.definitions s (then_by a (tasks_from p n path cs a) (at_state w m)) (then_by b (tasks_from p n path ds b) (at_state u k))
+    of_two m k i = subst (λ z. Ends Things a.definitions s (then_by a (tasks_from p n path cs a) (at_state w m)) (then_by b (tasks_from p n path ds b) (at_state u z))) i (of_one m)
+
+process_entered : (p : Place) (n : List ℕ) (t : Tree) (path : List ℕ) (a b : Around) → Arounds a b → (s r : State) → ((w : State) → (NamesArePlain a.definitions → Grows r w) → Grown a.definitions s w path)
+    → (m k : Lowered (List Channel × State)) → Ends AllChannels a.definitions r m k → Ends Things a.definitions s (then_by a (process_at p n t path) m) (then_by b (process_at p n t path) k)
+process_entered p n t path a b h s r grow (Ok x) (Ok y) e = process_left p n t path x.0 y.0 e.0 a b h s x.1 y.1 e.1 (grow x.1 e.2)
+process_entered p n t path a b h s r grow (Err i) (Err j) e = e
+process_entered p n t path a b h s r grow (Ok x) (Err j) e = absurd e
+process_entered p n t path a b h s r grow (Err i) (Ok y) e = absurd e
+
+counted_left : (p : Place) (n : List ℕ) (t : Tree) (path : List ℕ) (xs ys : List Arg) → AllArgs xs ys → (a b : Around) → Arounds a b → (s r : State)
+    → ((w : State) → (NamesArePlain a.definitions → Grows r w) → Grown a.definitions s w path)
+    → (m k : Lowered (Unit {0} × State)) → Ends Same a.definitions r m k
+    → Ends Things a.definitions s (then_by a (λ x. channel_args xs >>= process_at p n t path) m) (then_by b (λ x. channel_args ys >>= process_at p n t path) k)
+counted_left p n t path xs ys h a b i s r grow (Ok x) (Ok y) e =
+    process_entered p n t path a b i s r grow (channel_args xs a x.1) (channel_args ys b y.1)
+    (ends_on AllChannels a.definitions r x.1 (channel_args xs a x.1) (channel_args ys b y.1) e.2 ((channel_args_alike xs ys h).at a b i x.1 y.1 e.1))
+counted_left p n t path xs ys h a b i s r grow (Err f) (Err g) e = e
+counted_left p n t path xs ys h a b i s r grow (Ok x) (Err g) e = absurd e
+counted_left p n t path xs ys h a b i s r grow (Err f) (Ok y) e = absurd e
 
 -- a name that is called for the first time
 not_again : (p : Place) (n : List ℕ) (x : Scope) (later : Option LowerFault) → or_else (again_fault p n x) later ≡ None → is_among n x.called ≡ false
@@ -537,12 +558,12 @@ abbrev begun : List ℕ → List (List ℕ) → State → State
 begun n ps s = record s { scope = record s.scope { called = n ∷ s.scope.called }; paths = s.paths ++ ps }
 
 abbrev process_rest : Place → List ℕ → Tree → List Arg → List ℕ → Walk Thing
-process_rest p n t xs path = counted p (length xs) >>= λ _. channel_args xs >>= process_at n t path
+process_rest p n t xs path = counted p (length xs) >>= λ _. channel_args xs >>= process_at p n t path
 
 process_rests : (p : Place) (n : List ℕ) (t : Tree) (xs ys : List Arg) → AllArgs xs ys → (path : List ℕ) → (a b : Around) → Arounds a b → (s r u : State) → States r u
     → ((w : State) → (NamesArePlain a.definitions → Grows r w) → Grown a.definitions s w path) → Ends Things a.definitions s (process_rest p n t xs path a r) (process_rest p n t ys path b u)
 process_rests p n t xs ys h path a b i s r u e grow =
-    counted_left n t path xs ys h a b i s r grow (counted p (length xs) a r) (counted p (length ys) b u)
+    counted_left p n t path xs ys h a b i s r grow (counted p (length xs) a r) (counted p (length ys) b u)
     ((subst (λ z. Twin Same (counted p (length xs)) (counted p z)) (length_alike xs ys h) (counting p (length xs))).at a b i r u e)
 
 rests_alike : (p : Place) (n : List ℕ) (t : Tree) (xs ys : List Arg) → AllArgs xs ys → (one two : List ℕ) → one ≡ two → (a b : Around) → Arounds a b → (s r u : State) → States r u

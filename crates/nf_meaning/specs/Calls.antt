@@ -1,14 +1,14 @@
 -- Calls by name in a workflow's body: of processes, workflows, operators and `file`.
-use Rattle.std.specs.Prelude.{ℕ, ◌==◌, List, [], ◌∷◌, ◌++◌, length, if◌then◌else◌, Option, Some, None}
+use Rattle.std.specs.Prelude.{ℕ, ◌^◌, ◌==◌, Bool, false, not, nat_le, List, [], ◌∷◌, ◌++◌, length, if◌then◌else◌, Option, Some, None}
 use Rattle.nf_value.specs.declared.place.Place.{Place}
 use Rattle.nf_builtins.specs.Natives.{is_among}
 use Rattle.nf_ast.specs.Tree as tree
 use Rattle.nf_ast.specs.Tree.{Tree, cons}
 use Rattle.nf_optable.specs.declared.rows.OpRow.{OpRow}
 use Rattle.nf_meaning.specs.declared.fault.LowerFault.{LowerFault}
-use Rattle.nf_meaning.specs.declared.fault.LowerFault.TheVariants.{UnknownName, TwiceDefined, CallCycle, WrongArity, BadOption}
+use Rattle.nf_meaning.specs.declared.fault.LowerFault.TheVariants.{UnknownName, TwiceDefined, CallCycle, WrongArity, BadOption, TooManyNodes}
 use Rattle.nf_meaning.specs.Lowered.{or_else, fault_if}
-use Rattle.nf_meaning.specs.Things.{Thing, outputs, Channel, Output}
+use Rattle.nf_meaning.specs.Things.{Thing, outputs, Channel, Output, are_values}
 use Rattle.nf_meaning.specs.Names.{Called, a_process, a_workflow, a_function, a_file, an_operator, unknown, called_by}
 use Rattle.nf_meaning.specs.Walk.{Walk, Around, Scope, ◌>>=◌, gives, refused, lifted, unless_fault, means, with_scope, the_scope, begins_call, calling}
 use Rattle.nf_meaning.specs.Sizes.{counted}
@@ -37,8 +37,21 @@ task_call a path c cs = record { path = path; called = c; channels = cs; outcome
 abbrev pub tasks_mean : List ℕ → TaskCall → Walk Thing
 tasks_mean n c = means (task_meaning c) >>= λ _. called_here n (outputs_of c)
 
-abbrev pub process_at : List ℕ → Tree → List ℕ → List Channel → Walk Thing
-process_at n t path cs a s = (lifted (called_process a path t) >>= λ c. tasks_mean n (task_call a path c cs)) a s
+abbrev pub has_two_queues : List Channel → Bool
+has_two_queues [] = false
+has_two_queues (c ∷ cs) = if c.is_value then has_two_queues cs else not (are_values cs)
+
+-- what the call of no accepted script has: two queues, which the order rules refuse, or outputs that 32 bits can't
+-- number, for which no script is long enough
+abbrev pub call_fault : Place → CalledProcess → List Channel → Option LowerFault
+call_fault p c cs =
+    or_else (fault_if (has_two_queues cs) (BadOption p))
+    (fault_if (nat_le (2 ^ 32) (length c.labels)) (TooManyNodes p))
+
+abbrev pub process_at : Place → List ℕ → Tree → List ℕ → List Channel → Walk Thing
+process_at p n t path cs a s =
+    (lifted (called_process a path t) >>= λ c. unless_fault (call_fault p c cs) >>= λ _.
+    tasks_mean n (task_call a path c cs)) a s
 
 -- first its name, then its arguments, then its definition
 abbrev pub process_call : Place → List ℕ → Tree → List Arg → Walk Thing
@@ -46,7 +59,7 @@ process_call p n t xs =
     the_scope >>= λ x.
     unless_fault (or_else (again_fault p n x) (arity_fault p (length xs) (length (inputs_of t)))) >>= λ _.
     begins_call n ((x.path ++ n) ∷ []) >>= λ _. counted p (length xs) >>= λ _.
-    channel_args xs >>= process_at n t (x.path ++ n)
+    channel_args xs >>= process_at p n t (x.path ++ n)
 
 -- ---- workflows
 
