@@ -31,6 +31,7 @@ use Rattle.nf_core.proofs.Orderly.{history_orderly, opening_orderly}
 use Rattle.nf_core.proofs.Staying.{start_stays}
 use Rattle.nf_serial.specs.Serial.{is_start, IsIdle}
 use Rattle.nf_serial.proofs.Turns.{close_stays, pass_stays, tickets_grown}
+use Rattle.nf_locked.specs.Entered.{Halts}
 use Rattle.nf_locked.specs.Out.{AllOut, AreOut, tallies, tally}
 use Rattle.nf_locked.specs.Locked.{Parts, IsFree, is_lanes, is_failure, starts_of, failures_of}
 use Rattle.nf_locked.proofs.Returns.{Gains, Loses, out_kept, out_left, out_still}
@@ -96,8 +97,8 @@ module _ (F : Opening) (z f : Seen) (old : List (List Ticket)) (b l : ℕ) (free
   free_still x is same starts failures =
       free_step F z f x old old b l b l free is refl (out_still z f old (tickets_grown z f x is ∙ same) free.out) (no_more (is_start x) b starts) (no_more (is_failure x) l failures)
 
-  pub free_halted : (f ≡ z) ⊎ (f ≡ grown z e.Halt) → IsFree F (under f old b l)
-  free_halted (inl same) = subst (λ y. IsFree F (under y old b l)) (sym same) free
+  pub free_halted : Halts z f → IsFree F (under f old b l)
+  free_halted (inl same) = subst (λ y. IsFree F (under y old b l)) (sym same.1) free
   free_halted (inr is) = free_still e.Halt is refl refl refl
 
   pub free_passed : {A E : Type 0} (i : ℕ) (r : Result A E) → OnOk r (f ≡ grown z (e.Pass i)) → OnErr r (f ≡ grown z e.Halt) → IsFree F (under f old b l)

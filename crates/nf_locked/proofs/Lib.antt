@@ -8,3 +8,4 @@ pub mod Taking
 pub mod Few
 pub mod Places
 pub mod Working
+pub mod Entering

@@ -21,6 +21,7 @@ use Rattle.nf_core.specs.declared.next.Next.TheVariants.{Run, Look, Over}
 use Rattle.nf_core.specs.Calls.{GivesUp, EndsOrUp, IsNext, Starts}
 use Rattle.nf_core.specs.Causes.{IsLeft}
 use Rattle.nf_core.specs.Opening.{Opening}
+use Rattle.nf_locked.specs.Entered.{Halts}
 use Rattle.nf_locked.specs.Leaves.{IsWithout}
 use Rattle.nf_locked.specs.Locked.{IsFree, is_lanes}
 use Rattle.nf_locked.proofs.Changes.{gains, length_at, loses, regains, stays_at}
@@ -37,7 +38,7 @@ module _ (F : Opening) (R : Rules) {V : Type 0} (g : V → List Ticket) (vs : Li
   same_lists same = stays_at g vs i v d within (same ∙ ap g place)
 
   -- no ticket was found
-  pub unfound : g v ≡ g d → (f ≡ z) ⊎ (f ≡ grown z e.Halt) → IsFree F (under f (map g (set vs i v)) b l)
+  pub unfound : g v ≡ g d → Halts z f → IsFree F (under f (map g (set vs i v)) b l)
   unfound same halted = subst (λ out. IsFree F (under f out b l)) (sym (same_lists same)) (free_halted F z f (map g vs) b l free halted)
 
   leaves : (t : Ticket) → IsWithout t (g d) (g v) → Loses t (map g vs) (map g (set vs i v))

@@ -1,3 +1,4 @@
 pub mod Out
 pub mod Locked
 pub mod Leaves
+pub mod Entered

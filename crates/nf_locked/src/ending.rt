@@ -1,10 +1,16 @@
 //! How tickets come back under the lock.
 
-ghost use Rattle.std.specs.Prelude.{◌≡◌, ◌+◌, ◌<◌, if◌then◌else◌, length, true};
+ghost use Rattle.std.specs.Prelude.{◌≡◌, ◌⊎◌, ◌+◌, ◌<◌, if◌then◌else◌, length, MatchBool, Some, true};
 ghost use Rattle.nf_core.specs.Calls.{IsEnteredBy};
 ghost use Rattle.nf_core.specs.Causes.{IsLeft};
+ghost use Rattle.nf_core.specs.Ran.{outs_of, report_of};
 ghost use Rattle.nf_core.specs.Told.{attempt_by};
-ghost use Rattle.nf_flight.specs.Ticket.{attempt_of, inputs_of, next_attempt, node_of};
+ghost use Rattle.nf_flight.specs.Ticket.{attempt_of, inputs_of, next_attempt, node_of, number_of};
+ghost use Rattle.nf_flow.specs.Seen.{grown};
+ghost use Rattle.nf_locked.specs.Entered.{EndsOrDrops, EntersOrDrops, Halts};
+ghost use Rattle.nf_machine.specs.declared.event.Event.TheVariants as e;
+ghost use Rattle.nf_machine.specs.declared.stop.Outside.TheVariants as o;
+ghost use Rattle.nf_machine.specs.declared.stop.Stop.TheVariants as s;
 ghost use Rattle.nf_stored.specs.Attempts.{IsJobOf};
 
 use crate::found::{few_attempts, give};
@@ -36,6 +42,7 @@ impl<L: Lane, K: Keeper, J: Fixed, B: Ledger, F: Ledger> Locked<L, K, J, B, F> {
         requires rules { R.meaning rules.now ≡ J.facts.rules }
         requires item { IsItemOf J.facts copy.now }
         requires answer { AnswersIt J.facts copy.now answer }
+        ensures { EntersOrDrops self.old copy.now (e.Give (number_of copy.now) answer) self.new }
     {
         let Locked { run, out, .. } = self;
         let tickets = &mut out[index];
@@ -47,8 +54,8 @@ impl<L: Lane, K: Keeper, J: Fixed, B: Ledger, F: Ledger> Locked<L, K, J, B, F> {
         give(run, ticket, rules, answer);
     }
 
-    /// Takes the report that an earlier run left of a task's job in place of a run (as `RunState::reuse`). Answers whether
-    /// the task is tried again; its ticket, for the next attempt, is out with the lane then.
+    /// Takes the report that an earlier run left of a task's job in place of a run (as `RunState::reuse`). Answers
+    /// whether the task is tried again; its ticket, for the next attempt, is out with the lane then.
     pub fn reuse<R: Rules>(
         &mut self,
         index: usize,
@@ -67,7 +74,8 @@ impl<L: Lane, K: Keeper, J: Fixed, B: Ledger, F: Ledger> Locked<L, K, J, B, F> {
         requires seen { L.Seen.genuine seen }
         requires told { L.Seen.told seen ≡ report }
         requires outs { outs ≡ J.facts.rules.outputs (node_of copy.now) (inputs_of copy.now) (attempt_of copy.now) report }
-        ensures { result ≡ true → IsTaskOf J.facts (next_attempt copy.now) }
+        ensures again { result ≡ true → IsTaskOf J.facts (next_attempt copy.now) }
+        ensures ends { EndsOrDrops self.old copy.now (e.Reuse (number_of copy.now) report outs) outs result self.new }
     {
         let Locked { run, out, .. } = self;
         let tickets = &mut out[index];
@@ -100,7 +108,9 @@ impl<L: Lane, K: Keeper, J: Fixed, B: Ledger, F: Ledger> Locked<L, K, J, B, F> {
         requires job { IsJobOf J.facts.rules (attempt_by copy.now) job.now }
         requires ran { IsEnteredBy J.facts
             (record { genuine = L.Done.genuine; job = L.Done.job; told = L.Done.told }) copy.now job.now ran }
-        ensures { result ≡ true → IsTaskOf J.facts (next_attempt copy.now) }
+        ensures again { result ≡ true → IsTaskOf J.facts (next_attempt copy.now) }
+        ensures ends { EndsOrDrops self.old copy.now (e.Finish (number_of copy.now) (report_of ran) (outs_of ran))
+            (outs_of ran) result self.new }
     {
         let Locked { run, out, .. } = self;
         let tickets = &mut out[index];
@@ -122,6 +132,8 @@ impl<L: Lane, K: Keeper, J: Fixed, B: Ledger, F: Ledger> Locked<L, K, J, B, F> {
         requires lane { index < length J.facts.lanes }
         requires task { IsTaskOf J.facts copy.now }
         requires parts { 0 < lost.old.parts }
+        ensures is { MatchBool result
+            (self.new ≡ grown self.old (e.Abort (number_of copy.now) (Some (s.Outside o.Lane)))) (Halts self.old self.new) }
         ensures lost { lost.new.amount ≡ lost.old.amount + (if result then 1 else 0) }
         ensures parts { lost.new.parts ≡ lost.old.parts }
     {
@@ -147,6 +159,7 @@ impl<L: Lane, K: Keeper, J: Fixed, B: Ledger, F: Ledger> Locked<L, K, J, B, F> {
         requires lane { index < length J.facts.lanes }
         requires stop { IsLoss J.facts copy.now stop }
         requires task { IsTaskOf J.facts copy.now }
+        ensures { (self.new ≡ grown self.old (e.Abort (number_of copy.now) (Some stop))) ⊎ Halts self.old self.new }
     {
         let Locked { run, out, .. } = self;
         let tickets = &mut out[index];

@@ -1,7 +1,10 @@
 //! `Locked`: what lies under a run's lock while several workers work on it.
 
-ghost use Rattle.std.specs.Prelude.{◌≡◌, ◌<◌, ℕ, map, length};
+ghost use Rattle.std.specs.Prelude.{◌≡◌, ◌||◌, ℕ, is_some, map, length};
+ghost use Rattle.nf_flow.specs.Seen.{plain_of, state_of};
+ghost use Rattle.nf_locked.specs.Entered.{TellsReady};
 ghost use Rattle.nf_locked.specs.Out.{tallies};
+ghost use Rattle.nf_machine.specs.History.{is_over};
 ghost use Rattle.nf_serial.specs.Serial.{IsIdle};
 
 use nf_core::{Fixed, RunState};
@@ -11,15 +14,15 @@ use nf_lane::Lane;
 use std::marker::Model;
 use std::sync::ledger::{Book, Ledger, Share};
 
-/// What lies under a run's lock while several workers work on it (own): the run, the tickets that are out with workers, a list for each
-/// lane, and two books. Contracts see the flow. `J` stands for what is fixed from the opening on.
+/// What lies under a run's lock while several workers work on it (own): the run, the tickets that are out with workers,
+/// a list for each lane, and two books. Contracts see the flow. `J` stands for what is fixed from the opening on.
 ///
-/// A worker leaves each ticket that it takes in its lane's list, and works outside of the lock on a copy. In a later holding it hands the
-/// copy in, and the ticket is looked for by it. What one holding learnt isn't known in the next, so each call has an answer for a ticket
-/// that isn't found: the run is stopped for want of memory. No run comes to it.
+/// A worker leaves each ticket that it takes in its lane's list, and works outside of the lock on a copy. In a later
+/// holding it hands the copy in, and the ticket is looked for by it. What one holding learnt isn't known in the next,
+/// so each call has an answer for a ticket that isn't found: the run is stopped for want of memory. No run comes to it.
 ///
-/// Whenever the lock is free: all that holds of a `RunState` holds; the tickets in flight are those that are out; the runs that are owed
-/// are as many as the Starts, and the failures of lanes as many as the stops by them.
+/// Whenever the lock is free: all that holds of a `RunState` holds; the tickets in flight are those that are out; the
+/// runs that are owed are as many as the Starts, and the failures of lanes as many as the stops by them.
 #[derive(Drop)]
 pub struct Locked<L: Lane, K: Keeper, J: Fixed, B: Ledger, F: Ledger> {
     pub(crate) run: RunState<L, K, J>,
@@ -76,17 +79,21 @@ impl<L: Lane, K: Keeper, J: Fixed, B: Ledger, F: Ledger> Locked<L, K, J, B, F> {
     }
 
     /// Whether no more moves come: the run is stopped or over. Takes no memory.
-    pub fn is_done(&self) -> bool {
+    pub fn is_done(&self) -> bool
+        ensures { result ≡ (is_some (state_of self.now).stop || is_over (plain_of self.now) (state_of self.now)) }
+    {
         self.run.flow().is_stopped() || self.run.flow().is_over()
     }
 
     /// Whether there is a move now. Takes no memory.
-    pub fn is_ready(&self) -> bool {
+    pub fn is_ready(&self) -> bool
+        ensures { TellsReady self.now result }
+    {
         self.run.flow().ready().is_some()
     }
 
-    /// The run and the tickets that are left out, with what the books tell: as many runs are owed as there are Starts, and as many lanes
-    /// failed as there are stops by them. Takes no memory.
+    /// The run and the tickets that are left out, with what the books tell: as many runs are owed as there are Starts,
+    /// and as many lanes failed as there are stops by them. Takes no memory.
     pub fn into_parts(
         self,
         owed: &mut Share<B>,

@@ -1,12 +1,14 @@
 //! Moves of a run, and the tickets that they make.
 
-ghost use Rattle.std.specs.Prelude.{◌≡◌, ◌⊎◌, ◌<◌, length, MatchBool};
-ghost use Rattle.nf_flow.specs.Seen.{grown, plain_of, state_of};
+ghost use Rattle.std.specs.Prelude.{◌<◌, length, MatchBool};
+ghost use Rattle.nf_flow.specs.Seen.{plain_of, state_of, take_of};
 ghost use Rattle.nf_graph.specs.WellMade.{plain_node};
-ghost use Rattle.nf_locked.specs.Leaves.{IsTaken};
+ghost use Rattle.nf_locked.specs.Entered.{Halts, Makes, MakesMove, MakesTake, Steps};
+ghost use Rattle.nf_locked.specs.Leaves.{IsOn, IsTaken};
 ghost use Rattle.nf_locked.specs.Locked.{IsWork};
 ghost use Rattle.nf_machine.specs.Legal.{CloseIsLegal, IsOperatorKind};
 ghost use Rattle.nf_machine.specs.declared.event.Event.TheVariants as e;
+ghost use Rattle.nf_nodes.specs.Ready.{IsReady, IsReadyAt};
 ghost use Rattle.nf_nodes.specs.Steps.{MayPass, MayTake};
 ghost use Rattle.nf_serial.specs.Serial.{IsLegalMove};
 
@@ -23,7 +25,7 @@ use std::sync::ledger::Ledger;
 
 /// Stops the run for want of memory, if it isn't stopped.
 pub(crate) fn halt<L: Lane, K: Keeper, J: Fixed>(run: &mut RunState<L, K, J>)
-    ensures { (run.new ≡ run.old) ⊎ (run.new ≡ grown run.old e.Halt) }
+    ensures { Halts run.old run.new }
 {
     if !run.flow().is_stopped() {
         run.halt_for_memory();
@@ -33,7 +35,8 @@ pub(crate) fn halt<L: Lane, K: Keeper, J: Fixed>(run: &mut RunState<L, K, J>)
 // What there is to do of a ticket that a node took.
 fn work_of<L: Lane, K: Keeper, J: Fixed>(run: &RunState<L, K, J>, ticket: Ticket) -> Work
     requires { IsTaken J.facts ticket }
-    ensures { IsWork J.facts result }
+    ensures work { IsWork J.facts result }
+    ensures on { IsOn ticket result }
 {
     run.holds();
     let nodes = run.flow().graph().nodes();
@@ -51,10 +54,12 @@ fn is_operator(node: &Node) -> bool
 }
 
 impl<L: Lane, K: Keeper, J: Fixed, B: Ledger, F: Ledger> Locked<L, K, J, B, F> {
-    /// Makes a move, if there is one: a Pass before a Take, a Take before a Close. The ticket of a Take stays out with the lane.
+    /// Makes a move, if there is one: a Pass before a Take, a Take before a Close. The ticket of a Take stays out with
+    /// the lane.
     pub fn step(&mut self, index: usize) -> Work
         requires { index < length J.facts.lanes }
-        ensures { IsWork J.facts result }
+        ensures work { IsWork J.facts result }
+        ensures makes { Steps (IsReady self.old.graph (state_of self.old)) self.old result self.new }
     {
         match self.run.flow().ready() {
             Some(next) => self.turn(index, next),
@@ -63,7 +68,9 @@ impl<L: Lane, K: Keeper, J: Fixed, B: Ledger, F: Ledger> Locked<L, K, J, B, F> {
     }
 
     /// Stops the run for want of memory, if it isn't stopped. Takes no memory.
-    pub fn halt(&mut self) {
+    pub fn halt(&mut self)
+        ensures { Halts self.old self.new }
+    {
         let Locked { run, .. } = self;
         halt(run);
     }
@@ -71,7 +78,8 @@ impl<L: Lane, K: Keeper, J: Fixed, B: Ledger, F: Ledger> Locked<L, K, J, B, F> {
     /// A Take of the node, if one is legal. Its ticket stays out with the lane.
     pub fn step_at(&mut self, index: usize, node: u32) -> Work
         requires { index < length J.facts.lanes }
-        ensures { IsWork J.facts result }
+        ensures work { IsWork J.facts result }
+        ensures makes { Steps (IsReadyAt self.old.graph (state_of self.old) node) self.old result self.new }
     {
         match self.run.flow().ready_at(node) {
             Some(next) => self.turn(index, next),
@@ -83,7 +91,8 @@ impl<L: Lane, K: Keeper, J: Fixed, B: Ledger, F: Ledger> Locked<L, K, J, B, F> {
     fn turn(&mut self, index: usize, next: Move) -> Work
         requires lane { index < length J.facts.lanes }
         requires legal { IsLegalMove self.old next }
-        ensures { IsWork J.facts result }
+        ensures work { IsWork J.facts result }
+        ensures makes { Makes self.old next result self.new }
     {
         match next {
             Move::Pass { port } => self.pass(port),
@@ -95,7 +104,8 @@ impl<L: Lane, K: Keeper, J: Fixed, B: Ledger, F: Ledger> Locked<L, K, J, B, F> {
     // A Pass.
     fn pass(&mut self, port: u32) -> Work
         requires { MayPass self.old.graph (state_of self.old) port }
-        ensures { IsWork J.facts result }
+        ensures work { IsWork J.facts result }
+        ensures makes { MakesMove self.old (e.Pass port) result self.new }
     {
         let Locked { run, .. } = self;
         let _ = run.pass(port);
@@ -105,7 +115,8 @@ impl<L: Lane, K: Keeper, J: Fixed, B: Ledger, F: Ledger> Locked<L, K, J, B, F> {
     // A Close.
     fn close(&mut self, node: u32) -> Work
         requires { CloseIsLegal (plain_of self.old) (state_of self.old) node }
-        ensures { IsWork J.facts result }
+        ensures work { IsWork J.facts result }
+        ensures makes { MakesMove self.old (e.Close node) result self.new }
     {
         let Locked { run, .. } = self;
         let _ = run.close(node);
@@ -116,7 +127,8 @@ impl<L: Lane, K: Keeper, J: Fixed, B: Ledger, F: Ledger> Locked<L, K, J, B, F> {
     fn take(&mut self, index: usize, node: u32, port: u32, place: u32) -> Work
         requires lane { index < length J.facts.lanes }
         requires legal { MayTake self.old.graph (state_of self.old) node port place }
-        ensures { IsWork J.facts result }
+        ensures work { IsWork J.facts result }
+        ensures makes { MakesTake self.old (take_of self.old node port place) result self.new }
     {
         let Locked { run, out, .. } = self;
         run.holds();

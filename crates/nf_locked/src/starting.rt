@@ -1,8 +1,13 @@
 //! How the attempt of a task begins under the lock.
 
-ghost use Rattle.std.specs.Prelude.{◌≡◌, ◌+◌, ◌<◌, ◌^◌, if◌then◌else◌, length};
+ghost use Rattle.std.specs.Prelude.{◌≡◌, ◌+◌, ◌<◌, ◌^◌, if◌then◌else◌, length, MatchBool};
 ghost use Rattle.nf_core.specs.Told.{attempt_by};
+ghost use Rattle.nf_flight.specs.Ticket.{number_of};
+ghost use Rattle.nf_flow.specs.Seen.{grown};
+ghost use Rattle.nf_locked.specs.Entered.{Begins, Drops};
 ghost use Rattle.nf_locked.specs.Locked.{owed_by};
+ghost use Rattle.nf_machine.specs.declared.event.Cause.TheVariants as cause;
+ghost use Rattle.nf_machine.specs.declared.event.Event.TheVariants as e;
 ghost use Rattle.nf_stored.specs.Attempts.{IsJobOf};
 
 use crate::handed::take_back;
@@ -21,13 +26,15 @@ use std::sync::ledger::{Ledger, Share};
 impl<L: Lane, K: Keeper, J: Fixed, B: Ledger, F: Ledger> Locked<L, K, J, B, F> {
     ghost use Rattle.nf_locked.specs.Locked.{IsBegun, IsTaskOf, WasGone};
 
-    /// Begins the attempt of a task's ticket, whose job this is (as `RunState::begin`). If it is started, one run is owed.
+    /// Begins the attempt of a task's ticket, whose job this is (as `RunState::begin`). If it is started, one run is
+    /// owed.
     pub fn begin(&mut self, owed: &mut Share<B>, index: usize, copy: &Ticket, job: &Job) -> Begun
         requires lane { index < length J.facts.lanes }
         requires task { IsTaskOf J.facts copy.now }
         requires job { IsJobOf J.facts.rules (attempt_by copy.now) job.now }
         requires parts { 0 < owed.old.parts }
         ensures next { IsBegun J.facts job.now result }
+        ensures begins { Begins self.old copy.now result self.new }
         ensures owed { owed.new.amount ≡ owed.old.amount + owed_by result }
         ensures few { owed.new.amount < 2 ^ 34 }
         ensures parts { owed.new.parts ≡ owed.old.parts }
@@ -60,8 +67,8 @@ impl<L: Lane, K: Keeper, J: Fixed, B: Ledger, F: Ledger> Locked<L, K, J, B, F> {
         Begun::Run
     }
 
-    /// Starts the attempt of a task's ticket, whose job this is: a file of this name, of the record that an earlier run left of the job, is
-    /// gone. Answers whether it did; one run is owed then. Else the ticket was given up.
+    /// Starts the attempt of a task's ticket, whose job this is: a file of this name, of the record that an earlier run
+    /// left of the job, is gone. Answers whether it did; one run is owed then. Else the ticket was given up.
     pub fn start_gone(
         &mut self,
         owed: &mut Share<B>,
@@ -75,6 +82,8 @@ impl<L: Lane, K: Keeper, J: Fixed, B: Ledger, F: Ledger> Locked<L, K, J, B, F> {
         requires job { IsJobOf J.facts.rules (attempt_by copy.now) job.now }
         requires gone { WasGone J.facts job.now name }
         requires parts { 0 < owed.old.parts }
+        ensures starts { MatchBool result (self.new ≡ grown self.old (e.Start (number_of copy.now) (cause.Gone name)))
+            (Drops self.old copy.now self.new) }
         ensures owed { owed.new.amount ≡ owed.old.amount + (if result then 1 else 0) }
         ensures few { owed.new.amount < 2 ^ 34 }
         ensures parts { owed.new.parts ≡ owed.old.parts }

@@ -1,3 +1,5 @@
+use Rattle.std.proofs.Common.{inl, inr}
+use Rattle.nf_locked.proofs.Entering.{given_up, halted}
 use Rattle.std.proofs.Common.{subst, sym}
 use Rattle.std.specs.Prelude.{Some}
 use Rattle.nf_locked.specs.Locked.{IsLoss, IsTaskOf}
@@ -23,3 +25,9 @@ invariant_of-self g c = unfound g.J.Fixed.facts g.J.Fixed.facts.rules (λ v. v.i
 
 pub invariant_of-self-2 : goal.invariant_of-self-2
 invariant_of-self-2 g c = lost_at g.J.Fixed.facts g.J.Fixed.facts.rules (λ v. v.items) c.self.inside.out.items c.args.index c.index_mut-tickets.result.now c.take_back.new.tickets c.self.inside.begun.total c.self.inside.failed.total c.self.inside.run c.give_up.new.self c.self.invariant c.requires.lane c.index_mut-tickets.ensures.value c.in-Some.ticket (Some c.args.stop) c.self.inside.failed.total c.in-Some.ensures.left c.holds.ensures.lawful c.give_up.ensures (loss_is_no_failure g.J.Fixed.facts c.args.copy.now c.args.stop c.self.inside.failed.total c.requires.stop)
+
+pub returns-in_default : goal.returns-in_default
+returns-in_default g c = inr (halted c.self.inside.run c.args.self.now c.halt.new.run c.self.view_is c.halt.ensures)
+
+pub returns : goal.returns
+returns g c = inl (given_up c.self.inside.run c.args.self.now c.give_up.new.self c.self.view_is c.in-Some.ticket c.args.copy.now c.in-Some.ensures.same (Some c.args.stop) c.give_up.ensures)

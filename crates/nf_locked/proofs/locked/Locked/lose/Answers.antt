@@ -1,3 +1,4 @@
+use Rattle.nf_locked.proofs.Entering.{given_up, halted}
 use Rattle.std.specs.Prelude.{Some}
 use Rattle.nf_machine.specs.declared.stop.Stop.TheVariants as s
 use Rattle.nf_machine.specs.declared.stop.Outside.TheVariants as o
@@ -22,3 +23,9 @@ invariant_of-self g c = unfound g.J.Fixed.facts g.J.Fixed.facts.rules (λ v. v.i
 
 pub invariant_of-self-2 : goal.invariant_of-self-2
 invariant_of-self-2 g c = lost_at g.J.Fixed.facts g.J.Fixed.facts.rules (λ v. v.items) c.self.inside.out.items c.args.index c.index_mut-tickets.result.now c.take_back.new.tickets c.self.inside.begun.total c.self.inside.failed.total c.self.inside.run c.give_up.new.self c.self.invariant c.requires.lane c.index_mut-tickets.ensures.value c.in-Some.ticket (Some (s.Outside o.Lane)) c.add.new.self.total c.in-Some.ensures.left c.holds.ensures.lawful c.give_up.ensures c.add.ensures.total
+
+pub returns-in_default-clause-is : goal.returns-in_default-clause-is
+returns-in_default-clause-is g c = halted c.self.inside.run c.args.self.now c.halt.new.run c.self.view_is c.halt.ensures
+
+pub returns-clause-is : goal.returns-clause-is
+returns-clause-is g c = given_up c.self.inside.run c.args.self.now c.give_up.new.self c.self.view_is c.in-Some.ticket c.args.copy.now c.in-Some.ensures.same (Some (s.Outside o.Lane)) c.give_up.ensures

@@ -1,3 +1,4 @@
+use Rattle.nf_locked.proofs.Entering.{nothing_taken, taken, taken_in_vain}
 use Rattle.std.proofs.Common.{refl, ◌∙◌, ◌++◌, ◌∷◌, [], ap, inr, subst, sym}
 use Rattle.std.specs.Prelude.{Some}
 use Rattle.nf_flow.specs.Seen.{Seen, state_of}
@@ -32,3 +33,15 @@ invariant_of-self-2 g c = taken_at g.J.Fixed.facts g.J.Fixed.facts.rules (λ v. 
 
 pub work_of-requires : goal.work_of-requires
 work_of-requires g c = subst (IsTaken g.J.Fixed.facts) (sym c.in-Ok-copy_of.ensures) (is_taken g.J.Fixed.facts.rules c.self.inside.run c.take.new.self c.args.node c.args.port c.args.place c.in-Ok-take.ticket c.holds.ensures.lawful (subst (λ (y : Seen). MayTake y.graph (state_of y) c.args.node c.args.port c.args.place) (sym c.self.view_is) c.requires.legal) c.in-Ok-take.ensures.ok c.in-Ok-take.ensures.number c.in-Ok-take.ensures.ticket g.J.Fixed.facts c.holds.ensures.graph)
+
+pub returns-in_default-clause-makes : goal.returns-in_default-clause-makes
+returns-in_default-clause-makes g c = nothing_taken c.self.inside.run c.args.self.now c.halt.new.run c.self.view_is c.args.node c.args.port c.args.place c.halt.ensures
+
+pub returns-in_default-take-clause-makes : goal.returns-in_default-take-clause-makes
+returns-in_default-take-clause-makes g c = nothing_taken c.self.inside.run c.args.self.now c.take.new.self c.self.view_is c.args.node c.args.port c.args.place (inr c.in_default-take.ensures.err)
+
+pub returns-in_default-copy_of-clause-makes : goal.returns-in_default-copy_of-clause-makes
+returns-in_default-copy_of-clause-makes g c = taken_in_vain c.self.inside.run c.args.self.now c.give_up.new.self c.self.view_is c.args.node c.args.port c.args.place c.take.new.self c.in-Ok-take.ticket c.in-Ok-take.ensures.ok c.in-Ok-take.ensures.number c.give_up.ensures
+
+pub returns-clause-makes : goal.returns-clause-makes
+returns-clause-makes g c = taken c.self.inside.run c.args.self.now c.take.new.self c.self.view_is c.args.node c.args.port c.args.place c.in-Ok-take.ticket c.in-Ok-copy_of.copy c.work_of.result c.in-Ok-copy_of.ensures c.work_of.ensures.on c.in-Ok-take.ensures.ok c.in-Ok-take.ensures.number c.in-Ok-take.ensures.ticket
