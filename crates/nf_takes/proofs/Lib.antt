@@ -1,2 +1,3 @@
 mod Labelled
 mod Taken
+mod Binding

@@ -44,7 +44,7 @@ among_last : (m n : List ℕ) (ns : List (List ℕ)) → is_among m (ns ++ n ∷
 among_last m n [] = refl
 among_last m n (k ∷ ns) = ap (λ b. bytes_eq k m || b) (among_last m n ns) ∙ or_swap (bytes_eq k m) (bytes_eq n m) (is_among m ns)
 
-taken_one : {X : Type 0} (xs : List X) (i : ℕ) (x : X) → i < length xs → x ≡ get_or xs i x → take (i + 1) xs ≡ take i xs ++ x ∷ []
+pub taken_one : {X : Type 0} (xs : List X) (i : ℕ) (x : X) → i < length xs → x ≡ get_or xs i x → take (i + 1) xs ≡ take i xs ++ x ∷ []
 taken_one xs i x h is = take_more xs i x h ∙ ap (λ l. take i xs ++ l) (ap (λ y. y ∷ []) (sym is))
 
 left : {X : Type 0} (xs : List X) (i : ℕ) (x : X) → i < length xs → x ≡ get_or xs i x → drop i xs ≡ x ∷ drop (i + 1) xs

@@ -2,7 +2,9 @@
 #![tactic(auto)]
 
 mod emits;
+mod tables;
 mod takes;
 
 pub use emits::{check_label, copy_name, emit_parts};
-pub use takes::{check_taken, names_taken};
+pub use tables::bound;
+pub use takes::{check_taken, names_taken, stands_in};

@@ -41,7 +41,8 @@ pub fn check_taken(names: &[(Place, Txt)]) -> Result<(), LowerFault>
     Ok(())
 }
 
-fn stands_in(names: &[(Place, Txt)], name: &Txt) -> bool
+/// Whether a name is one of these. Takes no memory.
+pub fn stands_in(names: &[(Place, Txt)], name: &Txt) -> bool
     ensures { result ≡ is_among name.now (map (λ n. n.1) names.now) }
 {
     for (_, other) in names {
