@@ -1,0 +1,13 @@
+use Rattle.std.proofs.Common.{sym, subst}
+use Rattle.nf_ast.specs.View.{view}
+use Rattle.nf_meaning.specs.Closures.{word_arg}
+use Rattle.nf_around.specs.Gives.{Reads}
+use Rattle.nf_around.specs.Words.{IsWord}
+use Rattle.nf_around.proofs.Taken.{no_word}
+use Rattle.nf_around.proofs.surroundings.Surroundings.word_arg.Goals as goal
+
+pub returns-in-Some : goal.returns-in-Some
+returns-in-Some g c a s h = subst (λ t. Reads IsWord (word_arg t) a s c.word_of.result) (sym c.in-Some.ensures) (c.word_of.ensures a s)
+
+pub returns-in_ok-no_closure-in-None : goal.returns-in_ok-no_closure-in-None
+returns-in_ok-no_closure-in-None g c a s h = no_word (view c.args.expr.now) a s c.in_ok-no_closure-in-None.field-0 c.in-None.ensures (c.in_ok-no_closure-in-None.ensures a s h)
