@@ -1,0 +1,4 @@
+pub mod AtPath
+pub mod Kept
+pub mod Steps
+pub mod Stored
