@@ -41,7 +41,7 @@ binary_never : (l : Leads) (p : Place) (k : InfixOperator) (a b : Tree) → is_o
 binary_never l p infix_operator.Pipe a b h = absurd (false≢true h)
 binary_never l p _ a b h = refl
 
-other_never : (l : Leads) (t : Tree) → is_other t ≡ true → leading l t ≡ never
+pub other_never : (l : Leads) (t : Tree) → is_other t ≡ true → leading l t ≡ never
 other_never l (tree.number p z) h = refl
 other_never l (tree.text p k s) h = refl
 other_never l (tree.pattern p s) h = refl

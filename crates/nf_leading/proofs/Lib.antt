@@ -1,6 +1,6 @@
 mod Lists
 mod Sizes
-mod Arms
+pub mod Arms
 mod Naming
 mod Things
 mod Outputs

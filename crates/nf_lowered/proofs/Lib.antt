@@ -1,2 +1,2 @@
-mod Chains
+pub mod Chains
 pub mod Joining

@@ -1,0 +1,10 @@
+pub mod Steps
+pub mod Around
+pub mod Forms
+pub mod Parts
+pub mod Args
+pub mod Arguing
+pub mod Members
+pub mod Emits
+pub mod Filled
+pub mod Depth
