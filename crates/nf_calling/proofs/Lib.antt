@@ -1,0 +1,10 @@
+pub mod Along
+pub mod Present
+mod Texts
+mod Counts
+mod Checking
+mod Lasting
+mod Queues
+mod Naming
+mod Specs
+mod Tasking
