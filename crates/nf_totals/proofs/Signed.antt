@@ -67,13 +67,13 @@ one_ended (asked p c) fs e = ended_plain fs (tree.conditional p c e empty) refl
 one_ended (answered p c a) fs e = ended_plain fs (tree.conditional p c a e) refl
 one_ended (preferred p a) fs e = ended_plain fs (tree.elvis p a e) refl
 
-turned_some : (P : List Frame → Type 0) → ((f : Frame) (fs : List Frame) → P (f ∷ fs)) → (q : Place) (fs : List Frame) (e : Tree) → P (turned q fs e)
+pub turned_some : (P : List Frame → Type 0) → ((f : Frame) (fs : List Frame) → P (f ∷ fs)) → (q : Place) (fs : List Frame) (e : Tree) → P (turned q fs e)
 turned_some P h q [] e = h (preferred q e) []
 turned_some P h q (asked p c ∷ fs) e = h (answered p c e) fs
 turned_some P h q (answered p c a ∷ fs) e = turned_some P h q fs (tree.conditional p c a e)
 turned_some P h q (preferred p a ∷ fs) e = turned_some P h q fs (tree.elvis p a e)
 
-framed_some : (P : List Frame → Type 0) → ((f : Frame) (fs : List Frame) → P (f ∷ fs)) → (p : Place) (o : BranchOperator) (fs : List Frame) (e : Tree) → P (framed p o fs e)
+pub framed_some : (P : List Frame → Type 0) → ((f : Frame) (fs : List Frame) → P (f ∷ fs)) → (p : Place) (o : BranchOperator) (fs : List Frame) (e : Tree) → P (framed p o fs e)
 framed_some P h p branch.Then fs e = h (asked p e) fs
 framed_some P h p branch.Else fs e = turned_some P h p fs e
 framed_some P h p branch.Elvis fs e = h (preferred p e) fs
@@ -92,14 +92,14 @@ turns_sign t e (x ∷ xs) k is h = no_sign t k (ap is_operator is ∙ turns_plai
 -- ---- operands
 
 -- what a pattern `[before @ .., x]` gives
-last_of_row : {X : Type 0} (xs : List X) (x : X) → 0 < length xs → x ≡ get_or xs (length xs - 1) x → xs ≡ take (length xs - 1) xs ++ x ∷ []
+pub last_of_row : {X : Type 0} (xs : List X) (x : X) → 0 < length xs → x ≡ get_or xs (length xs - 1) x → xs ≡ take (length xs - 1) xs ++ x ∷ []
 last_of_row xs x h is =
     let i : ℕ = length xs - 1 in
     let next : length xs ≤ i + 1 = omega (arith, h) in
     let within : i < length xs = omega (arith, h) in
     sym (take_all (i + 1) xs next) ∙ take_more xs i x within ∙ ap (λ y. take i xs ++ y ∷ []) (sym is)
 
-operands-last : (a : Tree) (xs : List Tree) (p : Place) (o : InfixOperator) (x b : Tree) → operands a (xs ++ tree.binary p o x b ∷ []) ≡ tree.binary p o (operands a xs) b
+pub operands-last : (a : Tree) (xs : List Tree) (p : Place) (o : InfixOperator) (x b : Tree) → operands a (xs ++ tree.binary p o x b ∷ []) ≡ tree.binary p o (operands a xs) b
 operands-last a [] p o x b = refl
 operands-last a (tree.binary q m y c ∷ xs) p o x b = operands-last (tree.binary q m a c) xs p o x b
 operands-last a (_ ∷ xs) p o x b = operands-last a xs p o x b

@@ -1,0 +1,12 @@
+pub mod Walks
+pub mod Things
+pub mod Trees
+pub mod Shaping
+pub mod Rows
+pub mod Wanting
+pub mod Options
+pub mod Settling
+pub mod Calling
+pub mod Naming
+pub mod Sourcing
+pub mod Files
