@@ -1,0 +1,4 @@
+pub mod CommandLine
+pub mod Request
+pub mod Answers
+pub mod Steps
