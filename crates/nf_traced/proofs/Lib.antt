@@ -1,0 +1,5 @@
+mod Numbered
+mod Came
+mod Flying
+mod Histories
+mod Showing
