@@ -2,12 +2,8 @@
 #![tactic(auto)]
 
 #[cfg(test)]
-mod callees;
-#[cfg(test)]
 mod names;
 #[cfg(test)]
 mod paths;
 #[cfg(test)]
 mod scopes;
-#[cfg(test)]
-mod unbuilt;

@@ -1,27 +1,34 @@
 //! The names that stand in expressions.
 
-use nf_ast::{ClosureExpr, Expr};
-use nf_exprs::expr;
-use nf_lexer::tokens;
+use nf_ast::{ClosureBody, ClosureExpr, Expr, Stmt};
 use nf_relevant::{names_in, names_in_closure};
-use nf_value::Txt;
+use nf_value::{Mem, Place, Txt};
 use std::alloc::{AllocError, Global};
 use std::test::Fail;
 
-/// The tree of an expression.
-pub(crate) fn read(alloc: Global, text: &str) -> Result<Expr, Fail> {
-    let tokens = tokens(alloc, text.as_bytes())?;
-    match expr(alloc, &tokens, 0) {
-        Ok((expr, _next)) => Ok(expr),
-        Err(_) => Err(Fail::from("not read")),
-    }
+const HERE: Place = Place { line: 1, col: 1 };
+
+fn txt(alloc: Global, text: &str) -> Result<Txt, Mem> {
+    Ok(Txt::of(String::from_str(alloc, text)?))
 }
 
-pub(crate) fn read_closure(alloc: Global, text: &str) -> Result<ClosureExpr, Fail> {
-    match read(alloc, text)? {
-        Expr::Closure(closure) => Ok(closure),
-        _ => Err(Fail::from("no closure")),
+/// A list of these names.
+fn list(alloc: Global, names: &[&str]) -> Result<Expr, Mem> {
+    let mut items = Vec::new(alloc);
+    for name in names.iter().copied() {
+        items.push(Expr::name(HERE, txt(alloc, name)?))?;
     }
+    Ok(Expr::list(HERE, items))
+}
+
+/// `{ -> z = [x, y] }`.
+fn closure(alloc: Global) -> Result<ClosureExpr, Mem> {
+    let value = list(alloc, &["x", "y"])?;
+    let name = txt(alloc, "z")?;
+    let mut body = Vec::new(alloc);
+    body.push(Stmt::assign(HERE, name, value))?;
+    let body = ClosureBody::statements(body);
+    Ok(ClosureExpr::new(HERE, Some(Vec::new(alloc)), body))
 }
 
 /// The names with a blank after each.
@@ -37,20 +44,15 @@ fn joined(alloc: Global, names: &[Txt]) -> Result<String, AllocError> {
 #[test]
 fn names_are_listed(rt: HostRuntime) -> Result<(), Fail> {
     let alloc = rt.alloc();
-    let expr = read(alloc, "f(x, y.size()) { z + it } ? [x, \"a$w\"] : v[u]")?;
-    let names = names_in(alloc, &expr)?;
-    assert_eq!(rt; joined(alloc, &names)?.as_str(), "f x y z it x w v u ");
+    let names = names_in(alloc, &list(alloc, &["x", "y", "x"])?)?;
+    assert_eq!(rt; joined(alloc, &names)?.as_str(), "x y x ");
     Ok(())
 }
 
 #[test]
 fn names_of_a_closure_are_listed(rt: HostRuntime) -> Result<(), Fail> {
     let alloc = rt.alloc();
-    let closure = read_closure(
-        alloc,
-        "{ a -> def b = a + c; b = d; if (e) { f } else { return g } }",
-    )?;
-    let names = names_in_closure(alloc, &closure)?;
-    assert_eq!(rt; joined(alloc, &names)?.as_str(), "a c d e f g ");
+    let names = names_in_closure(alloc, &closure(alloc)?)?;
+    assert_eq!(rt; joined(alloc, &names)?.as_str(), "x y ");
     Ok(())
 }
