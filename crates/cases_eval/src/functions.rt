@@ -2,7 +2,7 @@
 
 use crate::parsed::parsed;
 use anyhow::{Result, bail};
-use nf_ast::{ClosureBody, ClosureExpr, Expr, Function};
+use nf_ast::{ClosureBody, Expr, Function};
 use nf_eval::Library;
 use nf_value::Txt;
 use std::alloc::Global;
@@ -38,23 +38,24 @@ pub(crate) fn known_functions(alloc: Global) -> Result<Library> {
 
 /// A function with the parameters and the body of a closure.
 fn function(alloc: Global, name: &str, code: &str) -> Result<Function> {
-    let closure = match parsed(alloc, code)? {
-        Expr::Closure(closure) => closure,
-        _ => bail!("{name}: no closure"),
+    let Expr::Closure(closure) = &parsed(alloc, code)? else {
+        bail!("{name}: no closure");
     };
-    let ClosureExpr {
-        place,
-        params,
-        body,
-    } = closure;
-    let body = match body {
-        ClosureBody::Statements(body) => body,
-        ClosureBody::Labels(_) => bail!("{name}: labels"),
+    let ClosureBody::Statements(statements) = &closure.body else {
+        bail!("{name}: labels");
     };
-    let params = match params {
-        Some(params) => params,
-        None => bail!("{name}: no arrow"),
+    let Some(names) = &closure.params else {
+        bail!("{name}: no arrow");
     };
+    let mut params = Vec::new(alloc);
+    for (place, name) in names {
+        params.push((*place, name.copy()?))?;
+    }
+    let mut body = Vec::new(alloc);
+    for statement in statements {
+        body.push(statement.copy(alloc)?)?;
+    }
+    let place = closure.place;
     let name = Txt::of(String::from_str(alloc, name)?);
     Ok(Function {
         place,

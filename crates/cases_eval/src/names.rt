@@ -8,9 +8,10 @@ use std::alloc::Global;
 
 /// The names that stand in an expression, or in the body of a closure.
 pub(crate) fn names(alloc: Global, text: &str) -> Result<String> {
-    let names = match parsed(alloc, text)? {
-        Expr::Closure(closure) => names_in_closure(alloc, &closure)?,
-        expr => names_in(alloc, &expr)?,
+    let expr = parsed(alloc, text)?;
+    let names = match &expr {
+        Expr::Closure(closure) => names_in_closure(alloc, closure)?,
+        expr => names_in(alloc, expr)?,
     };
     if names.is_empty() {
         return Ok(String::from_str(alloc, "nothing")?);

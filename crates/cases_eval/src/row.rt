@@ -88,9 +88,9 @@ fn applied<N: Natives>(
         Ok(Value::List(args)) => args,
         _ => bail!("no list of arguments"),
     };
-    match parsed(alloc, closure)? {
+    match &parsed(alloc, closure)? {
         Expr::Closure(code) => {
-            let closure = Closure::new(code, env);
+            let closure = Closure::new(code.copy(alloc)?, env);
             Ok(apply(alloc, &closure, &args, natives))
         }
         _ => bail!("no closure"),

@@ -13,7 +13,6 @@ use std::alloc::Global;
 /// one node: `a + b - c` is `a` with two operands. So an expression is never deeper than its open brackets times the levels. Contracts
 /// see its `Tree`, by `view`.
 #[cycle(tree)]
-#[derive(Drop)]
 pub enum Expr {
     /// A signed number of 64 bits, with the place of its first digit.
     Number(Place, i64),
@@ -46,9 +45,30 @@ pub enum Expr {
     Postfix(Box<Expr>, Vec<Postfix>),
 }
 
+impl Drop for Expr {
+    #[cycle(discard)]
+    fn drop(self) {
+        match self {
+            Expr::Number(_, _)
+            | Expr::Text(_, _, _)
+            | Expr::Pattern(_, _)
+            | Expr::Template(_, _, _)
+            | Expr::Truth(_, _)
+            | Expr::Null(_)
+            | Expr::Name(_, _)
+            | Expr::List(_, _)
+            | Expr::Map(_, _)
+            | Expr::Closure(_)
+            | Expr::Prefix(_, _)
+            | Expr::Infix(_, _)
+            | Expr::Conditional(_, _)
+            | Expr::Postfix(_, _) => {}
+        }
+    }
+}
+
 /// A text or a hole of a template.
 #[cycle(tree)]
-#[derive(Drop)]
 pub enum Fragment {
     /// A text, with the place where it begins.
     Plain(Place, Txt),
@@ -56,9 +76,17 @@ pub enum Fragment {
     Hole(Place, Expr),
 }
 
+impl Drop for Fragment {
+    #[cycle(discard)]
+    fn drop(self) {
+        match self {
+            Fragment::Plain(_, _) | Fragment::Hole(_, _) => {}
+        }
+    }
+}
+
 /// A pair of a map.
 #[cycle(tree)]
-#[derive(Drop)]
 pub struct Pair {
     /// Its key.
     pub key: Key,
@@ -66,8 +94,14 @@ pub struct Pair {
     pub value: Expr,
 }
 
+impl Drop for Pair {
+    #[cycle(discard)]
+    fn drop(self) {
+        let Pair { key: _, value: _ } = self;
+    }
+}
+
 /// The key of a pair.
-#[derive(Drop)]
 pub enum Key {
     /// A name.
     Name(Place, Txt),
@@ -75,6 +109,14 @@ pub enum Key {
     Text(Place, PlainKind, Txt),
     /// A template without a hole; an empty one has no text.
     Template(Place, TemplateKind, Option<(Place, Txt)>),
+}
+
+impl Drop for Key {
+    fn drop(self) {
+        match self {
+            Key::Name(_, _) | Key::Text(_, _, _) | Key::Template(_, _, _) => {}
+        }
+    }
 }
 
 /// An operator before an operand.
@@ -88,7 +130,6 @@ pub struct Prefix {
 
 /// An operand with the operator before it.
 #[cycle(tree)]
-#[derive(Drop)]
 pub struct Operand {
     /// The place of the operator.
     pub place: Place,
@@ -98,9 +139,19 @@ pub struct Operand {
     pub expr: Expr,
 }
 
+impl Drop for Operand {
+    #[cycle(discard)]
+    fn drop(self) {
+        let Operand {
+            place: _,
+            operator: _,
+            expr: _,
+        } = self;
+    }
+}
+
 /// An operand of a conditional expression with the operator before it.
 #[cycle(tree)]
-#[derive(Drop)]
 pub struct Branch {
     /// The place of the operator.
     pub place: Place,
@@ -110,9 +161,19 @@ pub struct Branch {
     pub expr: Expr,
 }
 
+impl Drop for Branch {
+    #[cycle(discard)]
+    fn drop(self) {
+        let Branch {
+            place: _,
+            operator: _,
+            expr: _,
+        } = self;
+    }
+}
+
 /// A part after an expression: a property, an index, a call, or a closure that it is called with.
 #[cycle(tree)]
-#[derive(Drop)]
 pub enum Postfix {
     /// `.name`, with the place of the name.
     Property(Place, Txt),
@@ -126,9 +187,21 @@ pub enum Postfix {
     With(ClosureExpr),
 }
 
+impl Drop for Postfix {
+    #[cycle(discard)]
+    fn drop(self) {
+        match self {
+            Postfix::Property(_, _)
+            | Postfix::SafeProperty(_, _)
+            | Postfix::Index(_, _)
+            | Postfix::Call(_, _)
+            | Postfix::With(_) => {}
+        }
+    }
+}
+
 /// An argument.
 #[cycle(tree)]
-#[derive(Drop)]
 pub struct Arg {
     /// Its name, where it has one, with the name's place.
     pub name: Option<(Place, Txt)>,
@@ -136,9 +209,15 @@ pub struct Arg {
     pub value: Expr,
 }
 
+impl Drop for Arg {
+    #[cycle(discard)]
+    fn drop(self) {
+        let Arg { name: _, value: _ } = self;
+    }
+}
+
 /// A closure (Nextflow reference documentation, "Syntax", "Closure"). Contracts see its `Tree`, by `view_closure`.
 #[cycle(tree)]
-#[derive(Drop)]
 pub struct ClosureExpr {
     /// The place of its `{`.
     pub place: Place,
@@ -148,9 +227,19 @@ pub struct ClosureExpr {
     pub body: ClosureBody,
 }
 
+impl Drop for ClosureExpr {
+    #[cycle(discard)]
+    fn drop(self) {
+        let ClosureExpr {
+            place: _,
+            params: _,
+            body: _,
+        } = self;
+    }
+}
+
 /// What stands in a closure.
 #[cycle(tree)]
-#[derive(Drop)]
 pub enum ClosureBody {
     /// Its statements, in their order.
     Statements(Vec<Stmt>),
@@ -158,9 +247,17 @@ pub enum ClosureBody {
     Labels(Vec<Label>),
 }
 
+impl Drop for ClosureBody {
+    #[cycle(discard)]
+    fn drop(self) {
+        match self {
+            ClosureBody::Statements(_) | ClosureBody::Labels(_) => {}
+        }
+    }
+}
+
 /// A labelled expression.
 #[cycle(tree)]
-#[derive(Drop)]
 pub struct Label {
     /// The place of the label.
     pub place: Place,
@@ -170,9 +267,19 @@ pub struct Label {
     pub value: Expr,
 }
 
+impl Drop for Label {
+    #[cycle(discard)]
+    fn drop(self) {
+        let Label {
+            place: _,
+            name: _,
+            value: _,
+        } = self;
+    }
+}
+
 /// A statement (Nextflow reference documentation, "Syntax", "Statements"). Contracts see its `Tree`, by `view_stmt`.
 #[cycle(tree)]
-#[derive(Drop)]
 pub enum Stmt {
     /// `def name = e`, with the places of `def` and the name.
     Define(Place, Place, Txt, Expr),
@@ -192,9 +299,24 @@ pub enum Stmt {
     Expr(Expr),
 }
 
+impl Drop for Stmt {
+    #[cycle(discard)]
+    fn drop(self) {
+        match self {
+            Stmt::Define(_, _, _, _)
+            | Stmt::DefineAll(_, _, _)
+            | Stmt::Assign(_, _, _)
+            | Stmt::Return(_, _)
+            | Stmt::Choice(_, _)
+            | Stmt::Println(_, _)
+            | Stmt::Log(_, _, _, _)
+            | Stmt::Expr(_) => {}
+        }
+    }
+}
+
 /// An arm of an `if`.
 #[cycle(tree)]
-#[derive(Drop)]
 pub struct Arm {
     /// The place of its `if`.
     pub place: Place,
@@ -202,6 +324,17 @@ pub struct Arm {
     pub condition: Expr,
     /// Its statements.
     pub body: Vec<Stmt>,
+}
+
+impl Drop for Arm {
+    #[cycle(discard)]
+    fn drop(self) {
+        let Arm {
+            place: _,
+            condition: _,
+            body: _,
+        } = self;
+    }
 }
 
 impl Expr {

@@ -5,14 +5,18 @@ use nf_value::{Place, Txt};
 
 /// A script (Nextflow reference documentation, "Syntax", "Script declarations"; the places are this project's own). Contracts see
 /// its `Tree`, by `view_script`.
-#[derive(Drop)]
 pub struct Script {
     /// What stands at its top, in its order.
     pub tops: Vec<Top>,
 }
 
+impl Drop for Script {
+    fn drop(self) {
+        let Script { tops: _ } = self;
+    }
+}
+
 /// A definition or a statement at the top of a script (Nextflow reference documentation, "Syntax", "Script declarations").
-#[derive(Drop)]
 pub enum Top {
     /// A process.
     Process(Process),
@@ -30,8 +34,21 @@ pub enum Top {
     Dsl(Place),
 }
 
+impl Drop for Top {
+    fn drop(self) {
+        match self {
+            Top::Process(_)
+            | Top::Workflow(_)
+            | Top::Function(_)
+            | Top::Parameter(_)
+            | Top::Println(_, _)
+            | Top::Log(_, _, _, _)
+            | Top::Dsl(_) => {}
+        }
+    }
+}
+
 /// A process (Nextflow reference documentation, "Syntax", "Process").
-#[derive(Drop)]
 pub struct Process {
     /// The place of the word `process`.
     pub place: Place,
@@ -51,8 +68,22 @@ pub struct Process {
     pub stub: Option<Section>,
 }
 
+impl Drop for Process {
+    fn drop(self) {
+        let Process {
+            place: _,
+            name_place: _,
+            name: _,
+            directives: _,
+            inputs: _,
+            outputs: _,
+            task: _,
+            stub: _,
+        } = self;
+    }
+}
+
 /// A directive (Nextflow reference documentation, "Process", "Directives"). Brackets round its arguments aren't kept.
-#[derive(Drop)]
 pub struct Directive {
     /// The place of its name.
     pub place: Place,
@@ -62,8 +93,17 @@ pub struct Directive {
     pub args: Vec<Arg>,
 }
 
+impl Drop for Directive {
+    fn drop(self) {
+        let Directive {
+            place: _,
+            name: _,
+            args: _,
+        } = self;
+    }
+}
+
 /// An input section.
-#[derive(Drop)]
 pub struct Inputs {
     /// The place of the word `input`.
     pub place: Place,
@@ -71,8 +111,16 @@ pub struct Inputs {
     pub inputs: Vec<Input>,
 }
 
+impl Drop for Inputs {
+    fn drop(self) {
+        let Inputs {
+            place: _,
+            inputs: _,
+        } = self;
+    }
+}
+
 /// An input of a process (Nextflow reference documentation, "Process", "Inputs").
-#[derive(Drop)]
 pub enum Input {
     /// An input of one part.
     One(InputPart),
@@ -80,8 +128,15 @@ pub enum Input {
     Tuple(Place, Vec<InputPart>),
 }
 
+impl Drop for Input {
+    fn drop(self) {
+        match self {
+            Input::One(_) | Input::Tuple(_, _) => {}
+        }
+    }
+}
+
 /// What an input or a part of its tuple is bound to. Brackets round the name aren't kept.
-#[derive(Drop)]
 pub enum InputPart {
     /// `val name`, with the places of `val` and the name.
     Val(Place, Place, Txt),
@@ -91,8 +146,15 @@ pub enum InputPart {
     Stdin(Place),
 }
 
+impl Drop for InputPart {
+    fn drop(self) {
+        match self {
+            InputPart::Val(_, _, _) | InputPart::Path(_, _, _) | InputPart::Stdin(_) => {}
+        }
+    }
+}
+
 /// An output section.
-#[derive(Drop)]
 pub struct Outputs {
     /// The place of the word `output`.
     pub place: Place,
@@ -100,8 +162,16 @@ pub struct Outputs {
     pub outputs: Vec<Output>,
 }
 
+impl Drop for Outputs {
+    fn drop(self) {
+        let Outputs {
+            place: _,
+            outputs: _,
+        } = self;
+    }
+}
+
 /// An output of a process (Nextflow reference documentation, "Process", "Outputs").
-#[derive(Drop)]
 pub struct Output {
     /// What it gives.
     pub value: OutputValue,
@@ -109,8 +179,16 @@ pub struct Output {
     pub options: Vec<Label>,
 }
 
+impl Drop for Output {
+    fn drop(self) {
+        let Output {
+            value: _,
+            options: _,
+        } = self;
+    }
+}
+
 /// What an output gives.
-#[derive(Drop)]
 pub enum OutputValue {
     /// One part.
     One(OutputPart),
@@ -118,8 +196,15 @@ pub enum OutputValue {
     Tuple(Place, Vec<OutputPart>),
 }
 
+impl Drop for OutputValue {
+    fn drop(self) {
+        match self {
+            OutputValue::One(_) | OutputValue::Tuple(_, _) => {}
+        }
+    }
+}
+
 /// What an output or a part of its tuple gives.
-#[derive(Drop)]
 pub enum OutputPart {
     /// `val e`, with the place of `val`.
     Val(Place, Expr),
@@ -129,8 +214,15 @@ pub enum OutputPart {
     Stdout(Place),
 }
 
+impl Drop for OutputPart {
+    fn drop(self) {
+        match self {
+            OutputPart::Val(_, _) | OutputPart::Path(_, _) | OutputPart::Stdout(_) => {}
+        }
+    }
+}
+
 /// What a task runs (Nextflow reference documentation, "Process", "Script").
-#[derive(Drop)]
 pub enum Task {
     /// A section `script:`.
     Script(Section),
@@ -138,8 +230,15 @@ pub enum Task {
     Text(Expr),
 }
 
+impl Drop for Task {
+    fn drop(self) {
+        match self {
+            Task::Script(_) | Task::Text(_) => {}
+        }
+    }
+}
+
 /// A section of statements.
-#[derive(Drop)]
 pub struct Section {
     /// The place of its word.
     pub place: Place,
@@ -147,8 +246,13 @@ pub struct Section {
     pub body: Vec<Stmt>,
 }
 
+impl Drop for Section {
+    fn drop(self) {
+        let Section { place: _, body: _ } = self;
+    }
+}
+
 /// A workflow (Nextflow reference documentation, "Syntax", "Workflow").
-#[derive(Drop)]
 pub struct Workflow {
     /// The place of the word `workflow`.
     pub place: Place,
@@ -158,8 +262,17 @@ pub struct Workflow {
     pub body: WorkflowBody,
 }
 
+impl Drop for Workflow {
+    fn drop(self) {
+        let Workflow {
+            place: _,
+            name: _,
+            body: _,
+        } = self;
+    }
+}
+
 /// What a workflow does.
-#[derive(Drop)]
 pub enum WorkflowBody {
     /// Statements alone.
     Statements(Vec<Stmt>),
@@ -167,8 +280,15 @@ pub enum WorkflowBody {
     Parts(Parts),
 }
 
+impl Drop for WorkflowBody {
+    fn drop(self) {
+        match self {
+            WorkflowBody::Statements(_) | WorkflowBody::Parts(_) => {}
+        }
+    }
+}
+
 /// The sections of a workflow.
-#[derive(Drop)]
 pub struct Parts {
     /// What it takes.
     pub take: Option<Take>,
@@ -178,8 +298,17 @@ pub struct Parts {
     pub emit: Option<Emits>,
 }
 
+impl Drop for Parts {
+    fn drop(self) {
+        let Parts {
+            take: _,
+            main: _,
+            emit: _,
+        } = self;
+    }
+}
+
 /// A section `take:`.
-#[derive(Drop)]
 pub struct Take {
     /// The place of its word.
     pub place: Place,
@@ -187,8 +316,13 @@ pub struct Take {
     pub names: Vec<(Place, Txt)>,
 }
 
+impl Drop for Take {
+    fn drop(self) {
+        let Take { place: _, names: _ } = self;
+    }
+}
+
 /// A section `emit:`.
-#[derive(Drop)]
 pub struct Emits {
     /// The place of its word.
     pub place: Place,
@@ -196,8 +330,13 @@ pub struct Emits {
     pub emits: Vec<Emit>,
 }
 
+impl Drop for Emits {
+    fn drop(self) {
+        let Emits { place: _, emits: _ } = self;
+    }
+}
+
 /// What a workflow emits.
-#[derive(Drop)]
 pub enum Emit {
     /// `name = e`, with the place of the name.
     Named(Place, Txt, Expr),
@@ -205,8 +344,15 @@ pub enum Emit {
     Alone(Expr),
 }
 
+impl Drop for Emit {
+    fn drop(self) {
+        match self {
+            Emit::Named(_, _, _) | Emit::Alone(_) => {}
+        }
+    }
+}
+
 /// A function (Nextflow reference documentation, "Syntax", "Function").
-#[derive(Drop)]
 pub struct Function {
     /// The place of its `def`.
     pub place: Place,
@@ -220,8 +366,19 @@ pub struct Function {
     pub body: Vec<Stmt>,
 }
 
+impl Drop for Function {
+    fn drop(self) {
+        let Function {
+            place: _,
+            name_place: _,
+            name: _,
+            params: _,
+            body: _,
+        } = self;
+    }
+}
+
 /// `params.name = e` (Nextflow reference documentation, "Syntax", "Parameter").
-#[derive(Drop)]
 pub struct Parameter {
     /// The place of the word `params`.
     pub place: Place,
@@ -231,4 +388,15 @@ pub struct Parameter {
     pub name: Txt,
     /// Its value.
     pub value: Expr,
+}
+
+impl Drop for Parameter {
+    fn drop(self) {
+        let Parameter {
+            place: _,
+            name_place: _,
+            name: _,
+            value: _,
+        } = self;
+    }
 }

@@ -91,13 +91,14 @@ fn read(alloc: Global) -> Result<Closure> {
     let Ok(tokens) = nf_lexer::tokens(alloc, b"{ it * 3 + 1 }") else {
         bail!("no tokens");
     };
-    match nf_exprs::expr(alloc, &tokens, 0) {
-        Ok((Expr::Closure(code), _)) => {
-            let library = Arc::new(alloc, Library::new(alloc))?;
-            Ok(Closure::new(code, Env::new(alloc, library)))
-        }
-        _ => bail!("no closure"),
-    }
+    let Ok((expr, _)) = nf_exprs::expr(alloc, &tokens, 0) else {
+        bail!("no expression");
+    };
+    let Expr::Closure(code) = &expr else {
+        bail!("no closure");
+    };
+    let library = Arc::new(alloc, Library::new(alloc))?;
+    Ok(Closure::new(code.copy(alloc)?, Env::new(alloc, library)))
 }
 
 /// Maps a list that many times, and gives the number of images of the last list.

@@ -6,7 +6,6 @@ use nf_tasks::ProcessSpec;
 use nf_value::{Place, Txt, Value};
 
 /// What a node does (own).
-#[derive(Drop)]
 pub enum NodeBody {
     /// A source. Nothing comes to it.
     Source,
@@ -28,8 +27,22 @@ pub enum NodeBody {
     Process(ProcessSpec),
 }
 
+impl Drop for NodeBody {
+    fn drop(self) {
+        match self {
+            NodeBody::Source
+            | NodeBody::Item
+            | NodeBody::Literal(_)
+            | NodeBody::Pattern(_)
+            | NodeBody::Applied(_)
+            | NodeBody::Branch(_)
+            | NodeBody::MultiMap(_)
+            | NodeBody::Process(_) => {}
+        }
+    }
+}
+
 /// What is known of a node beside its place in the graph (own).
-#[derive(Drop)]
 pub struct NodeInfo {
     /// The name of the source or operator that is called, or the path of a process's call.
     pub name: Txt,
@@ -37,4 +50,14 @@ pub struct NodeInfo {
     pub place: Place,
     /// What the node does.
     pub body: NodeBody,
+}
+
+impl Drop for NodeInfo {
+    fn drop(self) {
+        let NodeInfo {
+            name: _,
+            place: _,
+            body: _,
+        } = self;
+    }
 }

@@ -3,7 +3,6 @@
 use nf_value::{Pairs, Txt};
 
 /// What a command line asks for (own; Nextflow documentation, "Command line", has `run`).
-#[derive(Drop)]
 pub enum Command {
     /// `run FILE`, with options and parameters: run the script in that file.
     Run(RunWords),
@@ -26,8 +25,18 @@ pub enum Command {
     },
 }
 
+impl Drop for Command {
+    fn drop(self) {
+        match self {
+            Command::Run(_)
+            | Command::Fmt { file: _ }
+            | Command::Check { file: _ }
+            | Command::Gen { n: _, start: _ } => {}
+        }
+    }
+}
+
 /// The words of `run` (Nextflow documentation, "Command line", `run`; own for `-with-trace`, which always takes a file's name).
-#[derive(Drop)]
 pub struct RunWords {
     /// The path of the script as it was given. It doesn't begin with `-`; it may be empty.
     pub file: Txt,
@@ -43,4 +52,18 @@ pub struct RunWords {
     pub queue: u32,
     /// `--NAME`: parameters, by their names.
     pub params: Pairs,
+}
+
+impl Drop for RunWords {
+    fn drop(self) {
+        let RunWords {
+            file: _,
+            resume: _,
+            work: _,
+            params_file: _,
+            trace: _,
+            queue: _,
+            params: _,
+        } = self;
+    }
 }

@@ -10,10 +10,15 @@ use crate::environment::Env;
 use nf_ast::ClosureExpr as Code;
 
 /// A closure with the environment that it was made in (Nextflow reference documentation, "Syntax", "Closure"). Contracts see its `closing_of`.
-#[derive(Drop)]
 pub struct Closure {
     pub(crate) code: Code,
     pub(crate) env: Env,
+}
+
+impl Drop for Closure {
+    fn drop(self) {
+        let Closure { code: _, env: _ } = self;
+    }
 }
 
 impl Closure {

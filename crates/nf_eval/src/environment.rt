@@ -21,11 +21,20 @@ use std::sync::Arc;
 
 /// The environment of an expression: names with their values, a library of functions and built patterns, and whether it belongs to a process (own).
 /// Contracts see its `env_of`.
-#[derive(Drop)]
 pub struct Env {
     pub(crate) names: Scope,
     pub(crate) library: Arc<Library>,
     pub(crate) in_process: bool,
+}
+
+impl Drop for Env {
+    fn drop(self) {
+        let Env {
+            names: _,
+            library: _,
+            in_process: _,
+        } = self;
+    }
 }
 
 impl Env {

@@ -12,10 +12,18 @@ use std::alloc::Global;
 
 /// Functions of a script and built patterns (own). Environments share them, so that an environment of few names is made without a copy of any
 /// function. Contracts see its functions as `definitions_of`, the latest first, and the texts of its patterns as `patterns_of`.
-#[derive(Drop)]
 pub struct Library {
     pub(crate) functions: Vec<Function>,
     pub(crate) patterns: Vec<Pattern>,
+}
+
+impl Drop for Library {
+    fn drop(self) {
+        let Library {
+            functions: _,
+            patterns: _,
+        } = self;
+    }
 }
 
 impl Library {

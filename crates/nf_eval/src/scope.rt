@@ -10,9 +10,14 @@ use nf_value::{Mem, Txt, Value};
 use std::alloc::Global;
 
 /// Names with their values (own). Contracts see `names_of`: the names with their values, the latest first.
-#[derive(Drop)]
 pub struct Scope {
     names: Vec<(Txt, Value)>,
+}
+
+impl Drop for Scope {
+    fn drop(self) {
+        let Scope { names: _ } = self;
+    }
 }
 
 impl Scope {

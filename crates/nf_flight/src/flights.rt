@@ -10,7 +10,6 @@ use nf_value::Mem;
 use std::alloc::Global;
 
 /// The takes in flight (own). A take is found by its number without a walk, and it is told how many there are, of each node too.
-#[derive(Drop)]
 pub struct Flights {
     /// What is kept of each take that was made, by its number from 1; nothing once it came back.
     takes: Vec<Option<Flight>>,
@@ -18,6 +17,16 @@ pub struct Flights {
     of_nodes: Vec<usize>,
     /// How many are in flight.
     count: usize,
+}
+
+impl Drop for Flights {
+    fn drop(self) {
+        let Flights {
+            takes: _,
+            of_nodes: _,
+            count: _,
+        } = self;
+    }
 }
 
 impl Flights {

@@ -10,9 +10,14 @@ use std::marker::Model;
 
 /// The inputs of the takes of processes, by the numbers of the takes, also once a take came back (own). Contracts see a list: for each
 /// number from 1 the inputs, or nothing for a take of an operator.
-#[derive(Drop)]
 pub struct KeptInputs {
     inputs: Vec<Option<Vals>>,
+}
+
+impl Drop for KeptInputs {
+    fn drop(self) {
+        let KeptInputs { inputs: _ } = self;
+    }
 }
 
 impl Model for KeptInputs {

@@ -15,12 +15,22 @@ use std::marker::Model;
 
 /// A run over a graph (own): its state, and the history that led to it. Contracts see the graph, the history and for how many events
 /// there is room.
-#[derive(Drop)]
 pub struct Flow {
     pub(crate) alloc: Global,
     pub(crate) graph: Graph,
     pub(crate) parts: Parts,
     pub(crate) log: Log,
+}
+
+impl Drop for Flow {
+    fn drop(self) {
+        let Flow {
+            alloc: _,
+            graph: _,
+            parts: _,
+            log: _,
+        } = self;
+    }
 }
 
 impl Model for Flow {
@@ -121,5 +131,18 @@ impl Flow {
         ensures { self.new ≡ grown self.old e.Halt }
     {
         let _ = self.log.halt();
+    }
+
+    /// The events in their order, without the run.
+    pub fn into_history(self) -> Vec<Event>
+        ensures { result.items ≡ self.history }
+    {
+        let Flow {
+            alloc: _,
+            graph: _,
+            parts: _,
+            log,
+        } = self;
+        log.into_history()
     }
 }

@@ -116,14 +116,6 @@ impl Flow {
     {
         &self.graph
     }
-
-    /// The events in their order, without the run.
-    pub fn into_history(self) -> Vec<Event>
-        ensures { result.items ≡ self.history }
-    {
-        let log = self.log;
-        log.into_history()
-    }
 }
 
 /// A copy of the inputs.

@@ -9,9 +9,14 @@ use std::marker::Model;
 
 /// A graph: nodes, each of which reads outputs of nodes before it (own). It has at most 65,536 nodes and 65,536 ports. Contracts see the
 /// list of its nodes.
-#[derive(Drop)]
 pub struct Graph {
     nodes: Vec<Node>,
+}
+
+impl Drop for Graph {
+    fn drop(self) {
+        let Graph { nodes: _ } = self;
+    }
 }
 
 impl Model for Graph {

@@ -7,7 +7,6 @@ use nf_bag::{OpOpts, Row};
 use nf_value::{Mem, Vals};
 
 /// What a node is (own).
-#[derive(Drop)]
 pub enum NodeKind {
     /// A source of items (Nextflow reference documentation, "Channel factories"). It has no ports.
     Source {
@@ -26,6 +25,16 @@ pub enum NodeKind {
         /// The place of the one port that isn't a value port, if there is one.
         queue: Option<u32>,
     },
+}
+
+impl Drop for NodeKind {
+    fn drop(self) {
+        match self {
+            NodeKind::Source { items: _ }
+            | NodeKind::Op { row: _, opts: _ }
+            | NodeKind::Process { queue: _ } => {}
+        }
+    }
 }
 
 impl NodeKind {
@@ -51,7 +60,6 @@ impl NodeKind {
 }
 
 /// A node of a graph (own).
-#[derive(Drop)]
 pub struct Node {
     /// What it is.
     pub kind: NodeKind,
@@ -59,6 +67,16 @@ pub struct Node {
     pub ports: Ports,
     /// How many outputs it has.
     pub outs: u32,
+}
+
+impl Drop for Node {
+    fn drop(self) {
+        let Node {
+            kind: _,
+            ports: _,
+            outs: _,
+        } = self;
+    }
 }
 
 impl Node {

@@ -18,9 +18,14 @@ pub struct Port {
 }
 
 /// The ports of a node. Contracts see the list of them.
-#[derive(Drop)]
 pub struct Ports {
     items: Vec<Port>,
+}
+
+impl Drop for Ports {
+    fn drop(self) {
+        let Ports { items: _ } = self;
+    }
 }
 
 impl Model for Ports {

@@ -12,12 +12,20 @@ use sha2::{Digest as Hasher, Sha256};
 pub const UNKNOWN_STATUS: u8 = 127;
 
 /// What a child in memory does: it writes these files in its folder, one after another, and ends with this status (own).
-#[derive(Drop)]
 pub struct Child {
     /// Its exit status.
     pub status: u8,
     /// The files that it writes, by their names in its folder.
     pub files: Vec<(Txt, Bytes)>,
+}
+
+impl Drop for Child {
+    fn drop(self) {
+        let Child {
+            status: _,
+            files: _,
+        } = self;
+    }
 }
 
 /// What a script does: what the first entry of its digest says.

@@ -21,13 +21,24 @@ use std::collections::BTreeMap;
 
 /// Files and children in memory. It reveals all, and fails exactly at the calls that `fail_at` named, and at a `rename` of a
 /// file that isn't there (own).
-#[derive(Drop)]
 pub struct MemHost {
     files: FileMap,
     children: Vec<(Digest, Child)>,
     started: Vec<MemStart>,
     calls: Calls,
     alloc: Global,
+}
+
+impl Drop for MemHost {
+    fn drop(self) {
+        let MemHost {
+            files: _,
+            children: _,
+            started: _,
+            calls: _,
+            alloc: _,
+        } = self;
+    }
 }
 
 // The calls so far, the numbers of those that fail, and how many have failed.

@@ -10,12 +10,22 @@ use std::alloc::{AllocError, Global};
 use std::collections::BTreeMap;
 
 /// A sink in memory. It reveals its bytes. It fails at the writes that `fail_at` named, and if there is no memory (own).
-#[derive(Drop)]
 pub struct MemSink {
     written: Vec<u8>,
     failing: BTreeMap<u64, u64>,
     calls: u64,
     faults: u64,
+}
+
+impl Drop for MemSink {
+    fn drop(self) {
+        let MemSink {
+            written: _,
+            failing: _,
+            calls: _,
+            faults: _,
+        } = self;
+    }
 }
 
 impl MemSink {

@@ -8,9 +8,14 @@ use nf_value::{Mem, Value};
 use std::marker::Model;
 
 /// The value of each output of a process, or `None`. Contracts see the plain values.
-#[derive(Drop)]
 pub struct Emitted {
     items: Vec<Option<Value>>,
+}
+
+impl Drop for Emitted {
+    fn drop(self) {
+        let Emitted { items: _ } = self;
+    }
 }
 
 impl Model for Emitted {
@@ -47,7 +52,8 @@ impl Emitted {
     pub fn into_items(self) -> Vec<Option<Value>>
         ensures { map (option_map plain_of) result.items ≡ self }
     {
-        self.items
+        let Emitted { items } = self;
+        items
     }
 
     /// A copy of the list.

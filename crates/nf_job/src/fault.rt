@@ -9,7 +9,6 @@ use std::alloc::{AllocError, AllocFailed};
 use std::fmt;
 
 /// A fault of a task (own). Printed as `Exit N`, `MissingOutput PATTERN`, `BadStdout`, `StageClash NAME` or `Eval NAME`.
-#[derive(Drop)]
 pub enum TaskFault {
     /// The script ended with a status other than 0.
     Exit {
@@ -30,6 +29,18 @@ pub enum TaskFault {
     },
     /// The evaluation of an expression of the process fails.
     Eval(EvalFault),
+}
+
+impl Drop for TaskFault {
+    fn drop(self) {
+        match self {
+            TaskFault::Exit { status: _ }
+            | TaskFault::MissingOutput { pattern: _ }
+            | TaskFault::BadStdout
+            | TaskFault::StageClash { name: _ }
+            | TaskFault::Eval(_) => {}
+        }
+    }
 }
 
 impl TaskFault {

@@ -6,9 +6,14 @@ use nf_value::{FileRef, Mem};
 use std::marker::Model;
 
 /// A list of files. Contracts see the list of their names, digests and lengths.
-#[derive(Drop)]
 pub struct FileRefs {
     items: Vec<FileRef>,
+}
+
+impl Drop for FileRefs {
+    fn drop(self) {
+        let FileRefs { items: _ } = self;
+    }
 }
 
 impl Model for FileRefs {

@@ -7,9 +7,14 @@ use nf_value::Mem;
 use std::marker::Model;
 
 /// The files that a task left: one list for each pattern of the process's outputs, in the order of the patterns.
-#[derive(Drop)]
 pub struct Found {
     items: Vec<FileRefs>,
+}
+
+impl Drop for Found {
+    fn drop(self) {
+        let Found { items: _ } = self;
+    }
 }
 
 impl Model for Found {

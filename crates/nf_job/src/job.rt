@@ -17,10 +17,15 @@ use std::alloc::Global;
 use std::marker::Model;
 
 /// A job in the older form, whose text has no attempt (own). Contracts see its text.
-#[derive(Drop)]
 pub struct OldJob {
     text: Txt,
     key: Digest,
+}
+
+impl Drop for OldJob {
+    fn drop(self) {
+        let OldJob { text: _, key: _ } = self;
+    }
 }
 
 impl Model for OldJob {
@@ -62,12 +67,22 @@ impl OldJob {
 /// The text is the code (`nf_codec`) of a list of ten items: the text `nfjob2`, the process, the script, the inputs, the standard
 /// input or null, the list of staged files, the list of patterns, whether standard output is wanted, the number, the attempt.
 /// Contracts see the parts; all the rest follows from them.
-#[derive(Drop)]
 pub struct Job {
     parts: JobParts,
     text: Txt,
     key: Digest,
     old: Option<OldJob>,
+}
+
+impl Drop for Job {
+    fn drop(self) {
+        let Job {
+            parts: _,
+            text: _,
+            key: _,
+            old: _,
+        } = self;
+    }
 }
 
 impl Model for Job {

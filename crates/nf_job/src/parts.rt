@@ -7,7 +7,6 @@ use crate::texts::Txts;
 use nf_value::{Mem, Txt};
 
 /// Everything that one attempt at a task depends on (own).
-#[derive(Drop)]
 pub struct JobParts {
     /// The path of the process's call, as `MAIN:ALIGN`.
     pub process: Txt,
@@ -27,6 +26,22 @@ pub struct JobParts {
     pub n: u32,
     /// The attempt, from 1.
     pub attempt: u32,
+}
+
+impl Drop for JobParts {
+    fn drop(self) {
+        let JobParts {
+            process: _,
+            script: _,
+            inputs: _,
+            stdin: _,
+            staged: _,
+            patterns: _,
+            wants_stdout: _,
+            n: _,
+            attempt: _,
+        } = self;
+    }
 }
 
 fn copy_text(text: &Option<Txt>) -> Result<Option<Txt>, Mem>

@@ -6,7 +6,6 @@ use crate::found::Found;
 use nf_value::{Mem, Txt};
 
 /// A task's standard output as it was kept (own).
-#[derive(Drop)]
 pub enum Captured {
     /// It wasn't wanted.
     None,
@@ -14,6 +13,14 @@ pub enum Captured {
     Bad,
     /// Its text.
     Text(Txt),
+}
+
+impl Drop for Captured {
+    fn drop(self) {
+        match self {
+            Captured::None | Captured::Bad | Captured::Text(_) => {}
+        }
+    }
 }
 
 impl Captured {
@@ -34,7 +41,6 @@ impl Captured {
 }
 
 /// How one attempt at a job ended (own).
-#[derive(Drop)]
 pub struct Report {
     /// The exit status; 255 if a signal ended the child.
     pub exit: i32,
@@ -42,6 +48,16 @@ pub struct Report {
     pub captured: Captured,
     /// The files that it left, one list for each pattern.
     pub found: Found,
+}
+
+impl Drop for Report {
+    fn drop(self) {
+        let Report {
+            exit: _,
+            captured: _,
+            found: _,
+        } = self;
+    }
 }
 
 impl Report {

@@ -6,9 +6,14 @@ use nf_value::{Mem, Txt};
 use std::marker::Model;
 
 /// A list of texts. Contracts see the list of their bytes.
-#[derive(Drop)]
 pub struct Txts {
     items: Vec<Txt>,
+}
+
+impl Drop for Txts {
+    fn drop(self) {
+        let Txts { items: _ } = self;
+    }
 }
 
 impl Model for Txts {

@@ -12,10 +12,15 @@ use std::alloc::Global;
 use std::collections::BTreeMap;
 
 /// Keeps bytes in memory. It reveals them, and never fails (own).
-#[derive(Drop)]
 pub struct MemKeeper {
     held: BTreeMap<[u8; 32], Bytes>,
     alloc: Global,
+}
+
+impl Drop for MemKeeper {
+    fn drop(self) {
+        let MemKeeper { held: _, alloc: _ } = self;
+    }
 }
 
 impl MemKeeper {

@@ -8,11 +8,20 @@ use nf_value::Txt;
 use std::marker::Model;
 
 /// What a closure is to an operator. Contracts see `Facts`.
-#[derive(Drop)]
 pub struct ClosureFacts {
     labels: Vec<Txt>,
     name: Option<Txt>,
     is_total: bool,
+}
+
+impl Drop for ClosureFacts {
+    fn drop(self) {
+        let ClosureFacts {
+            labels: _,
+            name: _,
+            is_total: _,
+        } = self;
+    }
 }
 
 impl Model for ClosureFacts {

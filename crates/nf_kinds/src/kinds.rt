@@ -117,12 +117,19 @@ impl Kinds {
 }
 
 /// By what an output is read.
-#[derive(Drop)]
 pub enum Key {
     /// Its place, from 0.
     At(usize),
     /// Its name.
     Called(Txt),
+}
+
+impl Drop for Key {
+    fn drop(self) {
+        match self {
+            Key::At(_) | Key::Called(_) => {}
+        }
+    }
 }
 
 impl Key {
@@ -149,12 +156,17 @@ impl Key {
 }
 
 /// An output of a call.
-#[derive(Drop)]
 pub struct Output {
     /// By what it is read. An output with a name is read by its place too, so it stands twice in its list.
     pub key: Key,
     /// What it may be.
     pub kinds: Kinds,
+}
+
+impl Drop for Output {
+    fn drop(self) {
+        let Output { key: _, kinds: _ } = self;
+    }
 }
 
 /// What an output may be; unknown where there is none.
@@ -217,10 +229,18 @@ fn add_missing(first: &[Output], second: &[Output], out: &mut Vec<Output>) -> Re
 }
 
 /// What something may be, with the outputs that it has as a call's result. Contracts see a `Shaped`.
-#[derive(Drop)]
 pub struct Shape {
     kinds: Kinds,
     outputs: Option<Vec<Output>>,
+}
+
+impl Drop for Shape {
+    fn drop(self) {
+        let Shape {
+            kinds: _,
+            outputs: _,
+        } = self;
+    }
 }
 
 impl Model for Shape {

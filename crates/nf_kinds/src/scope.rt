@@ -10,12 +10,22 @@ use std::alloc::Global;
 use std::marker::Model;
 
 /// The scope of a workflow's body. Contracts see a `Scope`.
-#[derive(Drop)]
 pub struct BodyScope {
     locals: Vec<(Txt, Shape)>,
     names: Vec<(Txt, Shape)>,
     half_bound: Vec<Txt>,
     calls: Vec<(Txt, Shape)>,
+}
+
+impl Drop for BodyScope {
+    fn drop(self) {
+        let BodyScope {
+            locals: _,
+            names: _,
+            half_bound: _,
+            calls: _,
+        } = self;
+    }
 }
 
 impl Model for BodyScope {

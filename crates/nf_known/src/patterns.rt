@@ -10,12 +10,17 @@ use nf_meaning::LowerFault;
 use nf_value::Place;
 
 /// The texts of a script's patterns that are built, and of those that are too large (own).
-#[derive(Drop)]
 pub struct PatternTexts {
     /// Those that are built.
     pub built: IndexSet<String>,
     /// Those that are too large.
     pub large: IndexSet<String>,
+}
+
+impl Drop for PatternTexts {
+    fn drop(self) {
+        let PatternTexts { built: _, large: _ } = self;
+    }
 }
 
 impl PatternTexts {

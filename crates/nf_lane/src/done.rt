@@ -8,12 +8,21 @@ use nf_job::{Job, Report};
 use nf_value::{Digest, Mem, Txt};
 
 /// A job that a lane of this crate ran, with its report (own). Only `run` makes one.
-#[derive(Drop)]
 pub struct Done {
     text: Txt,
     key: Digest,
     report: Report,
     ghost keyed: { key.0 ≡ sha256 text },
+}
+
+impl Drop for Done {
+    fn drop(self) {
+        let Done {
+            text: _,
+            key: _,
+            report: _,
+        } = self;
+    }
 }
 
 impl Done {

@@ -7,10 +7,18 @@ use nf_job::Report;
 use nf_value::Mem;
 
 /// A report whose files a lane of this crate found (own). Only `look` makes one.
-#[derive(Drop)]
 pub struct Seen {
     report: Report,
     number: u64,
+}
+
+impl Drop for Seen {
+    fn drop(self) {
+        let Seen {
+            report: _,
+            number: _,
+        } = self;
+    }
 }
 
 impl Seen {

@@ -10,9 +10,14 @@ use std::marker::Model;
 
 /// The reports of some jobs by the jobs' texts. Contracts see the list of entries. The first entry of a text counts. A job
 /// without an entry has exit status 127, no standard output and no files (own).
-#[derive(Drop)]
 pub struct Table {
     items: Vec<(Txt, Report)>,
+}
+
+impl Drop for Table {
+    fn drop(self) {
+        let Table { items: _ } = self;
+    }
 }
 
 impl Model for Table {

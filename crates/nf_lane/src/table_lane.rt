@@ -20,7 +20,6 @@ use std::alloc::Global;
 
 /// Answers from a table. It reveals the table as its world, and fails exactly at the runs that it was made to fail at. It
 /// reveals its store, too: a run adds the files of its report, `store` adds a file, and `lose` takes one away (own).
-#[derive(Drop)]
 pub struct TableLane {
     table: Table,
     failing: Vec<u64>,
@@ -28,6 +27,19 @@ pub struct TableLane {
     runs: u64,
     looks: u64,
     faults: u64,
+}
+
+impl Drop for TableLane {
+    fn drop(self) {
+        let TableLane {
+            table: _,
+            failing: _,
+            stored: _,
+            runs: _,
+            looks: _,
+            faults: _,
+        } = self;
+    }
 }
 
 impl TableLane {

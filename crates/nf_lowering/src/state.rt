@@ -8,7 +8,6 @@ use std::alloc::Global;
 use std::collections::VecDeque;
 
 /// What the walk through a script has in memory (own): the plan so far, and what the body at hand knows.
-#[derive(Drop)]
 pub struct Lowering {
     /// The plan so far.
     pub(crate) plan: PlanBuilder,
@@ -22,6 +21,19 @@ pub struct Lowering {
     pub(crate) path: Txt,
     /// The workflows in whose bodies this one stands, the innermost first.
     pub(crate) within: VecDeque<Txt>,
+}
+
+impl Drop for Lowering {
+    fn drop(self) {
+        let Lowering {
+            plan: _,
+            names: _,
+            called: _,
+            calls: _,
+            path: _,
+            within: _,
+        } = self;
+    }
 }
 
 impl Lowering {
@@ -57,6 +69,14 @@ impl Lowering {
         requires { IsLowering self }
         ensures { IsFinished self.plan result }
     {
-        self.plan.finish()
+        let Lowering {
+            plan,
+            names: _,
+            called: _,
+            calls: _,
+            path: _,
+            within: _,
+        } = self;
+        plan.finish()
     }
 }

@@ -7,7 +7,6 @@ use nf_job::{Outputs, Report, TaskFault};
 use nf_value::{EvalFault, Mem, Txt, Value};
 
 /// Why a task's attempt was started (own).
-#[derive(Drop)]
 pub enum Cause {
     /// The run doesn't resume an earlier one, so no record of the attempt was asked for.
     NotAsked,
@@ -18,6 +17,14 @@ pub enum Cause {
         /// The file's name.
         name: Txt,
     },
+}
+
+impl Drop for Cause {
+    fn drop(self) {
+        match self {
+            Cause::NotAsked | Cause::NoRecord | Cause::Gone { name: _ } => {}
+        }
+    }
 }
 
 impl Cause {
@@ -62,7 +69,6 @@ pub enum Move {
 }
 
 /// One step of a run (own).
-#[derive(Drop)]
 pub enum Event {
     /// The next item that a port's producer emitted passes to the port, and is charged.
     Pass {
@@ -128,4 +134,43 @@ pub enum Event {
     },
     /// There is no memory to go on, and no ticket is at hand.
     Halt,
+}
+
+impl Drop for Event {
+    fn drop(self) {
+        match self {
+            Event::Pass { port: _ }
+            | Event::Take {
+                node: _,
+                port: _,
+                place: _,
+                ticket: _,
+                n: _,
+            }
+            | Event::Give {
+                ticket: _,
+                answer: _,
+            }
+            | Event::Start {
+                ticket: _,
+                cause: _,
+            }
+            | Event::Reuse {
+                ticket: _,
+                report: _,
+                outs: _,
+            }
+            | Event::Finish {
+                ticket: _,
+                report: _,
+                outs: _,
+            }
+            | Event::Close { node: _ }
+            | Event::Abort {
+                ticket: _,
+                cause: _,
+            }
+            | Event::Halt => {}
+        }
+    }
 }

@@ -16,12 +16,22 @@ use nf_spot::NodeState;
 use nf_wiring::{Place, Wiring};
 
 /// The nodes of a run that isn't stopped (own): each node's part of the state, and the moves that are possible.
-#[derive(Drop)]
 pub struct Nodes {
     pub(crate) states: Vec<NodeState>,
     pub(crate) closed: Vec<bool>,
     pub(crate) wiring: Wiring,
     pub(crate) index: Index,
+}
+
+impl Drop for Nodes {
+    fn drop(self) {
+        let Nodes {
+            states: _,
+            closed: _,
+            wiring: _,
+            index: _,
+        } = self;
+    }
 }
 
 impl Nodes {

@@ -18,9 +18,14 @@ use nf_value::{Mem, Value};
 use std::alloc::Global;
 
 /// The state of an operator of a channel: what it keeps of the items so far.
-#[derive(Drop)]
 pub struct OpState {
     kept: Kept,
+}
+
+impl Drop for OpState {
+    fn drop(self) {
+        let OpState { kept: _ } = self;
+    }
 }
 
 impl OpState {

@@ -20,9 +20,14 @@ use std::alloc::Global;
 use std::marker::Model;
 
 /// A script that breaks no order rule. Contracts see the script.
-#[derive(Drop)]
 pub struct Accepted {
     script: Script,
+}
+
+impl Drop for Accepted {
+    fn drop(self) {
+        let Accepted { script: _ } = self;
+    }
 }
 
 impl Model for Accepted {

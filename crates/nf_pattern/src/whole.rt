@@ -17,10 +17,15 @@ use std::marker::Model;
 /// operator under "Operators", "filter"). Contracts see it as the text that it was built from.
 ///
 /// Its syntax is that of the crate `regex`, which has no look-around and no back-references.
-#[derive(Drop)]
 pub struct WholeRe {
     text: String,
     regex: Regex,
+}
+
+impl Drop for WholeRe {
+    fn drop(self) {
+        let WholeRe { text: _, regex: _ } = self;
+    }
 }
 
 impl Model for WholeRe {

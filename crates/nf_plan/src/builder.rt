@@ -24,13 +24,24 @@ use nf_value::{Mem, Place};
 use std::alloc::Global;
 
 /// A plan that is made node by node (own). Each node reads nodes before it.
-#[derive(Drop)]
 pub struct PlanBuilder {
     pub(crate) nodes: Vec<Node>,
     pub(crate) infos: Vec<NodeInfo>,
     pub(crate) views: Vec<u32>,
     pub(crate) wants: Vec<Want>,
     pub(crate) sizes: Sizes,
+}
+
+impl Drop for PlanBuilder {
+    fn drop(self) {
+        let PlanBuilder {
+            nodes: _,
+            infos: _,
+            views: _,
+            wants: _,
+            sizes: _,
+        } = self;
+    }
 }
 
 impl PlanBuilder {

@@ -5,7 +5,6 @@ use nf_bodies::NodeInfo;
 use nf_graph::Graph;
 
 /// The plan of a run (own).
-#[derive(Drop)]
 pub struct Plan {
     /// Its sources, and its calls of operators and processes.
     pub graph: Graph,
@@ -15,4 +14,15 @@ pub struct Plan {
     pub views: Vec<u32>,
     /// The paths whose files its sources read, in the order of the script.
     pub wants: Vec<Want>,
+}
+
+impl Drop for Plan {
+    fn drop(self) {
+        let Plan {
+            graph: _,
+            infos: _,
+            views: _,
+            wants: _,
+        } = self;
+    }
 }

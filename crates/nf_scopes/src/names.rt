@@ -16,7 +16,6 @@ use std::mem::replace;
 
 /// The names of a workflow's body (own): those that `def` bound in the braces that are open, and the workflow's other names.
 /// Each is found in a time that doesn't grow with their number.
-#[derive(Drop)]
 pub struct BodyNames {
     alloc: Global,
     /// The names of the braces around the innermost ones, the outermost first.
@@ -25,6 +24,17 @@ pub struct BodyNames {
     pub(crate) inner: IndexMap<String, Thing>,
     /// The other names.
     pub(crate) names: IndexMap<String, Thing>,
+}
+
+impl Drop for BodyNames {
+    fn drop(self) {
+        let BodyNames {
+            alloc: _,
+            outer: _,
+            inner: _,
+            names: _,
+        } = self;
+    }
 }
 
 impl BodyNames {

@@ -16,10 +16,15 @@ pub enum Thing {
 }
 
 /// An output of a call (Nextflow reference documentation, "Workflows").
-#[derive(Drop)]
 pub struct CallOutput {
     /// Its name, if it has one.
     pub label: Option<Txt>,
     /// The port that reads it.
     pub port: Port,
+}
+
+impl Drop for CallOutput {
+    fn drop(self) {
+        let CallOutput { label: _, port: _ } = self;
+    }
 }

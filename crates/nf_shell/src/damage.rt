@@ -8,7 +8,6 @@ use nf_host::Digested;
 use nf_value::{Digest, FileRef, Mem, Txt};
 
 /// A file that was to be put into a job's folder, and whose stored bytes aren't those that were due (own).
-#[derive(Drop)]
 pub struct Damage {
     /// The file's name.
     pub name: Txt,
@@ -16,6 +15,16 @@ pub struct Damage {
     pub due: Digest,
     /// The digest that was found; none if the stored file is absent, or longer than a file may be.
     pub found: Option<Digest>,
+}
+
+impl Drop for Damage {
+    fn drop(self) {
+        let Damage {
+            name: _,
+            due: _,
+            found: _,
+        } = self;
+    }
 }
 
 impl Damage {

@@ -8,12 +8,21 @@ use nf_lane::Finished;
 use nf_value::{Digest, Mem, Txt};
 
 /// A job that a shell lane ran, with its report (own). Only `run` makes one.
-#[derive(Drop)]
 pub struct ShellDone {
     text: Txt,
     key: Digest,
     report: Report,
     ghost keyed: { key.0 ≡ sha256 text },
+}
+
+impl Drop for ShellDone {
+    fn drop(self) {
+        let ShellDone {
+            text: _,
+            key: _,
+            report: _,
+        } = self;
+    }
 }
 
 impl ShellDone {

@@ -7,10 +7,18 @@ use nf_lane::Present;
 use nf_value::Mem;
 
 /// A report whose files a shell lane found (own). Only `look` makes one.
-#[derive(Drop)]
 pub struct ShellSeen {
     report: Report,
     number: u64,
+}
+
+impl Drop for ShellSeen {
+    fn drop(self) {
+        let ShellSeen {
+            report: _,
+            number: _,
+        } = self;
+    }
 }
 
 impl ShellSeen {

@@ -34,7 +34,6 @@ pub struct Taken {
 }
 
 /// A node's part of the state of a run (own): what it emitted, what waits at its ports, and what its operator or its process keeps.
-#[derive(Drop)]
 pub struct NodeState {
     outlets: Vec<Outlet>,
     inlets: Vec<Inlet>,
@@ -42,6 +41,17 @@ pub struct NodeState {
     filled: NumberSet,
     kept: Kept,
     ghost sized: { limit_of filled ≡ length inlets.items },
+}
+
+impl Drop for NodeState {
+    fn drop(self) {
+        let NodeState {
+            outlets: _,
+            inlets: _,
+            filled: _,
+            kept: _,
+        } = self;
+    }
 }
 
 impl NodeState {

@@ -7,7 +7,6 @@ use nf_value::Mem;
 use std::alloc::Global;
 
 /// A set of numbers below a limit (own). A number is put in, taken out and looked up without a walk, and only the beginning takes memory.
-#[derive(Drop)]
 pub struct NumberSet {
     /// All numbers below the limit, those of the set first.
     order: Vec<u32>,
@@ -18,6 +17,16 @@ pub struct NumberSet {
     ghost ordered: { IsOrder order.items places.items },
     ghost within: { count ≤ length order.items },
     ghost small: { length order.items < 2 ^ 32 },
+}
+
+impl Drop for NumberSet {
+    fn drop(self) {
+        let NumberSet {
+            order: _,
+            places: _,
+            count: _,
+        } = self;
+    }
 }
 
 impl NumberSet {

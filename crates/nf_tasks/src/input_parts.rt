@@ -6,7 +6,6 @@ use nf_value::Txt;
 use std::marker::Model;
 
 /// A part of an input (Nextflow reference documentation, "Process", "Inputs").
-#[derive(Drop)]
 pub enum InputPart {
     /// `val NAME`: any value.
     Val(Txt),
@@ -16,10 +15,23 @@ pub enum InputPart {
     Stdin,
 }
 
+impl Drop for InputPart {
+    fn drop(self) {
+        match self {
+            InputPart::Val(_) | InputPart::Path(_) | InputPart::Stdin => {}
+        }
+    }
+}
+
 /// The parts of a `tuple`. Contracts see their list.
-#[derive(Drop)]
 pub struct InputParts {
     items: Vec<InputPart>,
+}
+
+impl Drop for InputParts {
+    fn drop(self) {
+        let InputParts { items: _ } = self;
+    }
 }
 
 impl Model for InputParts {

@@ -14,7 +14,6 @@ use nf_value::{Mem, Place, Txt, Vals, Value};
 use std::alloc::Global;
 
 /// An input of a process (Nextflow reference documentation, "Process", "Inputs").
-#[derive(Drop)]
 pub struct Input {
     /// The place of its first word in the script.
     pub place: Place,
@@ -22,13 +21,26 @@ pub struct Input {
     pub shape: InputShape,
 }
 
+impl Drop for Input {
+    fn drop(self) {
+        let Input { place: _, shape: _ } = self;
+    }
+}
+
 /// What an input takes from its item.
-#[derive(Drop)]
 pub enum InputShape {
     /// One part, from the item itself.
     One(InputPart),
     /// `tuple`: parts, each from the element at its place of a list of as many (own).
     Tuple(InputParts),
+}
+
+impl Drop for InputShape {
+    fn drop(self) {
+        match self {
+            InputShape::One(_) | InputShape::Tuple(_) => {}
+        }
+    }
 }
 
 /// What the inputs of a process take from the items of one task.

@@ -12,7 +12,6 @@ use std::slice;
 /// A call of a process (Nextflow reference documentation, "Process"). Each of its expressions is a closure, whose parameters are the names
 /// of [`seen_names`](crate::seen_names), in their order: those of the inputs, and `task`. A closure captures all else that the expression
 /// sees: `params`, `projectDir`, `baseDir` and `launchDir`, the script's functions and the built patterns.
-#[derive(Drop)]
 pub struct ProcessSpec {
     /// The path of the call, as `MAIN:ALIGN`.
     pub name: Txt,
@@ -32,6 +31,21 @@ pub struct ProcessSpec {
     pub outputs: Vec<Output>,
 }
 
+impl Drop for ProcessSpec {
+    fn drop(self) {
+        let ProcessSpec {
+            name: _,
+            inputs: _,
+            cpus: _,
+            tag: _,
+            strategy: _,
+            publishes: _,
+            script: _,
+            outputs: _,
+        } = self;
+    }
+}
+
 /// What becomes of a task that fails by its exit status, its standard output or its files (Nextflow reference documentation, "Process",
 /// "errorStrategy" and "maxRetries").
 #[derive(Clone, Copy, Drop)]
@@ -45,7 +59,6 @@ pub enum ErrorStrategy {
 }
 
 /// The script of a process.
-#[derive(Drop)]
 pub struct TaskScript {
     /// The place of its section's word, or of its string.
     pub place: Place,
@@ -53,8 +66,13 @@ pub struct TaskScript {
     pub body: Closure,
 }
 
+impl Drop for TaskScript {
+    fn drop(self) {
+        let TaskScript { place: _, body: _ } = self;
+    }
+}
+
 /// An output of a process (Nextflow reference documentation, "Process", "Outputs").
-#[derive(Drop)]
 pub struct Output {
     /// The place of its first word in the script.
     pub place: Place,
@@ -66,8 +84,18 @@ pub struct Output {
     pub shape: OutputShape,
 }
 
+impl Drop for Output {
+    fn drop(self) {
+        let Output {
+            place: _,
+            emit: _,
+            optional: _,
+            shape: _,
+        } = self;
+    }
+}
+
 /// What an output gives.
-#[derive(Drop)]
 pub enum OutputShape {
     /// The value of one part.
     One(OutputPart),
@@ -75,8 +103,15 @@ pub enum OutputShape {
     Tuple(Vec<OutputPart>),
 }
 
+impl Drop for OutputShape {
+    fn drop(self) {
+        match self {
+            OutputShape::One(_) | OutputShape::Tuple(_) => {}
+        }
+    }
+}
+
 /// A part of an output.
-#[derive(Drop)]
 pub enum OutputPart {
     /// `val e`: the value of the expression.
     Val(Closure),
@@ -84,6 +119,14 @@ pub enum OutputPart {
     Path(Closure),
     /// `stdout`: the text that the task wrote to its standard output.
     Stdout,
+}
+
+impl Drop for OutputPart {
+    fn drop(self) {
+        match self {
+            OutputPart::Val(_) | OutputPart::Path(_) | OutputPart::Stdout => {}
+        }
+    }
 }
 
 /// The parts of an output. Takes no memory.
@@ -98,7 +141,6 @@ pub(crate) fn parts_in(shape: &OutputShape) -> &[OutputPart]
 }
 
 /// A directive `publishDir` (Nextflow reference documentation, "Process", "publishDir").
-#[derive(Drop)]
 pub struct Publish {
     /// The place of its name in the script.
     pub place: Place,
@@ -106,4 +148,14 @@ pub struct Publish {
     pub folder: Closure,
     /// Its option `pattern`: of the files only those are published whose names match it.
     pub pattern: Option<Closure>,
+}
+
+impl Drop for Publish {
+    fn drop(self) {
+        let Publish {
+            place: _,
+            folder: _,
+            pattern: _,
+        } = self;
+    }
 }

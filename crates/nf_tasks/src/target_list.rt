@@ -6,7 +6,6 @@ use nf_value::{Digest, Txt};
 use std::marker::Model;
 
 /// A file that is published: its path, and the digest of what it holds.
-#[derive(Drop)]
 pub struct Target {
     /// The folder, a slash and the file's name.
     pub name: Txt,
@@ -14,10 +13,21 @@ pub struct Target {
     pub digest: Digest,
 }
 
+impl Drop for Target {
+    fn drop(self) {
+        let Target { name: _, digest: _ } = self;
+    }
+}
+
 /// The files that a task publishes. Contracts see the list of their names and digests.
-#[derive(Drop)]
 pub struct Targets {
     items: Vec<Target>,
+}
+
+impl Drop for Targets {
+    fn drop(self) {
+        let Targets { items: _ } = self;
+    }
 }
 
 impl Model for Targets {

@@ -7,10 +7,15 @@ use nf_value::Place;
 use std::marker::Model;
 
 /// The tokens of a script, and the place of its end. Contracts see the pair of both.
-#[derive(Drop)]
 pub struct Tokens {
     items: Vec<Lexeme>,
     end: Place,
+}
+
+impl Drop for Tokens {
+    fn drop(self) {
+        let Tokens { items: _, end: _ } = self;
+    }
 }
 
 impl Model for Tokens {

@@ -122,7 +122,6 @@ pub enum TextKind {
 
 /// A token of a script (own). A template is a row of tokens: its opening, its texts and holes in turn, and its closing. So is a hole: its
 /// opening, its tokens, and its end. `"a${b}"` is `OpenTemplate`, `TemplateText`, `OpenHole`, `Name`, `CloseHole`, `CloseTemplate`.
-#[derive(Drop)]
 pub enum Token {
     /// A name: the longest run of ASCII letters, digits and `_` that doesn't begin with a digit and isn't a keyword.
     Name(Txt),
@@ -151,11 +150,35 @@ pub enum Token {
     Separator,
 }
 
+impl Drop for Token {
+    fn drop(self) {
+        match self {
+            Token::Name(_)
+            | Token::Keyword(_)
+            | Token::Number(_)
+            | Token::Plain(_, _)
+            | Token::Pattern(_)
+            | Token::OpenTemplate(_)
+            | Token::TemplateText(_)
+            | Token::OpenHole
+            | Token::CloseHole
+            | Token::CloseTemplate(_)
+            | Token::Mark(_)
+            | Token::Separator => {}
+        }
+    }
+}
+
 /// A token, and the place of its first byte; of a separator, of its `;` or line feed.
-#[derive(Drop)]
 pub struct Lexeme {
     /// The token.
     pub token: Token,
     /// Where it begins.
     pub place: Place,
+}
+
+impl Drop for Lexeme {
+    fn drop(self) {
+        let Lexeme { token: _, place: _ } = self;
+    }
 }

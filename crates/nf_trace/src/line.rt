@@ -4,7 +4,6 @@ use nf_value::Txt;
 
 /// A line of a trace, but for the first one, the header (own; the five columns are among those that the Nextflow documentation,
 /// "Tracing & visualisation", "Trace file", lists). No column has a tab or a line end.
-#[derive(Drop)]
 pub struct TraceLine {
     /// The task's number in its run, from 1, in decimal.
     pub task_id: Txt,
@@ -16,4 +15,16 @@ pub struct TraceLine {
     pub status: Txt,
     /// The exit status in decimal, or `-`.
     pub exit: Txt,
+}
+
+impl Drop for TraceLine {
+    fn drop(self) {
+        let TraceLine {
+            task_id: _,
+            hash: _,
+            name: _,
+            status: _,
+            exit: _,
+        } = self;
+    }
 }

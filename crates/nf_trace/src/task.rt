@@ -7,7 +7,6 @@ use nf_value::{Digest, Txt};
 use std::marker::Model;
 
 /// An attempt at a task, for which there is a job (own).
-#[derive(Drop)]
 pub struct Attempt {
     /// The job's key.
     pub key: Digest,
@@ -15,10 +14,21 @@ pub struct Attempt {
     pub tag: Option<Txt>,
 }
 
+impl Drop for Attempt {
+    fn drop(self) {
+        let Attempt { key: _, tag: _ } = self;
+    }
+}
+
 /// Attempts at a task, in their order.
-#[derive(Drop)]
 pub struct Attempts {
     items: Vec<Attempt>,
+}
+
+impl Drop for Attempts {
+    fn drop(self) {
+        let Attempts { items: _ } = self;
+    }
 }
 
 impl Model for Attempts {
@@ -74,7 +84,6 @@ impl TaskStatus {
 }
 
 /// A task that a process took, as a trace shows it (own).
-#[derive(Drop)]
 pub struct TracedTask {
     /// The process's name, which is the path of its call.
     pub name: Txt,
@@ -82,4 +91,14 @@ pub struct TracedTask {
     pub attempts: Attempts,
     /// How the task stands at the end of the run.
     pub status: TaskStatus,
+}
+
+impl Drop for TracedTask {
+    fn drop(self) {
+        let TracedTask {
+            name: _,
+            attempts: _,
+            status: _,
+        } = self;
+    }
 }

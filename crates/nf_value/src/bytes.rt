@@ -6,9 +6,14 @@ use crate::mem::Mem;
 use std::marker::Model;
 
 /// Any bytes, UTF-8 or not. Contracts see their list.
-#[derive(Drop)]
 pub struct Bytes {
     items: Vec<u8>,
+}
+
+impl Drop for Bytes {
+    fn drop(self) {
+        let Bytes { items: _ } = self;
+    }
 }
 
 impl Model for Bytes {
@@ -38,7 +43,8 @@ impl Bytes {
     pub fn into_items(self) -> Vec<u8>
         ensures { result.items ≡ self }
     {
-        self.items
+        let Bytes { items } = self;
+        items
     }
 
     /// Other bytes, equal to these.

@@ -10,7 +10,6 @@ use crate::text::Txt;
 pub struct Digest(pub [u8; 32]);
 
 /// A file as a value: its name and what is in it (own). The folder that it lies in isn't part of the value.
-#[derive(Drop)]
 pub struct FileRef {
     /// The last part of the path.
     pub name: Txt,
@@ -18,6 +17,16 @@ pub struct FileRef {
     pub digest: Digest,
     /// How many bytes there are.
     pub len: u64,
+}
+
+impl Drop for FileRef {
+    fn drop(self) {
+        let FileRef {
+            name: _,
+            digest: _,
+            len: _,
+        } = self;
+    }
 }
 
 impl FileRef {

@@ -9,9 +9,15 @@ use std::marker::Model;
 
 /// A list of values. Contracts see the list of its items, each by `plain_of`.
 #[cycle(value)]
-#[derive(Drop)]
 pub struct Vals {
     pub(crate) items: Vec<Value>,
+}
+
+impl Drop for Vals {
+    #[cycle(discard)]
+    fn drop(self) {
+        let Vals { items: _ } = self;
+    }
 }
 
 impl Model for Vals {
@@ -61,7 +67,8 @@ impl Vals {
     pub fn into_items(self) -> Vec<Value>
         ensures { map plain_of result.items ≡ self }
     {
-        self.items
+        let Vals { items } = self;
+        items
     }
 
     /// Another list of the same values.

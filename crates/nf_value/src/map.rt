@@ -13,9 +13,15 @@ use std::marker::Model;
 /// A map from texts to values. Each key stands once, and the keys are in rising order of their bytes (own). Contracts see the list of
 /// its pairs, each by `pair_of`.
 #[cycle(value)]
-#[derive(Drop)]
 pub struct Pairs {
     pub(crate) items: Vec<(Txt, Value)>,
+}
+
+impl Drop for Pairs {
+    #[cycle(discard)]
+    fn drop(self) {
+        let Pairs { items: _ } = self;
+    }
 }
 
 impl Model for Pairs {
@@ -70,7 +76,8 @@ impl Pairs {
         ensures items { map pair_of result.items ≡ self }
         ensures rising { rising self ≡ true }
     {
-        self.items
+        let Pairs { items } = self;
+        items
     }
 
     /// Another map of the same pairs.

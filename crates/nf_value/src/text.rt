@@ -6,9 +6,14 @@ use crate::mem::Mem;
 use std::marker::Model;
 
 /// A text in UTF-8. Contracts see its bytes.
-#[derive(Drop)]
 pub struct Txt {
     text: String,
+}
+
+impl Drop for Txt {
+    fn drop(self) {
+        let Txt { text: _ } = self;
+    }
 }
 
 impl Model for Txt {
