@@ -3,8 +3,6 @@
 
 mod front;
 mod last;
-#[cfg(test)]
-mod tests;
 mod turns;
 
 pub use front::Front;

@@ -4,8 +4,6 @@
 mod arity;
 mod options;
 mod sources;
-#[cfg(test)]
-mod tests;
 mod values;
 
 pub use arity::{ports_of, takes};

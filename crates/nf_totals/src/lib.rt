@@ -2,8 +2,6 @@
 #![tactic(auto)]
 
 mod marks;
-#[cfg(test)]
-mod tests;
 mod totals;
 
 pub use totals::total_of;

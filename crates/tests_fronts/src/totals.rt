@@ -1,8 +1,8 @@
-//! The public function with ample memory.
+//! Which total a closure stands for, with ample memory.
 
-use crate::total_of;
 use nf_ast::{ClosureBody, ClosureExpr, Expr, InfixOperator, Operand, Stmt};
 use nf_bag::Total;
+use nf_totals::total_of;
 use nf_value::{Mem, Place, Txt};
 use std::alloc::Global;
 use std::test::Fail;

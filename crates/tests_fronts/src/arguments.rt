@@ -1,6 +1,6 @@
-//! Each public function once.
+//! What operators and sources take, with ample memory.
 
-use crate::{
+use nf_opargs::{
     PathKind, Source, flag_in, has_option, list_wanted, no_options, ports_of, takes, text_wanted,
     with_option,
 };

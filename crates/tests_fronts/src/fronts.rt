@@ -1,7 +1,7 @@
-//! Each public function with ample memory.
+//! What stands last in an expression, with ample memory.
 
-use crate::{Front, Last};
 use nf_ast::{Expr, InfixOperator, Operand, Postfix};
+use nf_fronts::{Front, Last};
 use nf_value::{Mem, Place, Txt};
 use std::alloc::Global;
 use std::test::Fail;
