@@ -249,27 +249,6 @@ exprs::turn-returns-in-Then-clause-reads t0 c =
     let kinds : v.kinds ≡ c.kinds.result = search rules in
     arms_result a e (map view_branch rest) more x.place (view x.expr) v c.kinds.result c.two_arms.result (λ z. z.0) (λ z. map view_branch z.1.now) c.args.state.now c.value.new.state c.two_arms.new.state is kinds c.in_ok-left.ensures.gives c.two_arms.ensures.reads
 
-pub exprs::turns-loop-left-preserved-in_ok-next : goal.exprs::turns-loop-left-preserved-in_ok-next
-exprs::turns-loop-left-preserved-in_ok-next t0 c =
-    let a = around_of c.args.around.now in
-    let at = c.loop-left.left.now in
-    let x = c.branch-item.result in
-    let more = map view_branch (take (length at - 1) (drop 1 at)) in
-    let b : BranchTree = record { place = x.place; operator = x.operator; expr = view x.expr } in
-    let seen : view_branch x ≡ b = search (rules, the_lemmas) in
-    let is : map view_branch at ≡ b ∷ more = ap (map view_branch) (first_of at x (omega (arith, c.in-len1-up.len_at_least)) c.branch-item.is) ∙ ap (λ (y : BranchTree). y ∷ more) seen in
-    let v = c.loop-left.so_far in
-    let w = c.in_ok-next.next in
-    let ls = map view_branch c.in_ok-next.after.now in
-    let chain = chain_of (view c.args.first.now) (map view_branch c.args.rest.now) in
-    let plain : c.plain_of-so_far.result ≡ alone (plain_unless (v.kinds.unknown || w.kinds.unknown)) = search rules in
-    let before : IsRead a chain v (b ∷ more) c.args.state.now c.loop-left.state = subst (λ (ms : List BranchTree). IsRead a chain v ms c.args.state.now c.loop-left.state) is c.loop-left.invariant.reads in
-    record {
-      reads = read_as a chain ls ls c.plain_of-so_far.result (alone (plain_unless (v.kinds.unknown || w.kinds.unknown))) c.args.state.now c.turn-in-len1-up.new.state refl plain
-          (read_goes a chain b more ls v w c.args.state.now c.loop-left.state c.turn-in-len1-up.new.state before c.in_ok-next.ensures.reads);
-      left = left_on c.in_ok-next.after.now at c.args.rest.now c.in_ok-next.ensures.left c.loop-left.invariant.left;
-    }
-
 pub exprs::turns-loop-left-preserved : goal.exprs::turns-loop-left-preserved
 exprs::turns-loop-left-preserved t0 c =
     let a = around_of c.args.around.now in
@@ -503,10 +482,10 @@ pipes::value_or_call-returns t0 c =
     let on : c.args.is_value ≡ true = search rules in
     let second : Gives w old x late = search rules in
     let both : new.scope ≡ after_both old.scope late.scope = search rules in
-    let g : IfOk c.merged-2.result (λ z. Gives (either_way (gives v) w) old z new) =
-    if_ok c.merged-2.result (λ z. z ≡ merged v x) (λ z. Gives (either_way (gives v) w) old z new)
+    let g : IfOk c.merged.result (λ z. Gives (either_way (gives v) w) old z new) =
+    if_ok c.merged.result (λ z. z ≡ merged v x) (λ z. Gives (either_way (gives v) w) old z new)
     (λ z e. either_gives (gives v) w v x z old old old late new (here v old) refl refl second both refl e) (search rules) in
-    subst (λ (b : Bool). IfOk c.merged-2.result (λ z. Gives (value_or_call b v w) old z new)) (sym on) g
+    subst (λ (b : Bool). IfOk c.merged.result (λ z. Gives (value_or_call b v w) old z new)) (sym on) g
 
 pub pipes::free_name-returns : goal.pipes::free_name-returns
 pipes::free_name-returns t0 c =

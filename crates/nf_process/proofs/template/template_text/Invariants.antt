@@ -5,4 +5,4 @@ use Rattle.nf_process.proofs.template.template_text.Given as goal
 
 abbrev pub invariant-loop-piece : goal.invariant-loop-piece
 invariant-loop-piece l =
-    string_bytes l.out ++ flat_map (piece_text (string_bytes l.shown-inside.text)) (drop l.piece-index l.piece-items) ≡ flat_map (piece_text (string_bytes l.shown-inside.text)) l.piece-items
+    string_bytes l.out ++ flat_map (piece_text (l.shown)) (drop l.piece-index l.piece-items) ≡ flat_map (piece_text (l.shown)) l.piece-items
