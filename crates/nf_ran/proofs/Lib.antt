@@ -1,0 +1,5 @@
+pub mod Stopping
+pub mod Blaming
+pub mod Viewing
+pub mod Idle
+pub mod Publishing
