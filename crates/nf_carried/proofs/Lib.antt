@@ -1,0 +1,4 @@
+pub mod First
+pub mod Refusing
+pub mod Closing
+pub mod Owing

@@ -1,0 +1,74 @@
+-- What the work of a call comes to, and what is written of it.
+use Rattle.std.specs.Prelude.{◌≡◌, ◌≤◌, ◌↔◌, [], Result, Ok, Err, IfOk, IsSome}
+use Rattle.nf_host.specs.Faults.{Rose}
+use Rattle.nf_graph.specs.Rules.{Rules}
+use Rattle.nf_tasks.specs.Memory.{Program}
+use Rattle.nf_core.specs.Told.{Ending}
+use Rattle.nf_ends.specs.declared.end.End.{End}
+use Rattle.nf_ends.specs.declared.writes.Output.{Output}
+use Rattle.nf_ends.specs.declared.writes.Output.TheVariants.{Text}
+use Rattle.nf_ends.specs.Writes.{EndsAs, IsRefusal, OnSinkFault, WroteLine, WroteOutput, output_text}
+use Rattle.nf_plan.specs.declared.builder.PlanBuilder.{PlanBuilder}
+use Rattle.nf_owed.specs.Run.{run_of}
+use Rattle.nf_ran.specs.Ran.{Came, IsMade, IsPlanned, PublishNone, RanPlan, begun_over, came_to}
+use Rattle.nf_carried.specs.Objects.{CallEnd, Hands, Objects, OnWritten, SinkNow}
+use Rattle.nf_carried.specs.Table.{OwesRun}
+use Rattle.nf_carried.specs.declared.work.Work.{Work}
+use Rattle.nf_carried.specs.declared.work.Work.TheVariants as work
+
+-- ---- work
+
+-- a refusal is no end of a call that wrote an output; a plan is one that was made, and publishes no file
+abbrev pub IsDoable : Program → Work → Type 0
+IsDoable n (work.Write text) = Unit {0}
+IsDoable n (work.Refuse e) = IsRefusal e
+IsDoable n (work.Run plan resume) = IsPlanned plan.graph plan.infos.items × PublishNone n plan.infos.items
+
+-- nothing was run
+pub record RanNothing (before : Hands) {D S : Type 0} (y : Came D S) : Type 0 where
+  pub history : y.history ≡ []
+  pub dones : y.dones ≡ []
+  pub seens : y.seens ≡ []
+  pub keeper : y.keeper ≡ before.keeper
+  pub lane : y.lane ≡ before.lane
+
+-- A text and a refusal are as they were, and nothing was run for them. A plan was run. done and seen say what is known
+-- of a Done and a Seen beside the attempt that it ended
+abbrev pub Did : Program → Work → Hands → {D S : Type 0} → (Rules → D → Ending → Type 0) → (S → Ending → Type 0)
+    → Came D S → Type 0
+Did n (work.Write text) before done seen y = (y.outcome ≡ Ok (Text text)) × RanNothing before y
+Did n (work.Refuse e) before done seen y = (y.outcome ≡ Err e) × RanNothing before y
+Did n (work.Run plan resume) before done seen y =
+    RanPlan (begun_over n plan.graph plan.infos.items resume before.keeper before.lane) done seen y
+
+-- ---- what is written
+
+-- The call ended with this, which was to be written. An output is written whole, or a front of it if the sink failed;
+-- of a refusal its error line, and nothing if there is no memory for that
+pub record Closes (outcome : Result Output End) (before after : SinkNow) (e : End) : Type 0 where
+  pub ends : EndsAs outcome e
+  pub output : IfOk outcome (λ o. OnWritten before after (WroteOutput e (output_text o)))
+  pub line : OnWritten before after (WroteLine e (Rose before.faults after.faults))
+  -- the sink is blamed only if its count rose
+  pub blamed : OnSinkFault e (Rose before.faults after.faults)
+  pub later : before.faults ≤ after.faults
+  pub told : IsSome after.written ↔ IsSome before.written
+
+-- ---- the whole
+
+abbrev pub with_outcome : {D S : Type 0} → Result Output End → CallEnd D S → Came D S
+with_outcome outcome y = came_to y.history y.dones y.seens outcome y.after.hands.keeper y.after.hands.lane
+
+-- of a plan the call owes what its script means; of other work nothing more
+abbrev pub OwesWork : Program → Work → Objects → {D S : Type 0} → CallEnd D S → Type 0
+OwesWork n (work.Run plan resume) before y =
+    (b : PlanBuilder) → IsMade b plan.graph plan.infos.items → OwesRun (run_of n b) before y
+OwesWork n _ before y = Unit {0}
+
+-- the work came to this outcome, and the call ended with it
+pub record CarriedOut (n : Program) (w : Work) (before : Objects) {D S : Type 0} (done : Rules → D → Ending → Type 0)
+    (seen : S → Ending → Type 0) (y : CallEnd D S) : Type 0 where
+  pub outcome : Result Output End
+  pub did : Did n w before.hands done seen (with_outcome outcome y)
+  pub closed : Closes outcome before.sink y.after.sink y.end
+  pub owes : OwesWork n w before y

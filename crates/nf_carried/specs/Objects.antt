@@ -1,0 +1,50 @@
+-- The objects that a call works with, and what it came to.
+use Rattle.std.specs.Prelude.{ℕ, List, [], ◌∷◌, IfSome}
+use Rattle.std.specs.declared.option.Option.{Option}
+use Rattle.std.specs.declared.option.Option.TheVariants.{None}
+use Rattle.nf_machine.specs.declared.event.Event.{Event}
+use Rattle.nf_serial.specs.Serial.{LaneNow, lane_now}
+use Rattle.nf_ends.specs.declared.end.End.{End}
+use Rattle.nf_ran.specs.Ran.{KeeperNow}
+
+-- the first of some lanes; without a lane one that never ran
+abbrev pub first_of : {L : Type 0} → (L → LaneNow) → List L → LaneNow
+first_of now [] = lane_now 0 0 None None
+first_of now (l ∷ ls) = now l
+
+-- those that work: the keeper, and the lane that runs the tasks
+pub record Hands : Type 0 where
+  pub keeper : KeeperNow
+  pub lane : LaneNow
+
+abbrev pub hands : KeeperNow → LaneNow → Hands
+hands keeper lane = record { keeper = keeper; lane = lane }
+
+-- what was written to a sink, if it tells that, and how often it failed
+pub record SinkNow : Type 0 where
+  pub written : Option (List ℕ)
+  pub faults : ℕ
+
+abbrev pub sink_now : Option (List ℕ) → ℕ → SinkNow
+sink_now written faults = record { written = written; faults = faults }
+
+pub record Objects : Type 0 where
+  pub hands : Hands
+  pub sink : SinkNow
+
+abbrev pub objects : Hands → SinkNow → Objects
+objects h sink = record { hands = h; sink = sink }
+
+-- P of what was written before and after, if the sink tells that
+abbrev pub OnWritten : SinkNow → SinkNow → (List ℕ → List ℕ → Type 0) → Type 0
+OnWritten before after P = IfSome before.written (λ old. IfSome after.written (λ new. P old new))
+
+-- ---- what a call came to
+
+-- its end, its events, the Dones and Seens of its lane, and the objects afterwards
+pub record CallEnd (D S : Type 0) : Type 0 where
+  pub end : End
+  pub history : List Event
+  pub dones : List D
+  pub seens : List S
+  pub after : Objects
