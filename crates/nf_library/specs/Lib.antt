@@ -1,0 +1,4 @@
+pub mod Calls
+pub mod Stages
+pub mod Patterns
+pub mod Shelves
