@@ -75,7 +75,8 @@ impl<'p, 'a, N: Natives> TopReader<'p, 'a, N> {
     ) -> Result<TopReader<'p, 'a, N>, Mem>
         ensures natives { IfOk result (λ x. x.around.natives.now ≡ around.entry.natives.now) }
         ensures stands { IfOk result (λ x. (g : Given) → outside.now ≡ g.params
-            → IsAround N.titles N.answer around.entry (around_of g g.params) → StandsRead N.titles N.answer x g (begun g)) }
+            → IsAround N.titles N.answer around.entry (around_of g g.params)
+            → StandsRead N.titles N.answer x g (begun g)) }
     {
         let names = TopNames::new(alloc, around.natives())?;
         let params = outside.copy()?;
@@ -118,7 +119,8 @@ impl<'p, 'a, N: Natives> TopReader<'p, 'a, N> {
         requires { N.keeps self.old.around.natives.now }
         ensures natives { self.new.around.natives.now ≡ self.old.around.natives.now }
         ensures walk { ReadingGoesOn N.titles N.answer
-            (λ g. meaning.parameter g (tree.name parameter.now.name_place parameter.now.name) (view parameter.now.value))
+            (λ g. meaning.parameter g (tree.name parameter.now.name_place parameter.now.name)
+            (view parameter.now.value))
             self.old self.new result }
     {
         if self.names.set.contains(parameter.name.as_str()) {

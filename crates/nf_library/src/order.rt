@@ -21,9 +21,9 @@ use nf_value::{Mem, Place, Txt};
 use std::alloc::Global;
 use std::mem::replace;
 
-/// Adds the functions of a script, each after those that it calls (own): in rounds, of which each adds, in the order of the text, those that
-/// call only functions of the rounds before. A function that leads back to itself is never added. Takes time by the number of functions in
-/// each round.
+/// Adds the functions of a script, each after those that it calls (own): in rounds, of which each adds, in the order of
+/// the text, those that call only functions of the rounds before. A function that leads back to itself is never added.
+/// Takes time by the number of functions in each round.
 ///
 /// # Errors
 ///

@@ -34,10 +34,10 @@ pub struct Shelf {
 }
 
 impl Shelf {
-    /// The library of a script (own): its functions, each after those that it calls, and the patterns of all its places, which are the bodies
-    /// of functions and workflows, what is emitted, parameters, and the directives, outputs and tasks of processes. A text in which the grammar
-    /// of `regex` reads no pattern is left out. Takes time by the size of the script, and by the number of functions for each function that
-    /// waits for another.
+    /// The library of a script (own): its functions, each after those that it calls, and the patterns of all its
+    /// places, which are the bodies of functions and workflows, what is emitted, parameters, and the directives,
+    /// outputs and tasks of processes. A text in which the grammar of `regex` reads no pattern is left out. Takes time
+    /// by the size of the script, and by the number of functions for each function that waits for another.
     ///
     /// # Errors
     ///

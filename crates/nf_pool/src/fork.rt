@@ -22,7 +22,8 @@ fn pop_lane<L: Lane, J: Fixed>(lanes: &mut Vec<L>) -> Option<L>
     requires lanes { AreFirst (map (λ l. told (L.world l) (L.store l)) lanes.old.items) J.facts.lanes }
     ensures items { IfSome result (λ l. lanes.old.items ≡ lanes.new.items ++ l ∷ []) }
     ensures none { IfNone result ((lanes.old.items ≡ []) × (lanes.new.items ≡ [])) }
-    ensures len { MatchOption result (vec_len lanes.new ≡ vec_len lanes.old) (λ _. vec_len lanes.new + 1 ≡ vec_len lanes.old) }
+    ensures len { MatchOption result (vec_len lanes.new ≡ vec_len lanes.old)
+        (λ _. vec_len lanes.new + 1 ≡ vec_len lanes.old) }
     ensures capacity { vec_capacity lanes.new ≡ vec_capacity lanes.old }
     ensures lane { IfSome result (λ l. IsLaneAt J.facts (vec_len lanes.new) (L.world l) (L.store l)
         × AreFirst (map (λ l. told (L.world l) (L.store l)) lanes.new.items) J.facts.lanes) }
@@ -63,7 +64,8 @@ where
     ensures runs { sum_by L.runs result.0.items ≡ sum_by L.runs lanes.items + result.1.amount }
     ensures parts { (result.1.parts ≡ vec_len lanes) × (result.2.parts ≡ vec_len lanes) }
     ensures rose { 0 < result.2.amount → AnyRose (map L.faults lanes.items) (map L.faults result.0.items) }
-    ensures worked { HaveWorked (lanes_now L.runs L.faults L.world L.store lanes.items) (lanes_now L.runs L.faults L.world L.store result.0.items) }
+    ensures worked { HaveWorked (lanes_now L.runs L.faults L.world L.store lanes.items)
+        (lanes_now L.runs L.faults L.world L.store result.0.items) }
     ensures room { (vec_len result.0 ≡ vec_len lanes) × (vec_capacity result.0 ≡ vec_capacity lanes) }
 {
     let Some(lane) = pop_lane::<L, J>(&mut lanes) else {
@@ -75,20 +77,27 @@ where
     let ((lane, mut owed, mut lost), (mut lanes, owed_left, lost_left)) = join(
         rt,
         move || -> (L, Share<B>, Share<F>)
-            requires { (owed.parts ≡ 1) × (owed.amount ≡ 0) × (lost.parts ≡ 1) × (lost.amount ≡ 0) × (L.runs lane < 2 ^ 62)
-                × IsLaneAt J.facts index (L.world lane) (L.store lane) × (R.meaning rules.now ≡ J.facts.rules) × R.keeps rules.now }
+            requires { (owed.parts ≡ 1) × (owed.amount ≡ 0) × (lost.parts ≡ 1) × (lost.amount ≡ 0)
+                × (L.runs lane < 2 ^ 62)
+                × IsLaneAt J.facts index (L.world lane) (L.store lane) × (R.meaning rules.now ≡ J.facts.rules)
+                × R.keeps rules.now }
             ensures { (result.1.parts ≡ 1) × (result.2.parts ≡ 1)
                 × WorksOn (worker_now (lane_now (L.runs lane) (L.faults lane) (L.world lane) (L.store lane)) 0 0)
-                (worker_now (lane_now (L.runs result.0) (L.faults result.0) (L.world result.0) (L.store result.0)) result.1.amount result.2.amount) }
+                (worker_now (lane_now (L.runs result.0) (L.faults result.0) (L.world result.0) (L.store result.0))
+                result.1.amount result.2.amount) }
         { work(rt, alloc, lock, idle, rules, index, owed, lost, lane) },
         move || -> (Vec<L>, Share<B>, Share<F>)
-            requires { (owed_left.parts ≡ vec_len lanes) × (owed_left.amount ≡ 0) × (lost_left.parts ≡ vec_len lanes) × (lost_left.amount ≡ 0)
-                × All (λ l. L.runs l < 2 ^ 62) lanes.items × AreFirst (map (λ l. told (L.world l) (L.store l)) lanes.items) J.facts.lanes
+            requires { (owed_left.parts ≡ vec_len lanes) × (owed_left.amount ≡ 0) × (lost_left.parts ≡ vec_len lanes)
+                × (lost_left.amount ≡ 0)
+                × All (λ l. L.runs l < 2 ^ 62) lanes.items
+                × AreFirst (map (λ l. told (L.world l) (L.store l)) lanes.items) J.facts.lanes
                 × (R.meaning rules.now ≡ J.facts.rules) × R.keeps rules.now × IsSync T.row }
-            ensures { (sum_by L.runs result.0.items ≡ sum_by L.runs lanes.items + result.1.amount) × (result.1.parts ≡ vec_len lanes)
+            ensures { (sum_by L.runs result.0.items ≡ sum_by L.runs lanes.items + result.1.amount)
+                × (result.1.parts ≡ vec_len lanes)
                 × (result.2.parts ≡ vec_len lanes)
                 × (0 < result.2.amount → AnyRose (map L.faults lanes.items) (map L.faults result.0.items))
-                × HaveWorked (lanes_now L.runs L.faults L.world L.store lanes.items) (lanes_now L.runs L.faults L.world L.store result.0.items)
+                × HaveWorked (lanes_now L.runs L.faults L.world L.store lanes.items)
+                (lanes_now L.runs L.faults L.world L.store result.0.items)
                 × (vec_len result.0 ≡ vec_len lanes) × (vec_capacity result.0 ≡ vec_capacity lanes) }
         { fork(rt, alloc, lock, idle, rules, owed_left, lost_left, lanes) },
     );

@@ -17,7 +17,8 @@ use std::alloc::Global;
 use std::sync::ledger::Ledger;
 use std::sync::{Mutex, Wait};
 
-/// The most pairs of `make_room` and one method in one holding of the lock, and so the most items that a worker takes at once.
+/// The most pairs of `make_room` and one method in one holding of the lock, and so the most items that a worker takes
+/// at once.
 pub(crate) const PAIRS: usize = 64;
 
 /// The item that a holding took, with up to 63 more of the same operator.
@@ -47,7 +48,8 @@ pub(crate) fn more_items<L: Lane, K: Keeper, J: Fixed, B: Ledger, F: Ledger>(
     Ok(items)
 }
 
-/// Answers items outside of the lock, and gives the answers back in one holding. Without the memory for that the run is stopped.
+/// Answers items outside of the lock, and gives the answers back in one holding. Without the memory for that the run is
+/// stopped.
 pub(crate) fn answer_items<L, K, J, B, F, R, T>(
     rt: &T,
     alloc: Global,

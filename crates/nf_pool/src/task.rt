@@ -45,8 +45,10 @@ pub(crate) fn do_task<L: Lane, K: Keeper, J: Fixed, B: Ledger, F: Ledger, R: Rul
     requires owed { 0 < owed.old.parts }
     requires lost { 0 < lost.old.parts }
     ensures works { WorksOn
-        (worker_now (lane_now (L.runs lane.old) (L.faults lane.old) (L.world lane.old) (L.store lane.old)) owed.old.amount lost.old.amount)
-        (worker_now (lane_now (L.runs lane.new) (L.faults lane.new) (L.world lane.new) (L.store lane.new)) owed.new.amount lost.new.amount) }
+        (worker_now (lane_now (L.runs lane.old) (L.faults lane.old) (L.world lane.old) (L.store lane.old))
+        owed.old.amount lost.old.amount)
+        (worker_now (lane_now (L.runs lane.new) (L.faults lane.new) (L.world lane.new) (L.store lane.new))
+        owed.new.amount lost.new.amount) }
     ensures parts { (owed.new.parts ≡ owed.old.parts) × (lost.new.parts ≡ lost.old.parts) }
 {
     let mut ticket = ticket;
@@ -77,8 +79,10 @@ fn attempt<L: Lane, K: Keeper, J: Fixed, B: Ledger, F: Ledger, R: Rules, T: Wait
     requires lost { 0 < lost.old.parts }
     ensures again { result ≡ true → IsTaskOf J.facts (next_attempt ticket.now) }
     ensures works { WorksOn
-        (worker_now (lane_now (L.runs lane.old) (L.faults lane.old) (L.world lane.old) (L.store lane.old)) owed.old.amount lost.old.amount)
-        (worker_now (lane_now (L.runs lane.new) (L.faults lane.new) (L.world lane.new) (L.store lane.new)) owed.new.amount lost.new.amount) }
+        (worker_now (lane_now (L.runs lane.old) (L.faults lane.old) (L.world lane.old) (L.store lane.old))
+        owed.old.amount lost.old.amount)
+        (worker_now (lane_now (L.runs lane.new) (L.faults lane.new) (L.world lane.new) (L.store lane.new))
+        owed.new.amount lost.new.amount) }
     ensures parts { (owed.new.parts ≡ owed.old.parts) × (lost.new.parts ≡ lost.old.parts) }
 {
     let job = match job_of::<J, R>(alloc, rules, ticket) {
@@ -159,8 +163,10 @@ fn look<L: Lane, K: Keeper, J: Fixed, B: Ledger, F: Ledger, R: Rules, T: Wait>(
     requires lost { 0 < lost.old.parts }
     ensures again { result ≡ true → IsTaskOf J.facts (next_attempt ticket.now) }
     ensures works { WorksOn
-        (worker_now (lane_now (L.runs lane.old) (L.faults lane.old) (L.world lane.old) (L.store lane.old)) owed.old.amount lost.old.amount)
-        (worker_now (lane_now (L.runs lane.new) (L.faults lane.new) (L.world lane.new) (L.store lane.new)) owed.new.amount lost.new.amount) }
+        (worker_now (lane_now (L.runs lane.old) (L.faults lane.old) (L.world lane.old) (L.store lane.old))
+        owed.old.amount lost.old.amount)
+        (worker_now (lane_now (L.runs lane.new) (L.faults lane.new) (L.world lane.new) (L.store lane.new))
+        owed.new.amount lost.new.amount) }
     ensures parts { (owed.new.parts ≡ owed.old.parts) × (lost.new.parts ≡ lost.old.parts) }
 {
     let found = match look_for::<L, J>(alloc, lane, &report) {
@@ -204,8 +210,10 @@ fn run_anew<L: Lane, K: Keeper, J: Fixed, B: Ledger, F: Ledger, R: Rules, T: Wai
     requires lost { 0 < lost.old.parts }
     ensures again { result ≡ true → IsTaskOf J.facts (next_attempt ticket.now) }
     ensures works { WorksOn
-        (worker_now (lane_now (L.runs lane.old) (L.faults lane.old) (L.world lane.old) (L.store lane.old)) owed.old.amount lost.old.amount)
-        (worker_now (lane_now (L.runs lane.new) (L.faults lane.new) (L.world lane.new) (L.store lane.new)) owed.new.amount lost.new.amount) }
+        (worker_now (lane_now (L.runs lane.old) (L.faults lane.old) (L.world lane.old) (L.store lane.old))
+        owed.old.amount lost.old.amount)
+        (worker_now (lane_now (L.runs lane.new) (L.faults lane.new) (L.world lane.new) (L.store lane.new))
+        owed.new.amount lost.new.amount) }
     ensures parts { (owed.new.parts ≡ owed.old.parts) × (lost.new.parts ≡ lost.old.parts) }
 {
     if start_gone(rt, lock, owed, index, ticket, job, name) {

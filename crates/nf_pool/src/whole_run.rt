@@ -33,13 +33,13 @@ use std::sync::ledger::{Blank, Ledger};
 use std::sync::{Condvar, Mutex, Wait};
 use std::thread::Threads;
 
-/// Runs a graph on 1 to 16 lanes at once, from its first event to its end (own): a worker for each lane, and then what they left on one
-/// thread. If the run resumes an earlier one, the keeper is asked for the records of its jobs. The rules are to tell attempts apart by the
-/// texts of their jobs. The lanes and the keeper come back on every path.
+/// Runs a graph on 1 to 16 lanes at once, from its first event to its end (own): a worker for each lane, and then what
+/// they left on one thread. If the run resumes an earlier one, the keeper is asked for the records of its jobs. The
+/// rules are to tell attempts apart by the texts of their jobs. The lanes and the keeper come back on every path.
 ///
-/// The lanes ran once for each Start of the history. The keeper is blamed only if its count of faults rose, a lane only if one of theirs
-/// did. That two workers work at once, that one that waits is woken, and that lanes run and closures are evaluated outside of the lock, isn't
-/// part of this contract.
+/// The lanes ran once for each Start of the history. The keeper is blamed only if its count of faults rose, a lane only
+/// if one of theirs did. That two workers work at once, that one that waits is woken, and that lanes run and closures
+/// are evaluated outside of the lock, isn't part of this contract.
 pub fn run<L, K, R, T>(
     rt: &T,
     alloc: Global,
@@ -67,10 +67,12 @@ where
     ensures rose { 0 < failures_of result.flow → AnyRose (map L.faults lanes.items) (map L.faults result.lanes.items) }
     ensures len { vec_len result.lanes ≡ vec_len lanes }
     // Each lane that comes back has a world that one of the lanes had, and its store has lost nothing.
-    ensures lanes { AllByRecursion (λ l. IsLane (opening_of flow.graph (R.meaning rules.now) resume (K.held keeper) (K.faults keeper)
+    ensures lanes { AllByRecursion
+        (λ l. IsLane (opening_of flow.graph (R.meaning rules.now) resume (K.held keeper) (K.faults keeper)
         (map (λ l. told (L.world l) (L.store l)) lanes.items)) (L.world l) (L.store l)) result.lanes.items }
     ensures run { IsRun
-        (opening_of flow.graph (R.meaning rules.now) resume (K.held keeper) (K.faults keeper) (map (λ l. told (L.world l) (L.store l)) lanes.items))
+        (opening_of flow.graph (R.meaning rules.now) resume (K.held keeper) (K.faults keeper)
+        (map (λ l. told (L.world l) (L.store l)) lanes.items))
         (IsDoneOf L.Done.genuine L.Done.job L.Done.told (R.meaning rules.now)) (IsSeenOf L.Seen.genuine L.Seen.told)
         (record {
           flow = result.flow;
@@ -81,10 +83,12 @@ where
           faults = K.faults result.keeper;
         }) }
     ensures promises { Promises
-        (opening_of flow.graph (R.meaning rules.now) resume (K.held keeper) (K.faults keeper) (map (λ l. told (L.world l) (L.store l)) lanes.items))
+        (opening_of flow.graph (R.meaning rules.now) resume (K.held keeper) (K.faults keeper)
+        (map (λ l. told (L.world l) (L.store l)) lanes.items))
         (plain_of result.flow) (events_of result.flow) }
     ensures keeps { Keeps
-        (opening_of flow.graph (R.meaning rules.now) resume (K.held keeper) (K.faults keeper) (map (λ l. told (L.world l) (L.store l)) lanes.items))
+        (opening_of flow.graph (R.meaning rules.now) resume (K.held keeper) (K.faults keeper)
+        (map (λ l. told (L.world l) (L.store l)) lanes.items))
         (plain_of result.flow) (events_of result.flow) (K.held result.keeper) }
 {
     let begun = Blank::new(lanes.len() as u64);
@@ -207,7 +211,8 @@ where
     ensures idle { IsIdle result.0 }
     ensures runs { sum_by L.runs result.1.items ≡ sum_by L.runs lanes.items + starts_of result.0 }
     ensures rose { 0 < failures_of result.0 → AnyRose (map L.faults lanes.items) (map L.faults result.1.items) }
-    ensures worked { HaveWorked (lanes_now L.runs L.faults L.world L.store lanes.items) (lanes_now L.runs L.faults L.world L.store result.1.items) }
+    ensures worked { HaveWorked (lanes_now L.runs L.faults L.world L.store lanes.items)
+        (lanes_now L.runs L.faults L.world L.store result.1.items) }
     ensures len { vec_len result.1 ≡ vec_len lanes }
 {
     let Ok(out) = lists(alloc, lanes.len()) else {

@@ -20,8 +20,8 @@ use std::alloc::Global;
 use std::sync::ledger::{Ledger, Share};
 use std::sync::{Condvar, Mutex, Wait};
 
-/// One worker: it works with its lane until no more moves come. Its lane ran once for each run that it owes, and is blamed only if its
-/// count of faults rose.
+/// One worker: it works with its lane until no more moves come. Its lane ran once for each run that it owes, and is
+/// blamed only if its count of faults rose.
 pub(crate) fn work<L: Lane, K: Keeper, J: Fixed, B: Ledger, F: Ledger, R: Rules, T: Wait>(
     rt: &T,
     alloc: Global,
@@ -40,7 +40,8 @@ pub(crate) fn work<L: Lane, K: Keeper, J: Fixed, B: Ledger, F: Ledger, R: Rules,
     requires owed { (owed.parts ≡ 1) × (owed.amount ≡ 0) }
     requires lost { (lost.parts ≡ 1) × (lost.amount ≡ 0) }
     ensures works { WorksOn (worker_now (lane_now (L.runs lane) (L.faults lane) (L.world lane) (L.store lane)) 0 0)
-        (worker_now (lane_now (L.runs result.0) (L.faults result.0) (L.world result.0) (L.store result.0)) result.1.amount result.2.amount) }
+        (worker_now (lane_now (L.runs result.0) (L.faults result.0) (L.world result.0) (L.store result.0))
+        result.1.amount result.2.amount) }
     ensures parts { (result.1.parts ≡ 1) × (result.2.parts ≡ 1) }
 {
     for _ in rt.forever() {
@@ -78,8 +79,10 @@ fn do_duty<L: Lane, K: Keeper, J: Fixed, B: Ledger, F: Ledger, R: Rules, T: Wait
     requires owed { 0 < owed.old.parts }
     requires lost { 0 < lost.old.parts }
     ensures works { WorksOn
-        (worker_now (lane_now (L.runs lane.old) (L.faults lane.old) (L.world lane.old) (L.store lane.old)) owed.old.amount lost.old.amount)
-        (worker_now (lane_now (L.runs lane.new) (L.faults lane.new) (L.world lane.new) (L.store lane.new)) owed.new.amount lost.new.amount) }
+        (worker_now (lane_now (L.runs lane.old) (L.faults lane.old) (L.world lane.old) (L.store lane.old))
+        owed.old.amount lost.old.amount)
+        (worker_now (lane_now (L.runs lane.new) (L.faults lane.new) (L.world lane.new) (L.store lane.new))
+        owed.new.amount lost.new.amount) }
     ensures parts { (owed.new.parts ≡ owed.old.parts) × (lost.new.parts ≡ lost.old.parts) }
 {
     match duty {
