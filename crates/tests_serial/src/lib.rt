@@ -1,6 +1,8 @@
-//! Tests of whole runs on one lane: of a small graph, and of the same graph resumed.
+//! Tests of whole runs of a small graph, on one lane and on four, and of the same graph resumed.
 #![tactic(auto)]
 
+#[cfg(test)]
+mod pools;
 #[cfg(test)]
 mod rules;
 #[cfg(test)]

@@ -73,7 +73,8 @@ fn process(alloc: Global) -> Result<Node, Mem>
     })
 }
 
-fn small_graph(alloc: Global) -> Result<Graph, Mem>
+/// The source, `view` and the process.
+pub(crate) fn small_graph(alloc: Global) -> Result<Graph, Mem>
     ensures { IfOk result (λ g. g ≡ small_nodes) }
 {
     Ok(Graph::new(vec![in alloc; source(alloc)?, view(alloc)?, process(alloc)?]?))
