@@ -1,0 +1,5 @@
+//! Tests of what a person sees while a run goes on.
+#![tactic(auto)]
+
+#[cfg(test)]
+mod lines;
