@@ -4,7 +4,6 @@ use Rattle.nf_graph.specs.declared.node.Node.{Node}
 use Rattle.nf_meaning.specs.declared.fault.LowerFault.{LowerFault}
 use Rattle.nf_meaning.specs.Sizes.{grown, is_within_limits}
 use Rattle.nf_meaning.specs.Walk as walk
-use Rattle.nf_meaning.specs.Walk.{State}
 use Rattle.nf_plan.specs.declared.builder.PlanBuilder.{PlanBuilder}
 use Rattle.nf_plan.specs.Counts.{Grows}
 use Rattle.nf_plan.specs.Plans.{HasRoom, IsPlan, ports_in}
