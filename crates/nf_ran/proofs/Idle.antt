@@ -27,6 +27,7 @@ module _ (x : Began) {D S : Type 0} (done : Rules → D → Ending → Type 0) (
       faults = omega arith;
       blamed = λ t there. absurd (let below = there.1 in omega arith);
     };
+    world = refl;
     run = record {
       graph = refl;
       resumed = refl;

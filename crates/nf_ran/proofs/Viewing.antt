@@ -108,12 +108,12 @@ module _ (n : Program) (old : Seen) (infos : List NodeInfo) (resume : Bool) (kee
   parts_with z y = record { flow = z; dones = y.dones; seens = y.seens; resumed = resume; held = y.keeper.held; faults = y.keeper.faults }
 
   -- a run on one lane, with what it comes to
-  pub ran_alone : (z : Seen) (R : Rules) (y : Came D S) → R ≡ rules_of n infos → old.history ≡ [] → y.history ≡ z.history → Goes old z lane y.lane
+  pub ran_alone : (z : Seen) (R : Rules) (y : Came D S) → R ≡ rules_of n infos → old.history ≡ [] → y.history ≡ z.history → Goes old z lane y.lane → y.lane.world ≡ lane.world
       → IsRun (opening_under R) (done R) seen (parts_with z y) → IsPlanned old.graph infos
       → ((b : PlanBuilder) → IsMade b old.graph infos → (o : Outcomes) → ((run_of n b).meaning o).targets ≡ [])
       → ((b : PlanBuilder) → IsRunOf n b infos z → ComesTo (run_of n b) z.history y.outcome)
       → RanPlan (begun_over n old.graph infos resume keeper lane) done seen y
-  ran_alone z R y same none history goes run planned unpublished owed =
+  ran_alone z R y same none history goes world run planned unpublished owed =
       let due = rules_of n infos in
       let F : Opening = opening_under due in
       let is : IsRun F (done due) seen (parts_with z y) = subst (λ (Q : Rules). IsRun (opening_under Q) (done Q) seen (parts_with z y)) same run in
@@ -125,6 +125,7 @@ module _ (n : Program) (old : Seen) (infos : List NodeInfo) (resume : Bool) (kee
       let made = planned.1 in
       record {
         goes = went;
+        world = world;
         run = whole;
         comes = comes;
         blamed = outcome_blames (run_of n b) y.history (Rose lane.faults y.lane.faults) (Rose keeper.faults y.keeper.faults)

@@ -128,6 +128,8 @@ pub record RanPlan (x : Began) {D S : Type 0} (done : Rules → D → Ending →
     (y : Came D S) : Type 0 where
   -- the lane ran once for each Start
   pub goes : Goes (begun x.graph) (with_history x.graph y.history) x.lane y.lane
+  -- and tells the world that it told
+  pub world : y.lane.world ≡ x.lane.world
   -- the history is lawful, and what the lane and the keeper gave belongs to its events
   pub run : IsRun (opening_of x) (done (rules_for x)) seen (parts_of x y)
   -- what it came to is owed by what the plan means

@@ -37,6 +37,7 @@ pub fn run_alone<L: Lane, K: Keeper, R: Rules>(
     ensures goes { Goes flow result.0
         (lane_now (L.runs lane.old) (L.faults lane.old) (L.world lane.old) (L.store lane.old))
         (lane_now (L.runs lane.new) (L.faults lane.new) (L.world lane.new) (L.store lane.new)) }
+    ensures world { L.world lane.new ≡ L.world lane.old }
     // What holds of every run that began so holds of its parts.
     ensures run { IsRun (record {
       graph = flow.graph;
@@ -75,6 +76,7 @@ fn run_as<L: Lane, K: Keeper, J: Fixed, R: Rules>(
     ensures goes { Goes flow result.0
         (lane_now (L.runs lane.old) (L.faults lane.old) (L.world lane.old) (L.store lane.old))
         (lane_now (L.runs lane.new) (L.faults lane.new) (L.world lane.new) (L.store lane.new)) }
+    ensures lane { IsLane J.facts (L.world lane.new) (L.store lane.new) }
     ensures run { IsRun J.facts (IsDoneOf L.Done.genuine L.Done.job L.Done.told J.facts.rules) (IsSeenOf L.Seen.genuine L.Seen.told)
         (record { flow = result.0; dones = result.1.dones.items; seens = result.1.seens.items; resumed = J.facts.resumed; held = K.held result.2; faults = K.faults result.2 }) }
 {

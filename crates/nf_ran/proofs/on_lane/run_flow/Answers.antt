@@ -37,6 +37,6 @@ returns g c =
     let outcome = c.end_of_run-outcome.result in
     let y = came_to c.into_history.result.items c.run_alone-flow.result.1.dones.items c.run_alone-flow.result.1.seens.items outcome after lane_after in
     ran_alone n c.args.flow infos c.args.resume before lane (IsDoneOf g.L.Done.Finished.genuine g.L.Done.Finished.job g.L.Done.Finished.told) (IsSeenOf g.L.Seen.Present.genuine g.L.Seen.Present.told)
-    c.run_alone-flow.result.0 meaning y same c.requires.begun c.into_history.ensures c.run_alone-flow.ensures.goes c.run_alone-flow.ensures.run c.requires.planned
+    c.run_alone-flow.result.0 meaning y same c.requires.begun c.into_history.ensures c.run_alone-flow.ensures.goes c.run_alone-flow.ensures.world c.run_alone-flow.ensures.run c.requires.planned
     (λ b made. c.nothing_is_published.ensures n b (subst (λ (xs : List NodeInfo). PublishNone n xs) made.infos_are c.requires.unpublished))
     (λ b of. c.end_of_run-outcome.ensures n b of)
