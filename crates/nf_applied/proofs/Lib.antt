@@ -6,3 +6,6 @@ pub mod Rows
 pub mod Applying
 pub mod Counting
 pub mod Setting
+pub mod Lists
+pub mod Looking
+pub mod Giving

@@ -8,3 +8,8 @@ mod Queues
 mod Naming
 mod Specs
 mod Tasking
+pub mod Bound
+pub mod Heads
+pub mod Places
+mod Beginning
+mod Enters

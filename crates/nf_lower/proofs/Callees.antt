@@ -28,7 +28,7 @@ use Rattle.nf_walked.specs.Forms.{a_thing}
 use Rattle.nf_walked.specs.Parts.{of_args}
 use Rattle.nf_walked.specs.Steps.{Known, Point, Walked}
 use Rattle.nf_walked.proofs.Stills.{alike, refused_here}
-use Rattle.nf_outputs.proofs.Heads.{called_at}
+use Rattle.nf_calling.proofs.Heads.{called_at}
 
 -- ---- a name that is called has no colon
 

@@ -61,7 +61,7 @@ use Rattle.nf_applied.specs.Rooms.{LeavesRoom, Used}
 use Rattle.nf_applied.proofs.Counting.{alone}
 use Rattle.nf_applied.proofs.Rooms.{goes_keeps, leaves_on}
 use Rattle.nf_applied.proofs.Using.{ends_used}
-use Rattle.nf_factories.specs.Sources.{GivesItems, a_path, gives_value, items_of, of_items, placed, plain_pair, range_more}
+use Rattle.nf_applied.specs.Sources.{GivesItems, a_path, gives_value, items_of, of_items, placed, plain_pair, range_more}
 use Rattle.nf_lower.specs.Sources.{HasAsMany, TakesSoMany}
 use Rattle.nf_lower.proofs.Takes.{unnamed_left}
 

@@ -12,9 +12,9 @@ use Rattle.nf_ast.specs.View.{trees}
 use Rattle.nf_ast.specs.declared.tops.Top.{Top}
 use Rattle.nf_around.specs.Around.{IsAround}
 use Rattle.nf_around.specs.declared.surroundings.Surroundings.{Surroundings}
-use Rattle.nf_begun.specs.Entries.{IsRunOf, StandsAround}
-use Rattle.nf_begun.specs.Settings.{IsSettingOf}
-use Rattle.nf_begun.specs.declared.setting.Setting.{Setting}
+use Rattle.nf_calling.specs.Entries.{IsRunOf, StandsAround}
+use Rattle.nf_calling.specs.Settings.{IsSettingOf}
+use Rattle.nf_calling.specs.declared.setting.Setting.{Setting}
 use Rattle.nf_eval.specs.declared.library.Library.{Library}
 use Rattle.nf_lowered.specs.Given.{Gives, HasFault, HasValue}
 use Rattle.nf_lowered.proofs.Joining.{fault_by}

@@ -2,7 +2,7 @@
 
 ghost use Rattle.std.specs.Prelude.{◌≡◌, map};
 ghost use Rattle.nf_ast.specs.Tops.{view_script};
-ghost use Rattle.nf_begun.specs.Settings.{IsSettingOf};
+ghost use Rattle.nf_calling.specs.Settings.{IsSettingOf};
 ghost use Rattle.nf_callees.specs.Found.{defined_in};
 ghost use Rattle.nf_eval.specs.Memory.{definitions_of as functions_in};
 ghost use Rattle.nf_found.specs.All.{found_of};
@@ -19,8 +19,8 @@ use crate::found::by_path;
 use crate::outside::Outside;
 use nf_around::Surroundings;
 use nf_ast::{Script, Top};
-use nf_begun::{Setting, walker_of};
 use nf_builtins::Natives;
+use nf_calling::{Setting, walker_of};
 use nf_eval::Library;
 use nf_found::Found;
 use nf_library::Shelf;

@@ -12,15 +12,15 @@ ghost use Rattle.nf_walked.specs.Arguing.{and_more, of_step};
 ghost use Rattle.nf_walked.specs.Forms.{a_thing, values};
 ghost use Rattle.nf_walked.specs.Parts.{of_args};
 ghost use Rattle.nf_walked.specs.Steps.{Walked, from};
-ghost use Rattle.nf_factories.specs.Sources.{a_path, gives_value, items_of, placed};
+ghost use Rattle.nf_applied.specs.Sources.{a_path, gives_value, items_of, placed};
 ghost use Rattle.nf_lower.specs.Sources.{HasAsMany, TakesSoMany, list_walk};
 
 use crate::args::value_arg;
-use nf_arguments::{Args, One, Written};
-use nf_builtins::Natives;
-use nf_factories::{
+use nf_applied::{
     found_file, found_files, found_pairs, give_source, items_in, path_named, range_items, values_in,
 };
+use nf_arguments::{Args, One, Written};
+use nf_builtins::Natives;
 use nf_lowering::Lowering;
 use nf_meaning::LowerFault;
 use nf_opargs::{PathKind, Source};

@@ -22,8 +22,8 @@ use Rattle.nf_callees.specs.Found.{defined_in}
 use Rattle.nf_calling.specs.Calls.{called_fault, process_fault}
 use Rattle.nf_calling.specs.Goes.{GoesCalled}
 use Rattle.nf_eval.specs.Evaluation.{opening}
-use Rattle.nf_factories.proofs.Looking.{lost_later}
-use Rattle.nf_factories.specs.Sources.{a_path, items_of as channel_items, placed, plain_pair, with_files}
+use Rattle.nf_applied.proofs.Looking.{lost_later}
+use Rattle.nf_applied.specs.Sources.{a_path, items_of as channel_items, placed, plain_pair, with_files}
 use Rattle.nf_follows.specs.Things.{OutputsRead, ThingReads}
 use Rattle.nf_fronts.specs.Fronts.{tree_of}
 use Rattle.nf_fronts.specs.Lasts.{IsLast, maybe_tree}
@@ -67,7 +67,7 @@ use Rattle.nf_opargs.specs.Sources.{fits_kind}
 use Rattle.nf_optable.specs.Rows.{operator_rows, row_of}
 use Rattle.nf_optable.specs.declared.operator.Operator.TheVariants.{Bag}
 use Rattle.nf_optable.specs.declared.rows.OpRow.{OpRow}
-use Rattle.nf_outputs.proofs.Places.{member_reads}
+use Rattle.nf_calling.proofs.Places.{member_reads}
 use Rattle.nf_plan.specs.Counts.{Grows}
 use Rattle.nf_plan.specs.Plans.{HasRoom}
 use Rattle.nf_scopes.specs.Held.{Holds}

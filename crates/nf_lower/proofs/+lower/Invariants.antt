@@ -2,7 +2,7 @@ use Rattle.nf_applied.specs.Taking.{TakenFits}
 use Rattle.nf_arguments.specs.Args.{count_in, written_arg, written_args, written_in}
 use Rattle.nf_ast.specs.Tops.{maybe, view_emit, view_emits, view_workflow_body}
 use Rattle.nf_ast.specs.View.{view, view_stmt, view_stmts, views}
-use Rattle.nf_factories.specs.Sources.{placed}
+use Rattle.nf_applied.specs.Sources.{placed}
 use Rattle.nf_fronts.specs.Fronts.{tree_of}
 use Rattle.nf_fronts.specs.Lasts.{maybe_tree}
 use Rattle.nf_lower.proofs.Measures.{depth_of, weigh}
