@@ -1,16 +1,13 @@
-//! Answers a table of questions about values, jobs, tasks, files in memory and command lines. Standard input has a row a line, `QUESTION: PARTS`,
+//! Answers a table of questions about values, jobs and files in memory. Standard input has a row a line, `QUESTION: PARTS`,
 //! with ` | ` between the parts. Values stand as their codes (`nf_codec`), as `i3;` or `l2:i3;s1:a`. Each row is printed with its answer. Empty
 //! lines and lines that begin with `#` are printed as they are.
 #![tactic(auto)]
 
 mod bags;
-mod chains;
 mod files;
 mod jobs;
 mod order;
-mod processes;
 mod values;
-mod words;
 
 use anyhow::{Result, bail};
 use std::alloc::Global;
@@ -52,13 +49,8 @@ fn answer_to(alloc: Global, question: &str, parts: &str) -> Result<String> {
         "distinct" => bags::distinct(alloc, parts),
         "count" => bags::count(alloc, parts),
         "same bag" => bags::is_same(alloc, parts),
-        "chain" => chains::chain(alloc, parts),
         "job" => jobs::job(alloc, parts),
-        "script" => processes::script(alloc, parts),
-        "task" => processes::task(alloc, parts),
-        "output" => processes::output(alloc, parts),
         "file" => files::file(alloc, parts),
-        "words" => words::words(alloc, parts),
         _ => bail!("{question}: no question"),
     }
 }

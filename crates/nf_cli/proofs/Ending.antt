@@ -1,224 +1,156 @@
--- What is known before the writing gives how the call ends.
-use Rattle.std.proofs.Common.{◌≡◌, ℕ, List, [], Option, Some, None, Result, Ok, Err, IfSome, IfOk, IfErr, refl, sym, ◌∙◌, subst}
-use Rattle.nf_words.specs.declared.command.Command.{Command}
-use Rattle.nf_words.specs.declared.fault.UsageFault.{UsageFault}
-use Rattle.nf_words.specs.Words.{command_of}
-use Rattle.nf_host.specs.Files.{Files}
-use Rattle.nf_job.specs.declared.report.Report.{Report}
-use Rattle.nf_lane.specs.World.{World}
-use Rattle.nf_chain.specs.declared.event.Event.{Event}
-use Rattle.nf_value.specs.Plain.{Plain}
-use Rattle.nf_placed.specs.Scope.{Env}
-use Rattle.nf_forms.specs.Values.{OverBuilt, bare}
-use Rattle.nf_forms.specs.Form.{Form}
-use Rattle.nf_run.specs.Run.{state_after}
-use Rattle.nf_cli.specs.declared.ends.End.{End}
-use Rattle.nf_cli.specs.declared.ends.End.TheVariants as end
-use Rattle.nf_cli.specs.declared.ends.ItemCause.TheVariants.{Eval}
-use Rattle.nf_cli.specs.declared.works.Output.{Output}
-use Rattle.nf_cli.specs.Outcome.{Outcome, runs, formats, accepts, disordered, misused, absent, unlexed, unparsed, unbuilt}
-use Rattle.nf_cli.specs.Means.{Means}
-use Rattle.nf_cli.specs.Due.{RunEnds, MayEnd, Ended, as_due, host_failed, no_memory, StopEnds, EndsByStop, OnHostFault, OnLaneFault, WroteOutput, WroteDue, WroteOutcome, OnOutput, OutputStands, Tells, EndsOver}
-use Rattle.nf_cli.specs.Work.{WorkGives, HasWorked, IsDue, IsRefusal, IsWritten, IsKept, EndsAs, output_text}
-use Rattle.nf_cli.proofs.Patterned.{over_same}
+-- How a call ends, from what its work came to.
+use Rattle.std.proofs.Common.{◌≡◌, ◌+◌, ℕ, List, Result, refl, sym, subst, ap, inl, inr, arith}
+use Rattle.std.specs.Prelude.{◌⊎◌, Bool, count_by}
+use Rattle.nf_graph.specs.declared.node.Node.{Node}
+use Rattle.nf_graph.specs.Rules.{Rules}
+use Rattle.nf_machine.specs.declared.event.Event.{Event}
+use Rattle.nf_machine.specs.declared.event.Event.TheVariants as e
+use Rattle.nf_machine.specs.History.{outcomes_of}
+use Rattle.nf_bodies.specs.declared.body.NodeInfo.{NodeInfo}
+use Rattle.nf_core.specs.Told.{Ending}
+use Rattle.nf_serial.specs.Serial as serial
+use Rattle.nf_ends.specs.declared.end.End.{End}
+use Rattle.nf_ends.specs.declared.end.End.TheVariants as end
+use Rattle.nf_ends.specs.declared.writes.Output.{Output}
+use Rattle.nf_ends.specs.Summary.{is_start, starts_in}
+use Rattle.nf_ends.specs.Writes.{IsKept, IsWritten, OnSinkFault}
+use Rattle.nf_owed.specs.Run.{Run, by_path, run_of}
+use Rattle.nf_owed.specs.Ended.{meant_by, state_after}
+use Rattle.nf_ran.specs.Ran.{RanPlan, begun_over}
+use Rattle.nf_request.specs.Wishes.{wish_for}
+use Rattle.nf_asked.specs.Request.{Request, refused, formats, accepts, runs, Comes}
+use Rattle.nf_asked.specs.Answers.{IsTextFor}
+use Rattle.nf_carried.specs.declared.work.Work.{Work}
+use Rattle.nf_carried.specs.declared.work.Work.TheVariants as work
+use Rattle.nf_carried.specs.Objects.{CallEnd, Objects, OnWritten}
+use Rattle.nf_carried.specs.Carried as carried
+use Rattle.nf_carried.specs.Carried.{CarriedOut, Closes, with_outcome}
+use Rattle.nf_carried.specs.Table.{GoesWell, OwesRun, SinkRose, Wrote, output_of}
+use Rattle.nf_cli.specs.Scripts.{Script, Sources, IsRunOf}
+use Rattle.nf_cli.specs.Planned.{IsPlanFor}
+use Rattle.nf_cli.specs.Calls.{AsksFor, Call, IsRefused, IsWorkOf, RefusesRun, script_in}
+use Rattle.nf_cli.specs.Main.{CallEnds, Completes, Ends, NothingFailed, Ran, RanNothing, WroteMeaning, wrote, was_refused, ran}
 
--- what holds of the end and of Mem holds of the end after its error line
-same_or_memory : (P : End → Type 0) → P end.Mem → (before after : End) → P before → IsKept before after → P after
-same_or_memory P m before end.Mem h k = m
-same_or_memory P m before end.Ok h k = subst P (sym k) h
-same_or_memory P m before (end.TaskFailed p i n f) h k = subst P (sym k) h
-same_or_memory P m before (end.ItemFault p c) h k = subst P (sym k) h
-same_or_memory P m before (end.Usage f) h k = subst P (sym k) h
-same_or_memory P m before end.NoScript h k = subst P (sym k) h
-same_or_memory P m before (end.Lex p) h k = subst P (sym k) h
-same_or_memory P m before (end.Parse p) h k = subst P (sym k) h
-same_or_memory P m before (end.Unbuilt p) h k = subst P (sym k) h
-same_or_memory P m before (end.Order r p) h k = subst P (sym k) h
-same_or_memory P m before end.HostFault h k = subst P (sym k) h
-same_or_memory P m before end.LaneFault h k = subst P (sym k) h
-same_or_memory P m before end.SinkFault h k = subst P (sym k) h
+-- ---- how often the first lane ran
 
--- what holds of Ok and SinkFault holds of every end that wrote an output
-written : (P : End → Type 0) → P end.Ok → P end.SinkFault → (e : End) → IsWritten e → P e
-written P a b end.Ok w = a
-written P a b end.SinkFault w = b
-written P a b (end.TaskFailed p i n f) w = absurd w
-written P a b (end.ItemFault p c) w = absurd w
-written P a b (end.Usage u) w = absurd w
-written P a b end.NoScript w = absurd w
-written P a b (end.Lex p) w = absurd w
-written P a b (end.Parse p) w = absurd w
-written P a b (end.Unbuilt p) w = absurd w
-written P a b (end.Order r p) w = absurd w
-written P a b end.HostFault w = absurd w
-written P a b end.LaneFault w = absurd w
-written P a b end.Mem w = absurd w
+same_start : (v : Event) → serial.is_start v ≡ is_start v
+same_start (e.Start t cause) = refl
+same_start _ = refl
 
--- ---- each end has its cause
+same_starts : (h : List Event) → count_by serial.is_start h ≡ starts_in h
+same_starts h = ap (λ (p : Event → Bool). count_by p h) (λ i v. same_start v i)
 
--- an outcome with an output may end by writing it
-due_may : (outcome : Outcome) (h : List Event) (o : Output) (e : End) → IsDue outcome h o → IsWritten e → MayEnd outcome h e
-due_may (runs form) h o e due k = written (RunEnds form h) due.well due.well e k
-due_may (formats tree) h o e due k = written (MayEnd (formats tree) h) tt tt e k
-due_may accepts h o e due k = written (MayEnd accepts h) tt tt e k
-due_may (disordered q) h o e due k = absurd due
-due_may (misused f) h o e due k = absurd due
-due_may absent h o e due k = absurd due
-due_may (unlexed f) h o e due k = absurd due
-due_may (unparsed f) h o e due k = absurd due
-due_may (unbuilt p) h o e due k = absurd due
+module _ (x : Call) (failed : Type 0) (before : Objects) {D S : Type 0} (done : Rules → D → Ending → Type 0) (seen : S → Ending → Type 0) (y : CallEnd D S) where
+  idle_runs : RanNothing before y → y.after.hands.lane.runs ≡ before.hands.lane.runs + starts_in y.history
+  idle_runs k =
+      let same : y.after.hands.lane.runs ≡ before.hands.lane.runs = ap (λ z. z.lane.runs) k.hands in
+      let none : starts_in y.history ≡ 0 = ap starts_in k.history in
+      omega (arith, same, none)
 
-ended : (env : Env) (words : List (List ℕ)) (files : Files) (h : List Event) (r : Result Output End) (e : End) → WorkGives env words files h r → EndsAs r e → Ended env words files h e
-ended env words files h (Ok o) e g k = as_due g.0 g.1 (due_may g.0 h o e g.2 k)
-ended env words files h (Err before) e g k = same_or_memory (Ended env words files h) no_memory before e g k
+  ran_runs : Ran x before done seen y → y.after.hands.lane.runs ≡ before.hands.lane.runs + starts_in y.history
+  ran_runs r =
+      let goes = r.ran.goes in
+      let is : starts_in y.history ≡ starts_in goes.events = ap starts_in goes.history in
+      let same : count_by serial.is_start goes.events ≡ starts_in goes.events = same_starts goes.events in
+      let due : y.after.hands.lane.runs ≡ before.hands.lane.runs + count_by serial.is_start goes.events = goes.runs in
+      omega (arith, is, same, due)
 
--- ---- each cause has its end
+  pub first_ran : Ends x failed before done seen y → y.after.hands.lane.runs ≡ before.hands.lane.runs + starts_in y.history
+  first_ran (wrote text w k c) = idle_runs k
+  first_ran (was_refused f w k c) = idle_runs k
+  first_ran (ran r) = ran_runs r
 
--- memory may end any call
-memory_may : (o : Outcome) (h : List Event) → MayEnd o h end.Mem
-memory_may (runs form) h = tt
-memory_may (formats tree) h = tt
-memory_may accepts h = tt
-memory_may (disordered q) h = tt
-memory_may (misused due) h = tt
-memory_may absent h = tt
-memory_may (unlexed due) h = tt
-memory_may (unparsed due) h = tt
-memory_may (unbuilt due) h = tt
+  pub first_told : Ends x failed before done seen y → y.after.hands.lane.world ≡ before.hands.lane.world
+  first_told (wrote text w k c) = ap (λ z. z.lane.world) k.hands
+  first_told (was_refused f w k c) = ap (λ z. z.lane.world) k.hands
+  first_told (ran r) = r.ran.world
 
--- a failed host may end a call with a right command line, before anything is run
-host_may : (env : Env) (words : List (List ℕ)) (files : Files) (h : List Event) (command : Command) → command_of words ≡ Ok command → h ≡ [] → (o : Outcome) → Means env words files o → MayEnd o h end.HostFault
-host_may env words files h command right nothing (runs form) means = nothing
-host_may env words files h command right nothing (formats tree) means = tt
-host_may env words files h command right nothing accepts means = tt
-host_may env words files h command right nothing (disordered q) means = tt
-host_may env words files h command right nothing (misused due) means = absurd (let e : ◌≡◌ {A = Result Command UsageFault} (Ok command) (Err due) = sym right ∙ means in cc)
-host_may env words files h command right nothing absent means = tt
-host_may env words files h command right nothing (unlexed due) means = tt
-host_may env words files h command right nothing (unparsed due) means = tt
-host_may env words files h command right nothing (unbuilt due) means = tt
+  -- ---- how it ends
 
-complete : (env : Env) (words : List (List ℕ)) (files : Files) (h : List Event) (e : End) → Ended env words files h e → (o : Outcome) → Means env words files o → MayEnd o h e
-complete env words files h e (as_due due is may) o means = subst (λ o. MayEnd o h e) (sym (is.only o means)) may
-complete env words files h e (host_failed command right nothing) o means = host_may env words files h command right nothing o means
-complete env words files h e no_memory o means = memory_may o h
+  nothing : (outcome : Result Output End) → carried.RanNothing before.hands (with_outcome outcome y) → RanNothing before y
+  nothing outcome k = record {
+    history = k.history;
+    dones = k.dones;
+    seens = k.seens;
+    hands = λ i. record { keeper = k.keeper i; lane = k.lane i };
+  }
 
--- ---- a stopped history ends the call
+  headline : (s : Script) {told : _} (sources : Sources s told) (run : Run) → IsRunOf s sources run → OwesRun run before y → WroteMeaning s sources run before y
+  headline s sources run means owes = record {
+    meaning = meant_by run y.history;
+    is = means (by_path run (outcomes_of (state_after run y.history)));
+    wrote = λ ok. subst (λ (f : End). OnWritten before.sink y.after.sink (Wrote (output_of run y.history) (SinkRose before y.after) f)) ok owes.wrote;
+  }
 
-run_stops : (form : Form) (h : List Event) (e : End) → RunEnds form h e → StopEnds (state_after form h).stop e
-run_stops form h end.Ok w = subst (λ s. StopEnds s end.Ok) (sym w.ended.goes_on) tt
-run_stops form h end.SinkFault w = subst (λ s. StopEnds s end.SinkFault) (sym w.ended.goes_on) tt
-run_stops form h (end.TaskFailed p i n f) w = subst (λ s. StopEnds s (end.TaskFailed p i n f)) (sym w.stop) (refl, refl, refl)
-run_stops form h (end.ItemFault p (Eval item f)) w = subst (λ s. StopEnds s (end.ItemFault p (Eval item f))) (sym w.0.goes_on) tt
-run_stops form h end.LaneFault w = subst (λ s. StopEnds s end.LaneFault) (sym w) tt
-run_stops form h end.HostFault w = subst (λ h. StopEnds (state_after form h).stop end.HostFault) (sym w) tt
-run_stops form h end.Mem w = tt
-run_stops form h (end.Usage u) w = absurd w
-run_stops form h end.NoScript w = absurd w
-run_stops form h (end.Lex p) w = absurd w
-run_stops form h (end.Parse p) w = absurd w
-run_stops form h (end.Unbuilt p) w = absurd w
-run_stops form h (end.Order r p) w = absurd w
-
-stopped : (o : Outcome) (h : List Event) (e : End) → MayEnd o h e → EndsByStop o h e
-stopped (runs form) h e may = run_stops form h e may
-stopped (formats tree) h e may = tt
-stopped accepts h e may = tt
-stopped (disordered q) h e may = tt
-stopped (misused due) h e may = tt
-stopped absent h e may = tt
-stopped (unlexed due) h e may = tt
-stopped (unparsed due) h e may = tt
-stopped (unbuilt due) h e may = tt
-
--- ---- outside faults
-
-pub host_fault : (r : Result Output End) (e : End) (rose : Type 0) → IfErr r (λ e. OnHostFault e rose) → EndsAs r e → OnHostFault e rose
-host_fault (Ok o) e rose h k = written (λ e. OnHostFault e rose) tt tt e k
-host_fault (Err before) e rose h k = same_or_memory (λ e. OnHostFault e rose) tt before e h k
-
-pub lane_fault : (r : Result Output End) (e : End) (rose : Type 0) → IfErr r (λ e. OnLaneFault e rose) → EndsAs r e → OnLaneFault e rose
-lane_fault (Ok o) e rose h k = written (λ e. OnLaneFault e rose) tt tt e k
-lane_fault (Err before) e rose h k = same_or_memory (λ e. OnLaneFault e rose) tt before e h k
-
--- ---- what was written
-
-no_output : (e : End) (P : Type 0) → IsRefusal e → OnOutput e P
-no_output end.Ok P h = absurd h
-no_output end.SinkFault P h = absurd h
-no_output (end.TaskFailed p i n f) P h = tt
-no_output (end.ItemFault p c) P h = tt
-no_output (end.Usage u) P h = tt
-no_output end.NoScript P h = tt
-no_output (end.Lex p) P h = tt
-no_output (end.Parse p) P h = tt
-no_output (end.Unbuilt p) P h = tt
-no_output (end.Order r p) P h = tt
-no_output end.HostFault P h = tt
-no_output end.LaneFault P h = tt
-no_output end.Mem P h = tt
-
-on_output : (e : End) (P : Type 0) → P → OnOutput e P
-on_output end.Ok P h = h
-on_output end.SinkFault P h = h
-on_output (end.TaskFailed p i n f) P h = tt
-on_output (end.ItemFault p c) P h = tt
-on_output (end.Usage u) P h = tt
-on_output end.NoScript P h = tt
-on_output (end.Lex p) P h = tt
-on_output (end.Parse p) P h = tt
-on_output (end.Unbuilt p) P h = tt
-on_output (end.Order r p) P h = tt
-on_output end.HostFault P h = tt
-on_output end.LaneFault P h = tt
-on_output end.Mem P h = tt
-
--- what the sink took of this output, if it reveals its bytes
-abbrev pub Took : Option (List ℕ) → Option (List ℕ) → Result Output End → End → Type 0
-Took old new r e = IfOk r (λ o. IfSome old (λ before. IfSome new (λ after. WroteOutput e (output_text o) before after)))
-
-due_written : (outcome : Outcome) (h : List Event) (o : Output) (e : End) (before after : List ℕ) → IsDue outcome h o → WroteOutput e (output_text o) before after → WroteDue outcome h e before after
-due_written (runs form) h o e before after due w = subst (λ output. WroteOutput e output before after) due.output w
-due_written (formats tree) h o e before after due w = subst (λ output. WroteOutput e output before after) due w
-due_written accepts h o e before after due w = subst (λ output. WroteOutput e output before after) due w
-due_written (disordered q) h o e before after due w = absurd due
-due_written (misused f) h o e before after due w = absurd due
-due_written absent h o e before after due w = absurd due
-due_written (unlexed f) h o e before after due w = absurd due
-due_written (unparsed f) h o e before after due w = absurd due
-due_written (unbuilt p) h o e before after due w = absurd due
-
-output : (env : Env) (words : List (List ℕ)) (files : Files) (h : List Event) (old new : Option (List ℕ)) (r : Result Output End) (e : End) → WorkGives env words files h r → IfErr r IsRefusal → EndsAs r e → Took old new r e → OutputStands env words files h old new e
-output env words files h None new r e g early k w = tt
-output env words files h (Some before) None r e g early k w = tt
-output env words files h (Some before) (Some after) (Ok o) e g early k w =
-    on_output e (WroteOutcome env words files h e before after) (record { outcome = g.0; of_words = g.1; output = due_written g.0 h o e before after g.2 w })
-output env words files h (Some before) (Some after) (Err first) e g early k w =
-    same_or_memory (λ last. OnOutput last (WroteOutcome env words files h e before after)) tt first e (no_output first (WroteOutcome env words files h e before after) early) k
-
--- ---- the whole call
-
-module _ {L D : Type 0} (Genuine : D → Type 0) (job_of : D → List ℕ) (report_by : D → Report) (run_count : L → ℕ) (world : L → Option World) where
-  all_over : (env : Env) (words : List (List ℕ)) (f : Files) (h : List Event) (kept : List D) (lanes_old lanes_new : List L) (old new : Option (List ℕ)) (r : Result Output End) (e : End)
-      → HasWorked env Genuine job_of report_by run_count world words f h kept lanes_old lanes_new r → IfErr r IsRefusal → EndsAs r e → Took old new r e
-      → EndsOver env Genuine job_of report_by run_count world words f h kept lanes_old lanes_new old new e
-  all_over env words f h kept lanes_old lanes_new old new r e has early k w =
-      let end_is = ended env words f h r e has.gives k in
+  ran_script : (plan : _) (resume : Bool) (asks : AsksFor x) (it : IsPlanFor (script_in x asks) x.files plan) → resume ≡ (wish_for asks.command).resume
+      → CarriedOut x.program (work.Run plan resume) before done seen y → Ran x before done seen y
+  ran_script plan resume asks it same k =
+      let P : List Node → List NodeInfo → Bool → Type 0 =
+      λ graph infos again. RanPlan (begun_over x.program graph infos again before.hands.keeper before.hands.lane) done seen (with_outcome k.outcome y) in
+      let owes = k.owes it.made it.is_made in
       record {
-        ended = end_is;
-        complete = complete env words f h e end_is;
-        ran = has.ran;
-        stopped = λ o means. stopped o h e (complete env words f h e end_is o means);
-        output = output env words f h old new r e has.gives early k w;
+        asks = asks;
+        sources = it.sources;
+        plan = it.made;
+        is_plan = it.is_made.is_plan;
+        means = it.means;
+        outcome = k.outcome;
+        ran = subst (P it.made.nodes.items it.made.infos.items) same
+            (subst (λ (infos : List NodeInfo). P it.made.nodes.items infos resume) it.is_made.infos_are
+            (subst (λ (graph : List Node). P graph plan.infos.items resume) it.is_made.graph_is k.did));
+        closed = k.closed;
+        owes = owes;
+        headline = headline (script_in x asks) it.sources (run_of x.program it.made) it.means owes;
       }
 
-  pub over : (titles : List (List ℕ)) (answer : ℕ → List Plain → Option Plain) (told : Option Files) (words : List (List ℕ)) (h : List Event) (kept : List D) (lanes_old lanes_new : List L) (old new : Option (List ℕ)) (r : Result Output End) (e : End)
-      → ((f : Files) × Tells told f × OverBuilt titles answer (λ env. HasWorked env Genuine job_of report_by run_count world words f h kept lanes_old lanes_new r)) → IfErr r IsRefusal → EndsAs r e → Took old new r e
-      → (f : Files) × Tells told f × OverBuilt titles answer (λ env. EndsOver env Genuine job_of report_by run_count world words f h kept lanes_old lanes_new old new e)
-  over titles answer told words h kept lanes_old lanes_new old new r e worked early k w =
-      let f = worked.0 in (
-        f,
-        worked.1,
-        over_same titles answer (λ env. HasWorked env Genuine job_of report_by run_count world words f h kept lanes_old lanes_new r) (λ env. EndsOver env Genuine job_of report_by run_count world words f h kept lanes_old lanes_new old new e)
-            (λ ps has. all_over (bare titles answer ps) words f h kept lanes_old lanes_new old new r e has early k w) worked.2,
-      )
+  pub ends_of : (w : Work) → IsWorkOf x failed w → CarriedOut x.program w before done seen y → Ends x failed before done seen y
+  ends_of (work.Write text) h k =
+      wrote text h (nothing k.outcome k.did.1) (subst (λ (r : Result Output End). Closes r before.sink y.after.sink y.end) k.did.0 k.closed)
+  ends_of (work.Refuse f) h k =
+      was_refused f h (nothing k.outcome k.did.1) (subst (λ (r : Result Output End). Closes r before.sink y.after.sink y.end) k.did.0 k.closed)
+  ends_of (work.Run plan resume) h k = ran (ran_script plan resume h.0 h.1 h.2 k)
+
+  -- ---- no call is refused without need
+
+  written_well : (f : End) → IsWritten f → OnSinkFault f (SinkRose before y.after) → (SinkRose before y.after → ⊥) → GoesWell f
+  written_well end.Ok w blamed none = tt
+  written_well end.SinkFault w blamed none = absurd (none blamed)
+  written_well f w blamed none = absurd w
+
+  text_completes : (text : List ℕ) (q : Request) → IsTextFor text q → GoesWell y.end → Completes x before done seen y q
+  text_completes text (formats t) is well = well
+  text_completes text accepts is well = well
+  text_completes text (refused f) is well = absurd is
+  text_completes text (runs c t ps) is well = absurd is
+
+  -- without memory any command line may end so
+  memory_completes : (q : Request) → y.end ≡ end.Mem → Completes x before done seen y q
+  memory_completes (formats t) m = subst GoesWell (sym m) tt
+  memory_completes accepts m = subst GoesWell (sym m) tt
+  memory_completes (refused f) m = inr m
+  memory_completes (runs c t ps) m = inr (inr m)
+
+  -- the end of a refusal stays, or memory ran out
+  is_kept : (f g : End) → IsKept f g → (g ≡ f) ⊎ (g ≡ end.Mem)
+  is_kept f end.Mem k = inr refl
+  is_kept f g k = inl k
+
+  refusal_completes : (f : End) → IsRefused x failed f → (failed → ⊥) → (y.end ≡ f) → (q : Request) → Comes x.line q → Completes x before done seen y q
+  refusal_completes end.HostFault r none is q comes = absurd (none r)
+  refusal_completes end.Mem r none is q comes = memory_completes q is
+  refusal_completes f (inl only) none is q comes = subst (Completes x before done seen y) (sym (only.only q comes)) (inl is)
+  refusal_completes f (inr run) none is q comes =
+      subst (Completes x before done seen y) (sym (run.asks.only.only q comes)) (inl (subst (RefusesRun x) (sym is) run))
+
+  kept_completes : (f : End) → IsRefused x failed f → (failed → ⊥) → ((y.end ≡ f) ⊎ (y.end ≡ end.Mem)) → (q : Request) → Comes x.line q → Completes x before done seen y q
+  kept_completes f r none (inl is) q comes = refusal_completes f r none is q comes
+  kept_completes f r none (inr m) q comes = memory_completes q m
+
+  completes : Ends x failed before done seen y → NothingFailed failed before y.after → (q : Request) → Comes x.line q → Completes x before done seen y q
+  completes (wrote text w k c) none q comes =
+      subst (Completes x before done seen y) (sym (w.is.only q comes)) (text_completes text w.request w.text_is (written_well y.end c.ends c.blamed none.others.sink))
+  completes (was_refused f r k c) none q comes = kept_completes f r none.host (is_kept f y.end c.ends) q comes
+  completes (ran r) none q comes = subst (Completes x before done seen y) (sym (r.asks.only.only q comes)) (inr (inl r))
+
+  pub call_ends : (w : Work) → IsWorkOf x failed w → CarriedOut x.program w before done seen y → CallEnds x failed before done seen y
+  call_ends w h k = record { ends = ends_of w h k; complete = completes (ends_of w h k) }

@@ -1,7 +1,8 @@
-pub mod Patterned
-pub mod Writing
-pub mod Outcomes
-pub mod Runs
-pub mod Ending
-pub mod Untold
+pub mod Alike
+pub mod Requests
+pub mod Lowering
+pub mod Planning
 pub mod Working
+pub mod Lanes
+pub mod Ending
+pub mod Rooms

@@ -1,8 +1,4 @@
-pub mod Ends
-pub mod Outcome
-pub mod Report
-pub mod Form
-pub mod Means
-pub mod Due
-pub mod Work
-pub mod Reads
+pub mod Scripts
+pub mod Planned
+pub mod Calls
+pub mod Main

@@ -1,100 +1,153 @@
 //! `nf_main`, the whole program over the traits of what lies outside it.
 
-ghost use Rattle.std.specs.Prelude.{◌≡◌, ℕ, ◌+◌, ◌<◌, ◌≤◌, ◌^◌, ◌↔◌, All, IsSome, IfSome, length, map, sum_by, string_bytes};
+ghost use Rattle.std.specs.Prelude.{◌≡◌, ◌⊎◌, ◌+◌, ◌<◌, ◌≤◌, ◌^◌, All, length, map, string_bytes};
+ghost use Rattle.std.specs.List.{sum_by};
+ghost use Rattle.nf_ast.specs.Tops.{view_script};
+ghost use Rattle.nf_core.specs.Told.{IsDoneOf, IsSeenOf};
 ghost use Rattle.nf_host.specs.Faults.{Rose};
-ghost use Rattle.nf_host.specs.Files.{Files};
-ghost use Rattle.nf_chain.specs.Machine.{starts};
-ghost use Rattle.nf_run.specs.Run.{NoneFell, OneRose};
-ghost use Rattle.nf_forms.specs.Values.{OverBuilt};
-ghost use Rattle.nf_cli.specs.Ends.{status_of};
-ghost use Rattle.nf_cli.specs.Due.{EndsOver, OnHostFault, OnLaneFault, OnSinkFault, RunsNothing, Tells, WroteLine};
+ghost use Rattle.nf_serial.specs.Serial.{lane_now};
+ghost use Rattle.nf_tasks.specs.Memory.{Program, program};
+ghost use Rattle.nf_meaning.specs.CallPaths.{NamesArePlain};
+ghost use Rattle.nf_meaning.specs.Script.{definitions_of};
+ghost use Rattle.nf_asked.specs.CommandLine.{CommandLine, IsOver};
+ghost use Rattle.nf_ends.specs.Ends.{status_of};
+ghost use Rattle.nf_ends.specs.declared.end.End.TheVariants as end;
+ghost use Rattle.nf_ends.specs.Summary.{starts_in};
+ghost use Rattle.nf_ran.specs.Ran.{IsPlanned, keeper_now};
+ghost use Rattle.nf_carried.specs.Carried.{IsDoable};
+ghost use Rattle.nf_carried.specs.Objects.{first_of, hands, objects, sink_now};
+ghost use Rattle.nf_carried.specs.declared.work.Work.TheVariants as work;
+ghost use Rattle.nf_cli.specs.Calls.{HasPlainNames, IsRunWork, IsWorkAsked, IsWorkOf, call_of};
+ghost use Rattle.nf_cli.specs.Main.{CallEnds};
+ghost use Rattle.nf_cli.specs.Planned.{script_of};
 
-use crate::ends::NfEnd;
-use crate::works::{Work, work_of_words};
-use crate::writes::write;
+use crate::plans::planned;
+use nf_asked::{Asked, AskedRun, asked};
 use nf_builtins::Natives;
+use nf_carried::{Work, carry_out};
+use nf_ends::{End, NfEnd};
 use nf_host::{Host, Sink};
+use nf_keeper::Keeper;
 use nf_lane::Lane;
+use nf_plan::Plan;
+use nf_ran::publishes_nothing;
+use nf_spelled::laws::names_are_plain;
 use std::alloc::Global;
 
 /// How many lanes `nf_main` takes (own).
 pub const LANES: usize = 16;
 
-/// Does what a command line asks for. `words` are those after the program's name.
+/// Does what a command line asks for (Nextflow documentation, "Command line", `run`; `fmt`, `check` and `gen` are own). `words` are
+/// those after the program's name.
 ///
-/// `run FILE` reads the script by the host, runs its tasks on the lanes, and writes the report and a summary line to the
-/// sink, or one error line. There are 16 lanes, and all are given back. The tasks run on the first one, one after another
-/// in the order of the items.
+/// `run FILE` reads the script and its parameters, finds and stores the files of its sources, lowers it, runs its tasks on the
+/// first of the 16 lanes, and writes the report and the line after it to the sink, or one error line. `gen N START` does so with
+/// a script that it makes. `fmt FILE` writes the script's canonical text, `check FILE` the line `accepted`, or the error line of the
+/// first order rule that the script breaks; both run nothing. All lanes and the keeper are given back.
 ///
-/// `fmt FILE` runs nothing. It writes the script's canonical text in one write, and nothing if that text is empty. It takes
-/// every script of the language, also those that `run` doesn't support.
-///
-/// `check FILE` runs nothing either. It writes the line `accepted` if the script breaks no order rule, and else the error line of
-/// the first rule that it breaks. It takes every script of the language.
-///
-/// `natives` are the functions that the program adds to the language. A script's expressions find these and no other names.
-///
-/// If the host reveals its files, the contract is about those; otherwise about some files. It speaks of some set of patterns
-/// that the grammar of `regex` reads: no contract says which of them `regex` refuses for their size. Written bytes are
-/// described if the sink reveals them, and the tasks' reports if the lane reveals its world. Any call may end by `End::Mem`;
-/// then it wrote nothing.
-pub fn nf_main<H: Host, N: Natives, L: Lane, O: Sink>(
+/// `natives` are the functions that the program adds to the language. What is said of a script's files and of written bytes is
+/// said over a host and a sink that reveal them. Any call may end by `End::Mem`; it wrote nothing then.
+pub fn nf_main<H: Host, K: Keeper, L: Lane, N: Natives, O: Sink>(
     alloc: Global,
     words: &[String],
     host: &mut H,
-    natives: &N,
+    keeper: K,
     lanes: Vec<L>,
+    natives: &N,
     out: &mut O,
-) -> NfEnd<L>
+) -> NfEnd<L, K>
     requires natives { N.keeps natives.now }
-    requires lanes { length lanes.items ≡ 16 }
+    requires count { length lanes.items ≡ 16 }
     requires room { All (λ l. L.runs l < 2 ^ 62) lanes.items }
-
-    // The status is the end's.
     ensures status { result.status ≡ status_of result.end }
-
-    // For the host's files and some patterns that the grammar of `regex` reads (`EndsOver`):
-    // - The end follows from the command line, the files and the history. Each end has its cause, and each cause its end,
-    //   unless the host failed or memory ran out.
-    // - The history is lawful. Each Start is one run of a lane; each Finish has a job of its own that was run, and its report.
-    // - If the history stops, the call ends by that stop.
-    // - What was written is the report of what the script means under the history's outcomes, and the count of its Start
-    //   events; or, for `fmt`, the canonical text of the tree that the script's tokens spell; or, for `check`, `accepted`.
-    ensures over { (f : Files) × Tells (H.files host.old) f × OverBuilt (N.titles natives.now) (N.answer natives.now) (λ env. EndsOver env L.Done.genuine L.Done.job L.Done.told L.runs L.world (map string_bytes words.now) f result.history.items result.kept.dones.items lanes.items result.lanes.items (O.written out.old) (O.written out.new) result.end) }
-    // Every end but Ok, SinkFault and Mem writes its error line, or the front of it if the sink failed. Mem writes nothing.
-    ensures line { IfSome (O.written out.old) (λ before. IfSome (O.written out.new) (λ after. WroteLine result.end (Rose (O.faults out.old) (O.faults out.new)) before after)) }
-
-    // `fmt` and `check` run nothing: no event, no job, and the lanes are unchanged.
-    ensures idle { RunsNothing (map string_bytes words.now) result.history.items result.kept.dones.items lanes.items result.lanes.items }
-
-    // The lanes ran once for each Start, and reveal what they revealed before.
-    ensures runs { sum_by L.runs result.lanes.items ≡ sum_by L.runs lanes.items + starts result.history.items }
+    // The lanes ran once for each Start, and tell the worlds that they told.
+    ensures runs { sum_by L.runs result.lanes.items ≡ sum_by L.runs lanes.items + starts_in result.history.items }
     ensures worlds { map L.world result.lanes.items ≡ map L.world lanes.items }
-
-    // An end that blames the host, a lane or the sink has a fault counted there. No count falls.
-    ensures host_fault { OnHostFault result.end (Rose (H.faults host.old) (H.faults host.new)) }
-    ensures lane_fault { OnLaneFault result.end (OneRose L.faults lanes.items result.lanes.items) }
-    ensures sink_fault { OnSinkFault result.end (Rose (O.faults out.old) (O.faults out.new)) }
+    // The host's count of failures never falls, and it starts no child.
     ensures host_later { H.faults host.old ≤ H.faults host.new }
-    ensures lanes_later { NoneFell L.faults lanes.items result.lanes.items }
-    ensures sink_later { O.faults out.old ≤ O.faults out.new }
-
-    // The host's files are unchanged. The sink reveals its bytes exactly if it did before.
-    ensures files { H.files host.new ≡ H.files host.old }
-    ensures told { IsSome (O.written out.new) ↔ IsSome (O.written out.old) }
+    ensures no_start { H.started host.new ≡ H.started host.old }
+    // Whatever the words and files come to, the call ends so (`CallEnds`): a text was written, the call was refused for its one
+    // cause, or a script was run. Then its history is lawful, its end is owed by what the script means under the outcomes
+    // that the history tells, and after Ok the report of that meaning was written. No call is refused without need.
+    ensures ends { (line : CommandLine) × IsOver (map string_bytes words.now) (H.files host.old) line
+        × CallEnds (call_of (H.files host.old) (program (N.titles natives.now) (N.answer natives.now)) line)
+        (Rose (H.faults host.old) (H.faults host.new))
+        (objects (hands (keeper_now (K.held keeper) (K.faults keeper))
+        (first_of (λ l. lane_now (L.runs l) (L.faults l) (L.world l) (L.store l)) lanes.items))
+        (sink_now (O.written out.old) (O.faults out.old)))
+        (IsDoneOf L.Done.genuine L.Done.job L.Done.told) (IsSeenOf L.Seen.genuine L.Seen.told)
+        (record {
+          end = result.end;
+          history = result.history.items;
+          dones = result.kept.dones.items;
+          seens = result.kept.seens.items;
+          after = objects (hands (keeper_now (K.held result.keeper) (K.faults result.keeper))
+              (first_of (λ l. lane_now (L.runs l) (L.faults l) (L.world l) (L.store l)) result.lanes.items))
+              (sink_now (O.written out.new) (O.faults out.new));
+        }) }
 {
-    let mut lanes = lanes;
-    let Work {
-        history,
-        kept,
-        outcome,
-    } = work_of_words(alloc, words, host, natives, &mut lanes);
-    let end = write(alloc, out, outcome);
-    NfEnd {
-        status: end.status(),
-        end,
-        history,
-        kept,
-        lanes,
+    let work = work_of(alloc, words, host, natives);
+    carry_out(alloc, work, keeper, lanes, natives, out)
+}
+
+/// What a command line asks to be done.
+fn work_of<H: Host, N: Natives>(alloc: Global, words: &[String], host: &mut H, natives: &N) -> Work
+    requires natives { N.keeps natives.now }
+    ensures later { H.faults host.old ≤ H.faults host.new }
+    ensures no_start { H.started host.new ≡ H.started host.old }
+    ensures doable { IsDoable (program (N.titles natives.now) (N.answer natives.now)) result }
+    ensures work { (line : CommandLine) × IsOver (map string_bytes words.now) (H.files host.old) line
+        × IsWorkOf (call_of (H.files host.old) (program (N.titles natives.now) (N.answer natives.now)) line)
+        (Rose (H.faults host.old) (H.faults host.new)) result }
+{
+    names_are_plain();
+    match asked(alloc, words, host) {
+        Ok(asked) => work_asked(alloc, host, asked, natives),
+        Err(end) => Work::Refuse(end),
+    }
+}
+
+/// The same, once it is known what is asked for.
+fn work_asked<H: Host, N: Natives>(alloc: Global, host: &mut H, asked: Asked, natives: &N) -> Work
+    requires natives { N.keeps natives.now }
+    requires names { HasPlainNames asked }
+    ensures later { H.faults host.old ≤ H.faults host.new }
+    ensures no_start { H.started host.new ≡ H.started host.old }
+    ensures doable { IsDoable (program (N.titles natives.now) (N.answer natives.now)) result }
+    ensures work { IsWorkAsked (program (N.titles natives.now) (N.answer natives.now)) (H.files host.old)
+        (Rose (H.faults host.old) (H.faults host.new)) asked result }
+{
+    match asked {
+        Asked::Write(text) => Work::Write(text),
+        Asked::Run(run) => run_work(alloc, host, &run, natives),
+    }
+}
+
+/// What is done of a script that is asked to be run: its plan is run, or the call is refused.
+fn run_work<H: Host, N: Natives>(alloc: Global, host: &mut H, run: &AskedRun, natives: &N) -> Work
+    requires natives { N.keeps natives.now }
+    requires names { NamesArePlain (definitions_of (view_script run.now.script)) }
+    ensures later { H.faults host.old ≤ H.faults host.new }
+    ensures no_start { H.started host.new ≡ H.started host.old }
+    ensures doable { IsDoable (program (N.titles natives.now) (N.answer natives.now)) result }
+    ensures work { IsRunWork (script_of (program (N.titles natives.now) (N.answer natives.now)) run.now)
+        (H.files host.old) (Rose (H.faults host.old) (H.faults host.new)) run.now.resume result }
+{
+    match planned(alloc, host, run, natives) {
+        Ok(plan) => work_of_plan(plan, run.resume),
+        Err(end) => Work::Refuse(end),
+    }
+}
+
+/// A plan is run that publishes nothing. A script that publishes is refused before, as one that isn't run yet.
+fn work_of_plan(plan: Plan, resume: bool) -> Work
+    requires { IsPlanned plan.graph plan.infos.items }
+    ensures doable { (n : Program) → IsDoable n result }
+    ensures work { (result ≡ work.Run plan resume) ⊎ (result ≡ work.Refuse end.Mem) }
+{
+    if publishes_nothing(plan.infos.as_slice()) {
+        Work::Run { plan, resume }
+    } else {
+        Work::Refuse(End::Mem)
     }
 }

@@ -1,5 +1,5 @@
-//! The tasks of any process: what each attempt runs, and what its report amounts to. (`nf_process` does this for the processes of one input
-//! that scripts may have so far; it stays until whole scripts are run.)
+//! The tasks of any process: what each attempt runs, what its report amounts to,
+//! and which files are published of it.
 #![tactic(auto)]
 
 mod clash;

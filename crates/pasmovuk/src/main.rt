@@ -1,28 +1,43 @@
-//! The program: calls `nf_main` with the command line, the system's files, child processes and standard output.
+//! The program: calls `nf_main` with the command line, the system's files, shells as lanes, a folder of records and standard output.
 #![tactic(auto)]
+
+mod failed;
 
 ghost use Rattle.std.specs.Prelude.{◌≡◌, ◌<◌, ◌^◌, All, IfOk, length};
 ghost use Rattle.nf_builtins.specs.Natives.{AnswersNative, program_answer};
-ghost use Rattle.nf_lane.specs.ChildLane.{runs_of};
+ghost use Rattle.nf_shell.specs.ShellLane.{runs_of};
 
+use crate::failed::explain;
 use nf_builtins::{CallFault, Natives, ProgramBook, StoredNatives, program_names, program_native};
-use nf_cli::{End, LANES, NfEnd, nf_main};
+use nf_cli::{LANES, nf_main};
+use nf_command::{Command, read_words};
+use nf_ends::End;
 use nf_host::{FsHost, Host, Sink, StdSink};
-use nf_lane::{ChildLane, Lane};
-use nf_order::OrderRule;
-use nf_value::{Vals, Value};
+use nf_keeper::{FileKeeper, Keeper};
+use nf_kinds::{Broken, OrderRule};
+use nf_lane::Lane;
+use nf_shell::ShellLane;
+use nf_value::{Mem, Txt, Vals, Value};
 use std::alloc::{AllocError, Global};
 use std::process::{ExitCode, Processes};
+use std::rt::Files;
 use std::{env, io};
 
 /// What `--help` prints.
 const HELP: &str = "pasmovuk: runs pipelines written in a subset of Nextflow DSL2
 
-  run FILE     runs the script in FILE and prints its report
-  fmt FILE     prints the script in FILE in its canonical layout
-  check FILE   says whether the script in FILE breaks a rule that keeps results from depending on order
-  --help       prints this
-  --version    prints the program's name and version
+  run FILE       runs the script in FILE and prints its report
+    --NAME VALUE       sets a parameter; --NAME=VALUE does so too
+    -params-file FILE  reads parameters from a JSON file; the command line wins
+    -resume            takes tasks from earlier runs whose records and files are there
+    -work-dir DIR      works in DIR; work without it (-w is the same)
+  fmt FILE       prints the script in FILE in its canonical layout
+  check FILE     says whether the script in FILE breaks a rule that keeps results from depending on order
+  gen N START    runs a script with N items that it makes from the number START
+  --help         prints this
+  --version      prints the program's name and version
+
+  for example: pasmovuk run reads.nf -resume --outdir results
 ";
 
 /// What `--version` prints.
@@ -43,7 +58,13 @@ fn main(rt: HostRuntime) -> ExitCode {
     if let Some(text) = own_text(&words) {
         return ExitCode::from(print(&mut out, text));
     }
-    let Ok(lanes) = lanes(alloc, &rt) else {
+    let Ok(work) = work_folder(alloc, &words) else {
+        return ExitCode::from(NO_MEMORY);
+    };
+    let Ok(lanes) = lanes(alloc, &rt, work.as_str()) else {
+        return ExitCode::from(NO_MEMORY);
+    };
+    let Ok(folder) = records_folder(alloc, work.as_str()) else {
         return ExitCode::from(NO_MEMORY);
     };
     let Ok(names) = program_names(alloc) else {
@@ -56,29 +77,42 @@ fn main(rt: HostRuntime) -> ExitCode {
             ensures { AnswersNative (program_answer id args.entry.now) result }
         { program_native(alloc, id, args) },
     );
+    let keeper = FileKeeper::new(alloc, FsHost::new(&rt), folder);
     let mut host = FsHost::new(&rt);
-    ExitCode::from(status(&rt, alloc, &words, &mut host, &natives, lanes, &mut out))
+    ExitCode::from(status(
+        &rt, alloc, &words, &mut host, keeper, lanes, &natives, &mut out,
+    ))
 }
 
-/// Calls `nf_main`, and gives its exit status. Of a script that isn't accepted, it says on standard error why, and what to write instead.
-fn status<R: Eprint, H: Host, N: Natives, L: Lane + Drop, O: Sink>(
+/// Calls `nf_main`, and gives its exit status. Of a script that isn't accepted, it says on standard error why, and what to write instead; of
+/// a task that failed, where its folder is and what it wrote to standard error last.
+fn status<R: Eprint, H: Host, K: Keeper + Drop, L: Lane + Drop, N: Natives, O: Sink>(
     rt: &R,
     alloc: Global,
     words: &[String],
     host: &mut H,
-    natives: &N,
+    keeper: K,
     lanes: Vec<L>,
+    natives: &N,
     out: &mut O,
 ) -> u8
     requires natives { N.keeps natives.now }
     requires count { length lanes.items ≡ 16 }
     requires room { All (λ l. L.runs l < 2 ^ 62) lanes.items }
 {
-    let NfEnd { status, end, .. } = nf_main(alloc, words, host, natives, lanes, out);
-    if let End::Order { rule, .. } = end {
-        let _ = eprintln!(rt; "{}", advice(rule));
+    let ended = nf_main(alloc, words, host, keeper, lanes, natives, out);
+    match &ended.end {
+        End::Order(Broken { rule, .. }) => {
+            let _ = eprintln!(rt; "{}", advice(*rule));
+        }
+        End::TaskFailed { .. } => {
+            if let Ok(work) = work_folder(alloc, words) {
+                explain(rt, alloc, host, work.as_str(), &ended.history, &ended.kept);
+            }
+        }
+        _ => {}
     }
-    status
+    ended.status
 }
 
 /// Why a result can depend on order where a rule is broken, and what to write instead.
@@ -105,16 +139,34 @@ fn advice(rule: OrderRule) -> &'static str {
     }
 }
 
-/// The lanes, each over the system's processes.
-fn lanes<R: Processes + Copy>(alloc: Global, rt: R) -> Result<Vec<ChildLane<R>>, AllocError>
+/// The lanes, each over the system's files and shells, in this work folder.
+fn lanes<R: Files + Processes + Copy + Drop>(
+    alloc: Global,
+    rt: R,
+    work: &str,
+) -> Result<Vec<ShellLane<FsHost<R>>>, Mem>
     ensures count { IfOk result (λ v. length v.items ≡ 16) }
     ensures room { IfOk result (λ v. All (λ l. runs_of l < 2 ^ 62) v.items) }
 {
     let mut lanes = Vec::with_capacity(alloc, LANES)?;
     for _ in 0..LANES {
-        lanes.push(ChildLane::new(rt))?;
+        let work = Txt::of(String::from_str(alloc, work)?);
+        lanes.push(ShellLane::new(alloc, FsHost::new(rt), work))?;
     }
     Ok(lanes)
+}
+
+/// The work folder that the words name; `work` if they name none.
+fn work_folder(alloc: Global, words: &[String]) -> Result<Txt, Mem> {
+    match &read_words(alloc, words) {
+        Ok(Command::Run(run)) => run.work.copy(),
+        Ok(_) | Err(_) => Ok(Txt::of(String::from_str(alloc, "work")?)),
+    }
+}
+
+/// The folder of the records of a work folder.
+fn records_folder(alloc: Global, work: &str) -> Result<Txt, Mem> {
+    Ok(Txt::of(format!(in alloc; "{work}/.cache")?))
 }
 
 /// The words after the program's name. If one of them isn't UTF-8, a single empty word stands for all, which is no command.

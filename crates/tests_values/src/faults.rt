@@ -1,7 +1,7 @@
 //! How want of memory prints.
 
 use nf_bag::OpFault;
-use nf_words::UsageFault;
+use nf_command::UsageFault;
 use std::test::Fail;
 
 #[test]

@@ -1,4 +1,4 @@
-//! Tests of hosts, sinks, lanes and runs: what no program shows. Tables of cases stand in `cases_codes` and `cases_values`.
+//! Tests of hosts, sinks and lanes: what no program shows. Tables of cases stand in `cases_codes` and `cases_values`.
 #![tactic(auto)]
 
 #[cfg(test)]
@@ -9,5 +9,3 @@ mod host;
 mod lane;
 #[cfg(test)]
 mod makers;
-#[cfg(test)]
-mod runs;

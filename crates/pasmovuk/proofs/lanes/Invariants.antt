@@ -1,5 +1,5 @@
 use Rattle.std.proofs.Common.{◌≡◌, ◌<◌, ◌≤◌, ◌^◌, All, length}
-use Rattle.nf_lane.specs.ChildLane.{runs_of}
+use Rattle.nf_shell.specs.ShellLane.{runs_of}
 use Rattle.pasmovuk.proofs.lanes.Given as goal
 
 abbrev pub invariant-loop : goal.invariant-loop

@@ -1,23 +1,41 @@
-use Rattle.std.proofs.Common.{map, string_bytes}
 use Rattle.nf_host.specs.Faults.{Rose}
-use Rattle.nf_run.specs.Run.{OneRose}
-use Rattle.nf_cli.proofs.Ending.{over, host_fault, lane_fault}
+use Rattle.nf_core.specs.Told.{IsDoneOf, IsSeenOf}
+use Rattle.nf_serial.specs.Serial.{LaneNow, lane_now}
+use Rattle.nf_tasks.specs.Memory.{program}
+use Rattle.nf_ends.specs.Summary.{starts_in}
+use Rattle.nf_ran.specs.Ran.{keeper_now}
+use Rattle.nf_carried.specs.Objects.{CallEnd, first_of, hands, objects, sink_now}
+use Rattle.nf_cli.specs.Calls.{call_of}
+use Rattle.nf_cli.proofs.Lanes.{all_ran, all_told}
+use Rattle.nf_cli.proofs.Ending.{call_ends, first_ran, first_told}
 use Rattle.nf_cli.proofs.top.nf_main.Goals as goal
 
-pub returns-clause-over : goal.returns-clause-over
-returns-clause-over g c =
-    let D = g.L.Done.Finished in
-    let l = g.L.Lane in
-    let work = c.work_of_words-history in
-    over D.genuine D.job D.told l.runs l.world (g.N.Natives.titles c.args.natives.now) (g.N.Natives.answer c.args.natives.now) (g.H.Host.files c.args.host.now) (map string_bytes c.args.words.now) work.result.history.items work.result.kept.dones.items c.args.lanes.items work.new.lanes.items
-    (g.O.Sink.written c.args.out.now) (g.O.Sink.written c.write-end.new.out) work.result.outcome c.write-end.result work.ensures.worked work.ensures.refusal c.write-end.ensures.ends c.write-end.ensures.output
+pub returns-clause-ends : goal.returns-clause-ends
+returns-clause-ends g c =
+    let n = program (g.N.Natives.titles c.args.natives.now) (g.N.Natives.answer c.args.natives.now) in
+    let now : g.row.L.Denot → LaneNow = λ l. lane_now (g.L.Lane.runs l) (g.L.Lane.faults l) (g.L.Lane.world l) (g.L.Lane.store l) in
+    let r = c.carry_out.result in
+    let before = objects (hands (keeper_now (g.K.Keeper.held c.args.keeper) (g.K.Keeper.faults c.args.keeper)) (first_of now c.args.lanes.items)) (sink_now (g.O.Sink.written c.args.out.now) (g.O.Sink.faults c.args.out.now)) in
+    let done = IsDoneOf g.L.Done.Finished.genuine g.L.Done.Finished.job g.L.Done.Finished.told in
+    let seen = IsSeenOf g.L.Seen.Present.genuine g.L.Seen.Present.told in
+    let y : CallEnd g.row.L-Done.Denot g.row.L-Seen.Denot = record {
+      end = r.end;
+      history = r.history.items;
+      dones = r.kept.dones.items;
+      seens = r.kept.seens.items;
+      after = objects (hands (keeper_now (g.K.Keeper.held r.keeper) (g.K.Keeper.faults r.keeper)) (first_of now r.lanes.items)) (sink_now (g.O.Sink.written c.carry_out.new.out) (g.O.Sink.faults c.carry_out.new.out));
+    } in
+    let it = c.work_of-work.ensures.work in
+    let x = call_of (g.H.Host.files c.args.host.now) n it.0 in
+    let failed = Rose (g.H.Host.faults c.args.host.now) (g.H.Host.faults c.work_of-work.new.host) in
+    (it.0, it.1, call_ends x failed before done seen y c.work_of-work.result it.2 c.carry_out.ensures.carried)
 
-pub returns-clause-host_fault : goal.returns-clause-host_fault
-returns-clause-host_fault g c =
-    let work = c.work_of_words-history in
-    host_fault work.result.outcome c.write-end.result (Rose (g.H.Host.faults c.args.host.now) (g.H.Host.faults work.new.host)) work.ensures.host_fault c.write-end.ensures.ends
+pub returns-clause-runs : goal.returns-clause-runs
+returns-clause-runs g c =
+    let r = c.carry_out.result in
+    all_ran g.L.Lane.runs g.L.Lane.faults g.L.Lane.world g.L.Lane.store c.args.lanes.items r.lanes.items (starts_in r.history.items) c.requires.count c.carry_out.ensures.idle (first_ran _ _ _ _ _ _ (returns-clause-ends g c).2.ends)
 
-pub returns-clause-lane_fault : goal.returns-clause-lane_fault
-returns-clause-lane_fault g c =
-    let work = c.work_of_words-history in
-    lane_fault work.result.outcome c.write-end.result (OneRose g.L.Lane.faults c.args.lanes.items work.new.lanes.items) work.ensures.lane_fault c.write-end.ensures.ends
+pub returns-clause-worlds : goal.returns-clause-worlds
+returns-clause-worlds g c =
+    let r = c.carry_out.result in
+    all_told g.L.Lane.runs g.L.Lane.faults g.L.Lane.world g.L.Lane.store c.args.lanes.items r.lanes.items c.requires.count c.carry_out.ensures.idle (first_told _ _ _ _ _ _ (returns-clause-ends g c).2.ends)

@@ -1,9 +1,0 @@
-pub mod Parts
-pub mod Firsts
-pub mod Building
-pub mod Each
-pub mod Chaining
-pub mod Lists
-pub mod Labels
-pub mod Patterned
-pub mod Bare

@@ -1,5 +1,0 @@
-use Rattle.nf_process.proofs.Apart.{attempts_apart}
-use Rattle.nf_process.proofs.laws.attempts_are_told_apart.Goals as goal
-
-pub returns : goal.returns
-returns c = attempts_apart c.instances_are_told_apart.ensures

@@ -1,4 +1,0 @@
-pub mod Chains
-pub mod Nothing
-pub mod Tasks
-mod Worked

@@ -1,0 +1,12 @@
+use Rattle.std.proofs.Common.{◌≡◌, ◌≤◌, ◌+◌, length, rules}
+use Rattle.nf_cli.proofs.Rooms.{room_more}
+use Rattle.pasmovuk.proofs.lanes.Goals as goal
+
+pub loop-preserved : goal.loop-preserved
+loop-preserved g c =
+    let longer : length c.push.new.self.items ≡ c.loop.counter + 1 = search rules in
+    let within : c.loop.counter + 1 ≤ 16 = search rules in (
+      longer,
+      within,
+      room_more c.loop.lanes.items c.push.new.self.items c.new-in-loop.result c.in_ok-push.ensures.items c.new-in-loop.ensures.runs c.loop.invariant.2,
+    )

@@ -1,6 +1,0 @@
-use Rattle.std.proofs.Common.{◌≡◌, map, take}
-use Rattle.nf_ast.specs.View.{view_stmt}
-use Rattle.tests_called.proofs.processes.BareFormulas.statements.Given as goal
-
-abbrev pub invariant-loop-stmt : goal.invariant-loop-stmt
-invariant-loop-stmt l = map view_stmt l.copies.items ≡ map view_stmt (take l.stmt-index l.body)
