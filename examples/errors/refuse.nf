@@ -5,7 +5,7 @@ process CHECK {
     output:
     stdout
     script:
-    "test 2 -gt ${limit}; printf 'within %s' ${limit}"
+    "test 2 -gt ${limit} || { echo ${limit} is too large >&2; exit 1; }; printf 'within %s' ${limit}"
 }
 
 workflow {

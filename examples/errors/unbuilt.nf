@@ -1,4 +1,12 @@
-// An operator that isn't run yet.
+// A directive that isn't run yet.
+process KEEP {
+    publishDir 'results'
+    output:
+    path 'x.txt'
+    script:
+    'printf abc > x.txt'
+}
+
 workflow {
-    channel.of(1, 2).filter { it > 1 }.view()
+    KEEP()
 }
