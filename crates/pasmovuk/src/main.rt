@@ -84,8 +84,8 @@ fn main(rt: HostRuntime) -> ExitCode {
     ))
 }
 
-/// Calls `nf_main`, and gives its exit status. Of a script that isn't accepted, it says on standard error why, and what to write instead; of
-/// a task that failed, where its folder is and what it wrote to standard error last.
+/// Calls `nf_main`, and gives its exit status. Of a script that isn't accepted, it says on standard error why, and what to
+/// write instead; of a task that failed, where its folder is and what it wrote to standard error last.
 fn status<R: Eprint, H: Host, K: Keeper + Drop, L: Lane + Drop, N: Natives, O: Sink>(
     rt: &R,
     alloc: Global,
