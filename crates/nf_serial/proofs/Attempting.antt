@@ -91,16 +91,16 @@ later_ran l = record { faults = l.faults; world = l.world; store = l.store }
 
 -- the lane was asked, and then the run went on without it
 pub asked_alone : {F : Opening} {z f : Seen} {a b : LaneNow} → Later a b → b.runs ≡ a.runs → IsLane F a.world a.store → GoesAlone z f → Serves F z f a b
-asked_alone {F} {z} {f} {a} {b} later runs told goes = let now = lane_on F a b later told in serves_then (serves_nowhere z a b runs later.faults now) (serves_alone b goes now)
+asked_alone {F} {z} {f} {a} {b} later runs told goes = let now = lane_on F a b later told in serves_then (serves_nowhere z a b runs later now) (serves_alone b goes now)
 
 -- the lane was asked, and then the run went on with it
 pub asked_then : {F : Opening} {z f : Seen} {a b c : LaneNow} → Later a b → b.runs ≡ a.runs → IsLane F a.world a.store → Serves F z f b c → Serves F z f a c
-asked_then {F} {z} {f} {a} {b} later runs told s = serves_then (serves_nowhere z a b runs later.faults (lane_on F a b later told)) s
+asked_then {F} {z} {f} {a} {b} later runs told s = serves_then (serves_nowhere z a b runs later (lane_on F a b later told)) s
 
 -- the lane was asked, and the ticket was lost by it
 pub asked_lost : {F : Opening} {z f : Seen} {a b : LaneNow} (n : ℕ) (stop : Stop) → Later a b → b.runs ≡ a.runs → IsLane F a.world a.store → IsLaneStop a.faults b.faults stop
     → f ≡ grown z (e.Abort n (Some stop)) → work_of f < work_of z → Serves F z f a b
-asked_lost {F} {z} {f} {a} {b} n stop later runs told why is less = serves_lost z f n stop a b why is less runs later.faults (lane_on F a b later told)
+asked_lost {F} {z} {f} {a} {b} n stop later runs told why is less = serves_lost z f n stop a b why is less runs later (lane_on F a b later told)
 
 pub can_asked : {F : Opening} {z : Seen} {a b : LaneNow} → Later a b → b.runs ≡ a.runs → CanServe F z a → CanServe F z b
 can_asked {F} {z} {a} {b} later runs can = record { told = lane_on F a b later can.told; few = (let few = can.few in omega (arith, few, runs)) }

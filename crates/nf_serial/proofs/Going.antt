@@ -30,7 +30,8 @@ use Rattle.nf_flow.specs.Seen.{Seen, plain_of, events_of, state_of, grown, take_
 use Rattle.nf_flow.specs.Stopped.{cause_of}
 use Rattle.nf_core.specs.Calls.{EndsOrUp, GivesUp}
 use Rattle.nf_core.specs.Opening.{Opening, IsLane}
-use Rattle.nf_serial.specs.Serial.{is_start, LaneNow, ran_once, Goes, GoesAlone, Serves, CanServe, work_of, IsLaneStop}
+use Rattle.nf_serial.specs.Serial.{is_start, LaneNow, Later, ran_once, Goes, GoesAlone, Serves, CanServe, work_of, IsLaneStop}
+use Rattle.nf_serial.proofs.Serving.{later_still, later_then, same_store}
 use Rattle.nf_core.proofs.Seens.{event_in, events_grown, state_grown}
 
 -- ---- what is left to do
@@ -83,15 +84,15 @@ goes_then {x} {y} {z} {a} {b} {c} p q = record {
   by_side t (inr h) = (let r = q.blamed t h in let l = p.faults in omega (arith, r, l))
 
 pub serves_then : {F : Opening} {x y z : Seen} {a b c : LaneNow} → Serves F x y a b → Serves F y z b c → Serves F x z a c
-serves_then p q = record { goes = goes_then p.goes q.goes; spent = (let l = p.spent in let m = q.spent in omega (arith, l, m)); told = q.told }
+serves_then p q = record { goes = goes_then p.goes q.goes; later = later_then p.later q.later; spent = (let l = p.spent in let m = q.spent in omega (arith, l, m)); told = q.told }
 
 -- the lane was asked, and nothing was entered
-pub serves_nowhere : {F : Opening} (z : Seen) (a b : LaneNow) → b.runs ≡ a.runs → a.faults ≤ b.faults → IsLane F b.world b.store → Serves F z z a b
-serves_nowhere z a b runs faults told = record { goes = goes_nowhere z a b runs faults; spent = omega (arith, runs); told = told }
+pub serves_nowhere : {F : Opening} (z : Seen) (a b : LaneNow) → b.runs ≡ a.runs → Later a b → IsLane F b.world b.store → Serves F z z a b
+serves_nowhere z a b runs later told = record { goes = goes_nowhere z a b runs later.faults; later = later; spent = omega (arith, runs); told = told }
 
 -- the lane wasn't asked
 pub serves_alone : {F : Opening} {x y : Seen} (l : LaneNow) → GoesAlone x y → IsLane F l.world l.store → Serves F x y l l
-serves_alone l p told = record { goes = p.goes l; spent = (let less = p.less in omega (arith, less)); told = told }
+serves_alone l p told = record { goes = p.goes l; later = later_still l; spent = (let less = p.less in omega (arith, less)); told = told }
 
 pub can_after : {F : Opening} {x y : Seen} {a b : LaneNow} → CanServe F x a → Serves F x y a b → CanServe F y b
 can_after p q = record { told = q.told; few = (let l = p.few in let m = q.spent in omega (arith, l, m)) }
@@ -170,6 +171,7 @@ alone_reused z f t r outs None (inr up) falls = alone_up z f t up falls
 pub serves_start : {F : Opening} (z f : Seen) (n : ℕ) (cause : Cause) (l : LaneNow) → f ≡ grown z (e.Start n cause) → FallsTo f → IsLane F l.world l.store → Serves F z f l (ran_once l)
 serves_start z f n cause l is falls told = record {
   goes = goes_one z f (e.Start n cause) l (ran_once l) is (omega arith) (omega arith) (λ t h. absurd (cc));
+  later = record { faults = omega arith; world = refl; store = same_store l.store };
   spent = (let less = falls z (e.Start n cause) is in omega (arith, less));
   told = told;
 }
@@ -187,9 +189,10 @@ innocent_or_rose n t cause a b stop h = by_stop cause stop (cause_same n t (Some
 
 -- the ticket was lost by the lane, or for want of memory after it was asked
 pub serves_lost : {F : Opening} (z f : Seen) (n : ℕ) (cause : Stop) (a b : LaneNow) → IsLaneStop a.faults b.faults cause → f ≡ grown z (e.Abort n (Some cause)) → work_of f < work_of z
-    → b.runs ≡ a.runs → a.faults ≤ b.faults → IsLane F b.world b.store → Serves F z f a b
-serves_lost z f n cause a b stop is less runs faults told = record {
-  goes = goes_one z f (e.Abort n (Some cause)) a b is (omega (arith, runs)) faults (λ t h. innocent_or_rose n t cause a.faults b.faults stop h);
+    → b.runs ≡ a.runs → Later a b → IsLane F b.world b.store → Serves F z f a b
+serves_lost z f n cause a b stop is less runs later told = record {
+  goes = goes_one z f (e.Abort n (Some cause)) a b is (omega (arith, runs)) later.faults (λ t h. innocent_or_rose n t cause a.faults b.faults stop h);
+  later = later;
   spent = omega (arith, less, runs);
   told = told;
 }

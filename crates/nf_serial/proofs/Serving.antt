@@ -1,5 +1,5 @@
 -- What a run on one lane asks of its lane and of the calls of its run.
-use Rattle.std.proofs.Common.{◌≡◌, ◌≢◌, ℕ, refl, subst, ◌∙◌, List, [], ◌∷◌, Bool, true, false, not}
+use Rattle.std.proofs.Common.{◌≡◌, ◌≢◌, ℕ, refl, subst, arith, ◌∙◌, List, [], ◌∷◌, Bool, true, false, not}
 use Rattle.std.specs.Prelude.{Option, Some, None, option_map, Err, IfSome, IsTrue, ◌&&◌, ◌||◌, bytes_eq}
 use Rattle.std.specs.List.{list_any}
 use Rattle.nf_value.specs.declared.file.FileRef.{FileRef}
@@ -104,6 +104,20 @@ lane_may R z t a b (s.Item node item fault) l = absurd l
 lane_may R z t a b (s.Task node inputs n fault) l = absurd l
 
 -- ---- the lane
+
+pub same_store : (o : Option Store) → Both o o Grows
+same_store None = tt
+same_store (Some t) = λ d h. h
+
+pub later_still : (a : LaneNow) → Later a a
+later_still a = record { faults = omega arith; world = refl; store = same_store a.store }
+
+pub later_then : {a b c : LaneNow} → Later a b → Later b c → Later a c
+later_then {a} {b} {c} p q = record {
+  faults = (let x = p.faults in let y = q.faults in omega (arith, x, y));
+  world = q.world ∙ p.world;
+  store = both_then a.store b.store c.store p.store q.store (λ m n o p q d h. q d (p d h));
+}
 
 pub lane_on : (F : Opening) (a b : LaneNow) → Later a b → IsLane F a.world a.store → IsLane F b.world b.store
 lane_on F a b later l = record {

@@ -88,9 +88,11 @@ pub record Goes (old new : Seen) (before after : LaneNow) : Type 0 where
 abbrev pub work_of : Seen → ℕ
 work_of z = work (plain_of z) (state_of z)
 
--- the same, and the lane is still one of the opening's. Each run was work that was left
+-- the same, and the lane is still one of the opening's: its world is the same, and its store has lost nothing. Each run
+-- was work that was left
 pub record Serves (F : Opening) (old new : Seen) (before after : LaneNow) : Type 0 where
   pub goes : Goes old new before after
+  pub later : Later before after
   pub spent : after.runs + work_of new ≤ before.runs + work_of old
   pub told : IsLane F after.world after.store
 

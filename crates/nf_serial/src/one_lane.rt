@@ -13,7 +13,7 @@ ghost use Rattle.nf_value.specs.Plain.{Plain};
 ghost use Rattle.nf_value.specs.declared.fault.EvalFault.{EvalFault};
 ghost use Rattle.nf_core.specs.Calls.{IsAnswered};
 ghost use Rattle.nf_core.specs.Opening.{IsLane};
-ghost use Rattle.nf_serial.specs.Serial.{CanServe, Goes, GoesAlone, HasItem, HasTask, IsIdle, IsLegalMove, Serves, lane_now, work_of};
+ghost use Rattle.nf_serial.specs.Serial.{CanServe, Goes, GoesAlone, HasItem, HasTask, IsIdle, IsLegalMove, Later, Serves, lane_now, work_of};
 
 use crate::measure::{ends, falls, few_left};
 use crate::one_task::{lost, task};
@@ -44,6 +44,9 @@ pub fn serial<L: Lane, K: Keeper, J: Fixed, R: Rules>(
     ensures lawful { IsHistory (plain_of run.new) J.facts.rules (events_of run.new) }
     ensures goes { Goes run.old run.new
         (lane_now (L.runs lane.old) (L.faults lane.old) (L.world lane.old) (L.store lane.old))
+        (lane_now (L.runs lane.new) (L.faults lane.new) (L.world lane.new) (L.store lane.new)) }
+    // The lane's world is the same, and its store has lost nothing.
+    ensures later { Later (lane_now (L.runs lane.old) (L.faults lane.old) (L.world lane.old) (L.store lane.old))
         (lane_now (L.runs lane.new) (L.faults lane.new) (L.world lane.new) (L.store lane.new)) }
     ensures lane { IsLane J.facts (L.world lane.new) (L.store lane.new) }
 {

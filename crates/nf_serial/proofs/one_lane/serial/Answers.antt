@@ -1,5 +1,6 @@
 use Rattle.std.proofs.Common.{arith, refl}
 use Rattle.nf_serial.proofs.Going.{can_after, serves_nowhere, serves_then}
+use Rattle.nf_serial.proofs.Serving.{later_still}
 use Rattle.nf_serial.proofs.Turns.{ready_legal}
 use Rattle.nf_serial.proofs.one_lane.serial.Goals as goal
 
@@ -9,7 +10,7 @@ loop-step-init g c =
     record {
       idle = c.requires.idle;
       can = record { told = c.requires.lane; few = omega (arith, few, runs) };
-      serves = serves_nowhere c.args.run.now _ _ refl (omega arith) c.requires.lane;
+      serves = serves_nowhere c.args.run.now _ _ refl (later_still _) c.requires.lane;
     }
 
 pub turn-requires-clause-idle : goal.turn-requires-clause-idle
@@ -42,6 +43,9 @@ returns-clause-lawful g c = c.holds.ensures.lawful
 
 pub returns-clause-goes : goal.returns-clause-goes
 returns-clause-goes g c = c.loop-step.invariant.serves.goes
+
+pub returns-clause-later : goal.returns-clause-later
+returns-clause-later g c = c.loop-step.invariant.serves.later
 
 pub returns-clause-lane : goal.returns-clause-lane
 returns-clause-lane g c = c.loop-step.invariant.serves.told

@@ -1,10 +1,11 @@
-use Rattle.std.proofs.Common.{arith, refl}
+use Rattle.std.proofs.Common.{refl}
 use Rattle.nf_serial.proofs.Attempting.{back_idle, back_task}
 use Rattle.nf_serial.proofs.Going.{can_after, serves_nowhere, serves_then}
+use Rattle.nf_serial.proofs.Serving.{later_still}
 use Rattle.nf_serial.proofs.one_task.task.Goals as goal
 
 pub loop-next-init : goal.loop-next-init
-loop-next-init g c = record { back = c.requires.ticket; serves = serves_nowhere c.args.run.now _ _ refl (omega arith) c.requires.lane.told }
+loop-next-init g c = record { back = c.requires.ticket; serves = serves_nowhere c.args.run.now _ _ refl (later_still _) c.requires.lane.told }
 
 pub attempt-next-requires-clause-ticket : goal.attempt-next-requires-clause-ticket
 attempt-next-requires-clause-ticket g c = back_task c.loop-next.run c.loop-next.next c.in-Some.ticket c.in-Some.is c.loop-next.invariant.back
