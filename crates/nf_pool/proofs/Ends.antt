@@ -15,10 +15,10 @@ use Rattle.nf_machine.specs.declared.stop.Stop.TheVariants as s
 use Rattle.nf_machine.specs.declared.stop.Outside.TheVariants.{Lane, Keeper}
 use Rattle.nf_flow.specs.Seen.{Seen}
 use Rattle.nf_core.specs.Opening.{IsLane, LaneTold, Opening}
-use Rattle.nf_serial.specs.Serial.{Goes, LaneNow, is_start}
+use Rattle.nf_serial.specs.Serial.{Goes, LaneNow, Later, is_start}
 use Rattle.nf_locked.specs.Locked.{failures_of, is_failure, starts_of}
-use Rattle.nf_pool.specs.Pool.{AnyRose, HasWorked, HaveWorked, WorksOn, lanes_now, told, worker_now}
-use Rattle.nf_pool.proofs.Works.{later_still}
+use Rattle.nf_pool.specs.Pool.{AnyRose, AreLater, HasWorked, HaveWorked, WorksOn, lanes_now, told, worker_now}
+use Rattle.nf_serial.proofs.Serving.{later_still, later_then}
 
 -- ---- the lanes of the workers
 
@@ -149,6 +149,15 @@ pub lane_of_first : {X : Type 0} (P : X → Type 0) (ys : List X) (d : X) → Al
 lane_of_first P [] d all some is = absurd (omega (arith, some))
 lane_of_first P (y ∷ ys) d all some is = subst P (sym is) all.0
 
-pub all_at_first : {X : Type 0} (P : X → Type 0) (ys : List X) (y : X) → AllByRecursion P ys → P y → AllByRecursion P (set ys 0 y)
-all_at_first P [] y all p = tt
-all_at_first P (v ∷ ys) y all p = (p, all.1)
+-- each lane is the one that was at its place
+all_later : (xs ys : List LaneNow) → HaveWorked xs ys → AreLater xs ys
+all_later [] [] h = tt
+all_later [] (y ∷ ys) h = absurd h
+all_later (x ∷ xs) [] h = absurd h
+all_later (x ∷ xs) (y ∷ ys) h = (h.0.later, all_later xs ys h.1)
+
+pub ended_later : {X : Type 0} (now : X → LaneNow) (xs ys : List X) (d y : X) → HaveWorked (map now xs) (map now ys) → d ≡ get_or ys 0 d → Later (now d) (now y) → AreLater (map now xs) (map now (set ys 0 y))
+ended_later now [] [] d y h is later = tt
+ended_later now [] (v ∷ ys) d y h is later = absurd h
+ended_later now (x ∷ xs) [] d y h is later = absurd h
+ended_later now (x ∷ xs) (v ∷ ys) d y h is later = (later_then h.0.later (subst (λ u. Later (now u) (now y)) is later), all_later (map now xs) (map now ys) h.1)

@@ -8,9 +8,8 @@ use Rattle.nf_machine.specs.declared.stop.Stop.{Stop}
 use Rattle.nf_machine.specs.declared.stop.Stop.TheVariants as s
 use Rattle.nf_machine.specs.declared.stop.Outside.TheVariants.{Lane}
 use Rattle.nf_host.specs.Faults.{Rose}
-use Rattle.nf_host.specs.Told.{Both}
 use Rattle.nf_keeper.specs.Held.{Held}
-use Rattle.nf_lane.specs.Store.{Store, Grows}
+use Rattle.nf_lane.specs.Store.{Store}
 use Rattle.nf_lane.specs.World.{World}
 use Rattle.nf_lane.specs.declared.lane.Look.{Look}
 use Rattle.nf_lane.specs.declared.lane.Look.TheVariants.{Gone}
@@ -20,7 +19,7 @@ use Rattle.nf_core.specs.Causes.{IsGone, IsLeft}
 use Rattle.nf_core.specs.Records.{IsHeld}
 use Rattle.nf_core.specs.Opening.{IsLane, Opening}
 use Rattle.nf_serial.specs.Serial.{IsLacked, IsLaneStop, IsLookOf, LaneNow, Later}
-use Rattle.nf_serial.proofs.Serving.{lacked_so}
+use Rattle.nf_serial.proofs.Serving.{lacked_so, later_still, later_then}
 use Rattle.nf_locked.specs.declared.work.Begun.{Begun}
 use Rattle.nf_locked.specs.declared.work.Begun.TheVariants as begun
 use Rattle.nf_locked.specs.declared.work.Work.{Work}
@@ -29,20 +28,6 @@ use Rattle.nf_locked.specs.Locked.{IsBegun, IsItemOf, IsTaskOf, IsWork, WasGone,
 use Rattle.nf_pool.specs.Pool.{IsLaneAt, WorkerNow, WorksOn, worker_now}
 
 -- ---- one way after another
-
-same_store : (o : Option Store) → Both o o Grows
-same_store None = tt
-same_store (Some t) = λ d h. h
-
-pub later_still : (a : LaneNow) → Later a a
-later_still a = record { faults = omega arith; world = refl; store = same_store a.store }
-
-later_then : {a b c : LaneNow} → Later a b → Later b c → Later a c
-later_then {a} {b} {c} p q = record {
-  faults = (let x = p.faults in let y = q.faults in omega (arith, x, y));
-  world = q.world ∙ p.world;
-  store = both_then a.store b.store c.store p.store q.store (λ m n o p q d h. q d (p d h));
-}
 
 pub works_still : (a : WorkerNow) → a.owed < 2 ^ 34 → WorksOn a a
 works_still a few = record { runs = refl; few = few; lane = later_still a.lane; more = omega arith; rose = λ h. absurd (omega (arith, h)) }

@@ -72,6 +72,13 @@ HaveWorked (x ∷ xs) (y ∷ ys) = HasWorked x y × HaveWorked xs ys
 HaveWorked [] (y ∷ ys) = ⊥
 HaveWorked (x ∷ xs) [] = ⊥
 
+-- each lane is the one that was at its place: its world is the same, and its store has lost nothing
+abbrev pub AreLater : List LaneNow → List LaneNow → Type 0
+AreLater [] [] = Unit {0}
+AreLater (x ∷ xs) (y ∷ ys) = Later x y × AreLater xs ys
+AreLater [] (y ∷ ys) = ⊥
+AreLater (x ∷ xs) [] = ⊥
+
 -- ---- the opening
 
 -- what is fixed at the opening of a run

@@ -1,8 +1,7 @@
 //! `run`: a whole run on several lanes at once.
 
-ghost use Rattle.std.specs.Prelude.{◌≡◌, ◌+◌, ◌<◌, ◌≤◌, ◌^◌, [], IfOk, length, map, true, vec_len, ℕ};
-ghost use Rattle.std.specs.List.{All, AllByRecursion, sum_by};
-ghost use Rattle.nf_core.specs.Opening.{IsLane};
+ghost use Rattle.std.specs.Prelude.{◌≡◌, ◌+◌, ◌<◌, ◌≤◌, ◌^◌, [], IfOk, length, map, true, vec_capacity, vec_len, ℕ};
+ghost use Rattle.std.specs.List.{All, sum_by};
 ghost use Rattle.nf_core.specs.Promises.{Keeps, Promises};
 ghost use Rattle.nf_core.specs.Run.{IsRun};
 ghost use Rattle.nf_core.specs.Told.{IsDoneOf, IsSeenOf};
@@ -10,7 +9,7 @@ ghost use Rattle.nf_flow.specs.Seen.{events_of, plain_of, state_of};
 ghost use Rattle.nf_locked.specs.Locked.{failures_of, starts_of};
 ghost use Rattle.nf_locked.specs.Out.{tallies};
 ghost use Rattle.nf_machine.specs.History.{is_over};
-ghost use Rattle.nf_pool.specs.Pool.{AnyRose, HaveWorked, lanes_now, opening_of, told};
+ghost use Rattle.nf_pool.specs.Pool.{AnyRose, AreLater, HaveWorked, lanes_now, opening_of, told};
 ghost use Rattle.nf_serial.specs.Serial.{IsIdle};
 ghost use Rattle.nf_stored.specs.Attempts.{TellsApart};
 
@@ -65,11 +64,10 @@ where
     ensures idle { IsIdle result.flow }
     ensures runs { sum_by L.runs result.lanes.items ≡ sum_by L.runs lanes.items + starts_of result.flow }
     ensures rose { 0 < failures_of result.flow → AnyRose (map L.faults lanes.items) (map L.faults result.lanes.items) }
-    ensures len { vec_len result.lanes ≡ vec_len lanes }
-    // Each lane that comes back has a world that one of the lanes had, and its store has lost nothing.
-    ensures lanes { AllByRecursion
-        (λ l. IsLane (opening_of flow.graph (R.meaning rules.now) resume (K.held keeper) (K.faults keeper)
-        (map (λ l. told (L.world l) (L.store l)) lanes.items)) (L.world l) (L.store l)) result.lanes.items }
+    ensures room { (vec_len result.lanes ≡ vec_len lanes) × (vec_capacity result.lanes ≡ vec_capacity lanes) }
+    // The lanes come back in their order. Each has the world that it had, and its store has lost nothing.
+    ensures later { AreLater (lanes_now L.runs L.faults L.world L.store lanes.items)
+        (lanes_now L.runs L.faults L.world L.store result.lanes.items) }
     ensures run { IsRun
         (opening_of flow.graph (R.meaning rules.now) resume (K.held keeper) (K.faults keeper)
         (map (λ l. told (L.world l) (L.store l)) lanes.items))
@@ -137,8 +135,9 @@ where
     ensures idle { IsIdle result.flow }
     ensures runs { sum_by L.runs result.lanes.items ≡ sum_by L.runs lanes.items + starts_of result.flow }
     ensures rose { 0 < failures_of result.flow → AnyRose (map L.faults lanes.items) (map L.faults result.lanes.items) }
-    ensures len { vec_len result.lanes ≡ vec_len lanes }
-    ensures lanes { AllByRecursion (λ l. IsLane J.facts (L.world l) (L.store l)) result.lanes.items }
+    ensures room { (vec_len result.lanes ≡ vec_len lanes) × (vec_capacity result.lanes ≡ vec_capacity lanes) }
+    ensures later { AreLater (lanes_now L.runs L.faults L.world L.store lanes.items)
+        (lanes_now L.runs L.faults L.world L.store result.lanes.items) }
     ensures run { IsRun J.facts
         (IsDoneOf L.Done.genuine L.Done.job L.Done.told J.facts.rules) (IsSeenOf L.Seen.genuine L.Seen.told)
         (record {
@@ -213,7 +212,7 @@ where
     ensures rose { 0 < failures_of result.0 → AnyRose (map L.faults lanes.items) (map L.faults result.1.items) }
     ensures worked { HaveWorked (lanes_now L.runs L.faults L.world L.store lanes.items)
         (lanes_now L.runs L.faults L.world L.store result.1.items) }
-    ensures len { vec_len result.1 ≡ vec_len lanes }
+    ensures room { (vec_len result.1 ≡ vec_len lanes) × (vec_capacity result.1 ≡ vec_capacity lanes) }
 {
     let Ok(out) = lists(alloc, lanes.len()) else {
         return (run, lanes);
