@@ -10,24 +10,18 @@ use Rattle.nf_core.specs.Records.{Agrees}
 use Rattle.nf_ends.specs.declared.end.End.{End}
 use Rattle.nf_ends.specs.declared.end.End.TheVariants as end
 use Rattle.nf_ends.specs.declared.writes.Output.{Output}
+use Rattle.nf_serial.specs.Serial.{LaneNow}
 use Rattle.nf_ran.specs.Ran.{Began, KeeperNow, RanPlan, came_to, rules_for}
+use Rattle.nf_ran.proofs.Lanes.{none_ran}
 
 same_held : (held : Option Held) → Both held held (λ m n. Agrees m [] n)
 same_held None = tt
 same_held (Some m) = λ q. refl
 
 module _ (x : Began) {D S : Type 0} (done : Rules → D → Ending → Type 0) (seen : S → Ending → Type 0) where
-  at_once : IsRules (rules_for x) → TellsApart (rules_for x) → RanPlan x done seen (came_to [] [] [] (Err end.Mem) x.keeper x.lane)
+  at_once : IsRules (rules_for x) → TellsApart (rules_for x) → RanPlan x done seen (came_to [] [] [] (Err end.Mem) x.keeper x.lanes)
   at_once are apart = record {
-    goes = record {
-      events = [];
-      graph = refl;
-      history = refl;
-      runs = omega arith;
-      faults = omega arith;
-      blamed = λ t there. absurd (let below = there.1 in omega arith);
-    };
-    world = refl;
+    lanes = none_ran x.lanes;
     run = record {
       graph = refl;
       resumed = refl;
@@ -46,11 +40,12 @@ module _ (x : Began) {D S : Type 0} (done : Rules → D → Ending → Type 0) (
     blamed = tt;
   }
 
-  pub ran_nothing : (h : List Event) (dones : List D) (seens : List S) (outcome : Result Output End) (keeper : KeeperNow) → h ≡ [] → dones ≡ [] → seens ≡ [] → outcome ≡ Err end.Mem → keeper ≡ x.keeper
-      → IsRules (rules_for x) → TellsApart (rules_for x) → RanPlan x done seen (came_to h dones seens outcome keeper x.lane)
-  ran_nothing h dones seens outcome keeper none no_dones no_seens mem same are apart =
-      let a = subst (λ (k : List Event). RanPlan x done seen (came_to k [] [] (Err end.Mem) x.keeper x.lane)) (sym none) (at_once are apart) in
-      let b = subst (λ (ds : List D). RanPlan x done seen (came_to h ds [] (Err end.Mem) x.keeper x.lane)) (sym no_dones) a in
-      let d = subst (λ (ss : List S). RanPlan x done seen (came_to h dones ss (Err end.Mem) x.keeper x.lane)) (sym no_seens) b in
-      let f = subst (λ (r : Result Output End). RanPlan x done seen (came_to h dones seens r x.keeper x.lane)) (sym mem) d in
-      subst (λ (k : KeeperNow). RanPlan x done seen (came_to h dones seens outcome k x.lane)) (sym same) f
+  pub ran_nothing : (h : List Event) (dones : List D) (seens : List S) (outcome : Result Output End) (keeper : KeeperNow) (lanes : List LaneNow) → h ≡ [] → dones ≡ [] → seens ≡ [] → outcome ≡ Err end.Mem → keeper ≡ x.keeper
+      → lanes ≡ x.lanes → IsRules (rules_for x) → TellsApart (rules_for x) → RanPlan x done seen (came_to h dones seens outcome keeper lanes)
+  ran_nothing h dones seens outcome keeper lanes none no_dones no_seens mem same same_lanes are apart =
+      let a = subst (λ (k : List Event). RanPlan x done seen (came_to k [] [] (Err end.Mem) x.keeper x.lanes)) (sym none) (at_once are apart) in
+      let b = subst (λ (ds : List D). RanPlan x done seen (came_to h ds [] (Err end.Mem) x.keeper x.lanes)) (sym no_dones) a in
+      let d = subst (λ (ss : List S). RanPlan x done seen (came_to h dones ss (Err end.Mem) x.keeper x.lanes)) (sym no_seens) b in
+      let f = subst (λ (r : Result Output End). RanPlan x done seen (came_to h dones seens r x.keeper x.lanes)) (sym mem) d in
+      let k = subst (λ (v : KeeperNow). RanPlan x done seen (came_to h dones seens outcome v x.lanes)) (sym same) f in
+      subst (λ (ls : List LaneNow). RanPlan x done seen (came_to h dones seens outcome keeper ls)) (sym same_lanes) k

@@ -1,5 +1,9 @@
 pub mod Stopping
 pub mod Blaming
+pub mod Lanes
 pub mod Viewing
 pub mod Idle
 pub mod Publishing
+pub mod Patterns
+pub mod Trees
+pub mod Shared

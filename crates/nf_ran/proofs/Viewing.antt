@@ -1,22 +1,19 @@
 -- A run as its graph and its history.
-use Rattle.std.proofs.Common.{◌≡◌, List, [], ◌++◌, refl, ap, sym, subst, ◌∙◌}
-use Rattle.std.specs.Prelude.{Bool, Some}
-use Rattle.std.specs.List.{Contains}
+use Rattle.std.proofs.Common.{◌≡◌, List, [], refl, ap, sym, subst, ◌∙◌}
+use Rattle.std.specs.Prelude.{Bool}
 use Rattle.nf_host.specs.Faults.{Rose}
 use Rattle.nf_graph.specs.declared.node.Node.{Node}
 use Rattle.nf_graph.specs.Rules.{Rules}
 use Rattle.nf_graph.specs.WellMade.{plain_graph}
 use Rattle.nf_machine.specs.declared.event.Event.{Event}
-use Rattle.nf_machine.specs.declared.event.Event.TheVariants as e
-use Rattle.nf_machine.specs.declared.stop.Stop.TheVariants as s
 use Rattle.nf_machine.specs.declared.stop.Outside.{Outside}
 use Rattle.nf_machine.specs.declared.stop.Outside.TheVariants.{Lane, Keeper}
 use Rattle.nf_machine.specs.History.{IsHistory}
 use Rattle.nf_flow.specs.Seen.{Seen, begun, plain_of, events_of}
-use Rattle.nf_core.specs.Opening.{Opening}
+use Rattle.nf_core.specs.Opening.{LaneTold, Opening}
 use Rattle.nf_core.specs.Told.{Ending}
 use Rattle.nf_core.specs.Run.{Parts, IsRun}
-use Rattle.nf_serial.specs.Serial.{LaneNow, Goes}
+use Rattle.nf_serial.specs.Serial.{LaneNow}
 use Rattle.nf_tasks.specs.Memory.{Program}
 use Rattle.nf_bodies.specs.declared.body.NodeInfo.{NodeInfo}
 use Rattle.nf_bodies.specs.Bodies.{rules_of}
@@ -24,7 +21,7 @@ use Rattle.nf_meaning.specs.Given.{Outcomes}
 use Rattle.nf_plan.specs.declared.builder.PlanBuilder.{PlanBuilder}
 use Rattle.nf_owed.specs.Run.{run_of}
 use Rattle.nf_owed.specs.Finished.{ComesTo, IsRunOf}
-use Rattle.nf_ran.specs.Ran.{IsMade, IsPlanned, KeeperNow, Came, RanPlan, begun_over, opening_of, with_history}
+use Rattle.nf_ran.specs.Ran.{IsMade, IsPlanned, KeeperNow, Came, LanesRan, LanesRose, RanPlan, begun_over, opening_of, told_by, with_history}
 use Rattle.nf_ran.proofs.Stopping.{HasStop}
 use Rattle.nf_ran.proofs.Blaming.{outcome_blames}
 
@@ -67,23 +64,9 @@ module _ (F : Opening) {D S : Type 0} (done : D → Ending → Type 0) (seen : S
     unpublished = none;
   }
 
--- how a run went on from its first event
-from_begin : (old new : Seen) (h : List Event) (before after : LaneNow) → old.history ≡ [] → h ≡ new.history → Goes old new before after → Goes (begun old.graph) (with_history old.graph h) before after
-from_begin old new h before after none is g = record {
-  events = g.events;
-  graph = refl;
-  history = is ∙ g.history ∙ ap (λ (xs : List Event). xs ++ g.events) none;
-  runs = g.runs;
-  faults = g.faults;
-  blamed = g.blamed;
-}
-
--- the lane failed in a run that its failure stopped
-lane_rose : (graph : List Node) (h : List Event) (before after : LaneNow) → Goes (begun graph) (with_history graph h) before after → HasStop Lane (plain_graph graph) h → Rose before.faults after.faults
-lane_rose graph h before after g k =
-    let there : Contains g.events (e.Abort k.ticket (Some (s.Outside Lane))) =
-    subst (λ (xs : List Event). Contains xs (e.Abort k.ticket (Some (s.Outside Lane)))) g.history k.there in
-    g.blamed k.ticket there
+-- one of the lanes failed in a run that their failure stopped
+lane_rose : (graph : List Node) (h : List Event) (before after : List LaneNow) → LanesRan h before after → HasStop Lane (plain_graph graph) h → LanesRose before after
+lane_rose graph h before after ran k = ran.blamed k.ticket k.there
 
 -- of the plan's graph the same is told as of the run's
 of_plan : (o : Outside) (b : PlanBuilder) (graph : List Node) (infos : List NodeInfo) (h : List Event) → IsMade b graph infos → HasStop o (plain_graph b.nodes.items) h → HasStop o (plain_graph graph) h
@@ -98,38 +81,37 @@ pub to_nodes : (P : List Node → List NodeInfo → Type 0) (z : Seen) (graph : 
 to_nodes P z graph infos slice is same h =
     subst (λ (y : Seen). P y.graph slice) (sym is) (subst (P graph) (sym same) h)
 
-module _ (n : Program) (old : Seen) (infos : List NodeInfo) (resume : Bool) (keeper : KeeperNow) (lane : LaneNow) {D S : Type 0} (done : Rules → D → Ending → Type 0) (seen : S → Ending → Type 0) where
-  -- the same opening under other rules
-  abbrev pub opening_under : Rules → Opening
-  opening_under R = record (opening_of (begun_over n old.graph infos resume keeper lane)) { rules = R }
+module _ (n : Program) (old : Seen) (infos : List NodeInfo) (resume : Bool) (keeper : KeeperNow) (lanes : List LaneNow) {D S : Type 0} (done : Rules → D → Ending → Type 0) (seen : S → Ending → Type 0) where
+  -- the same opening under other rules, of lanes that told this
+  abbrev pub opening_under : Rules → List LaneTold → Opening
+  opening_under R told = record (opening_of (begun_over n old.graph infos resume keeper lanes)) { rules = R; lanes = told }
 
   -- a flow's parts with what came
   abbrev pub parts_with : Seen → Came D S → Parts D S
   parts_with z y = record { flow = z; dones = y.dones; seens = y.seens; resumed = resume; held = y.keeper.held; faults = y.keeper.faults }
 
-  -- a run on one lane, with what it comes to
-  pub ran_alone : (z : Seen) (R : Rules) (y : Came D S) → R ≡ rules_of n infos → old.history ≡ [] → y.history ≡ z.history → Goes old z lane y.lane → y.lane.world ≡ lane.world
-      → IsRun (opening_under R) (done R) seen (parts_with z y) → IsPlanned old.graph infos
+  -- a run on several lanes, with what it comes to
+  pub ran_on : (z : Seen) (R : Rules) (told : List LaneTold) (y : Came D S) → R ≡ rules_of n infos → told ≡ told_by lanes → y.history ≡ z.history → LanesRan y.history lanes y.lanes
+      → IsRun (opening_under R told) (done R) seen (parts_with z y) → IsPlanned old.graph infos
       → ((b : PlanBuilder) → IsMade b old.graph infos → (o : Outcomes) → ((run_of n b).meaning o).targets ≡ [])
       → ((b : PlanBuilder) → IsRunOf n b infos z → ComesTo (run_of n b) z.history y.outcome)
-      → RanPlan (begun_over n old.graph infos resume keeper lane) done seen y
-  ran_alone z R y same none history goes world run planned unpublished owed =
+      → RanPlan (begun_over n old.graph infos resume keeper lanes) done seen y
+  ran_on z R told y same same_told history ran run planned unpublished owed =
       let due = rules_of n infos in
-      let F : Opening = opening_under due in
-      let is : IsRun F (done due) seen (parts_with z y) = subst (λ (Q : Rules). IsRun (opening_under Q) (done Q) seen (parts_with z y)) same run in
+      let F : Opening = opening_under due (told_by lanes) in
+      let there : IsRun (opening_under due told) (done due) seen (parts_with z y) = subst (λ (Q : Rules). IsRun (opening_under Q told) (done Q) seen (parts_with z y)) same run in
+      let is : IsRun F (done due) seen (parts_with z y) = subst (λ (ts : List LaneTold). IsRun (opening_under due ts) (done due) seen (parts_with z y)) same_told there in
       let whole = with_graph F (done due) seen (parts_with z y) y.history history is in
-      let went = from_begin old z y.history lane y.lane none history goes in
       let comes : (b : PlanBuilder) → IsMade b old.graph infos → ComesTo (run_of n b) y.history y.outcome =
       λ b made. subst (λ (h : List Event). ComesTo (run_of n b) h y.outcome) (sym history) (owed b (is_run_of F (done due) seen n b infos (parts_with z y) made refl (unpublished b made) is)) in
       let b = planned.0 in
       let made = planned.1 in
       record {
-        goes = went;
-        world = world;
+        lanes = ran;
         run = whole;
         comes = comes;
-        blamed = outcome_blames (run_of n b) y.history (Rose lane.faults y.lane.faults) (Rose keeper.faults y.keeper.faults)
-            (λ k. lane_rose old.graph y.history lane y.lane went (of_plan Lane b old.graph infos y.history made k))
+        blamed = outcome_blames (run_of n b) y.history (LanesRose lanes y.lanes) (Rose keeper.faults y.keeper.faults)
+            (λ k. lane_rose old.graph y.history lanes y.lanes ran (of_plan Lane b old.graph infos y.history made k))
             (λ k. keeper_rose F (done due) seen _ whole (of_plan Keeper b old.graph infos y.history made k))
             y.outcome (comes b made);
       }

@@ -1,6 +1,8 @@
--- A run of a plan on one lane: what it began over, and what it came to.
-use Rattle.std.specs.Prelude.{◌≡◌, ◌==◌, ℕ, List, ◌∷◌, [], length, Bool, true, Result, IfErr}
+-- A run of a plan on several lanes: what it began over, and what it came to.
+use Rattle.std.specs.Prelude.{◌≡◌, ◌==◌, ◌+◌, ℕ, List, length, map, sum_by, count_by, Bool, true, Result, IfErr}
+use Rattle.std.specs.List.{Contains}
 use Rattle.std.specs.declared.option.Option.{Option}
+use Rattle.std.specs.declared.option.Option.TheVariants.{Some}
 use Rattle.nf_value.specs.Plain.{Plain}
 use Rattle.nf_job.specs.declared.report.Report.{Report}
 use Rattle.nf_host.specs.Faults.{Rose}
@@ -8,6 +10,9 @@ use Rattle.nf_keeper.specs.Held.{Held}
 use Rattle.nf_graph.specs.declared.node.Node.{Node}
 use Rattle.nf_graph.specs.Rules.{Rules}
 use Rattle.nf_machine.specs.declared.event.Event.{Event}
+use Rattle.nf_machine.specs.declared.event.Event.TheVariants as e
+use Rattle.nf_machine.specs.declared.stop.Stop.TheVariants as s
+use Rattle.nf_machine.specs.declared.stop.Outside.TheVariants.{Lane}
 use Rattle.nf_tasks.specs.Memory.{Program}
 use Rattle.nf_bodies.specs.declared.body.NodeBody.{NodeBody}
 use Rattle.nf_bodies.specs.declared.body.NodeBody.TheVariants as body
@@ -15,11 +20,12 @@ use Rattle.nf_bodies.specs.declared.body.NodeInfo.{NodeInfo}
 use Rattle.nf_bodies.specs.Bodies.{body_in, published_of, rules_of}
 use Rattle.nf_plan.specs.declared.builder.PlanBuilder.{PlanBuilder}
 use Rattle.nf_plan.specs.Plans.{IsPlan}
-use Rattle.nf_flow.specs.Seen.{Seen, begun}
-use Rattle.nf_core.specs.Opening.{Opening}
+use Rattle.nf_flow.specs.Seen.{Seen}
+use Rattle.nf_core.specs.Opening.{LaneTold, Opening}
 use Rattle.nf_core.specs.Told.{Ending}
 use Rattle.nf_core.specs.Run.{Parts, IsRun}
-use Rattle.nf_serial.specs.Serial.{LaneNow, Goes}
+use Rattle.nf_serial.specs.Serial.{LaneNow, is_start}
+use Rattle.nf_pool.specs.Pool.{AnyRose, AreLater, told}
 use Rattle.nf_ends.specs.declared.end.End.{End}
 use Rattle.nf_ends.specs.declared.end.End.TheVariants as end
 use Rattle.nf_ends.specs.declared.writes.Output.{Output}
@@ -52,6 +58,27 @@ is_unpublished_body _ = true
 abbrev pub is_unpublished : NodeInfo → Bool
 is_unpublished info = is_unpublished_body info.body
 
+-- ---- lanes
+
+-- what each tells
+abbrev pub told_by : List LaneNow → List LaneTold
+told_by lanes = map (λ l. told l.world l.store) lanes
+
+-- how often all of them ran
+abbrev pub runs_of : List LaneNow → ℕ
+runs_of lanes = sum_by (λ l. l.runs) lanes
+
+-- one of them failed
+abbrev pub LanesRose : List LaneNow → List LaneNow → Type 0
+LanesRose before after = AnyRose (map (λ l. l.faults) before) (map (λ l. l.faults) after)
+
+-- What the lanes of a run with this history did: together they ran once for each Start, and each is the one that was at
+-- its place. If a lane is blamed, one of them failed
+pub record LanesRan (history : List Event) (before after : List LaneNow) : Type 0 where
+  pub runs : runs_of after ≡ runs_of before + count_by is_start history
+  pub later : AreLater before after
+  pub blamed : (t : ℕ) → Contains history (e.Abort t (Some (s.Outside Lane))) → LanesRose before after
+
 -- ---- what a run begins over, and what it comes to
 
 -- what a keeper tells at one time, and how often it failed
@@ -62,36 +89,37 @@ pub record KeeperNow : Type 0 where
 abbrev pub keeper_now : Option Held → ℕ → KeeperNow
 keeper_now held faults = record { held = held; faults = faults }
 
--- the functions that the program adds, the nodes of a plan, whether it resumes an earlier run, its keeper and its lane
+-- the functions that the program adds, the nodes of a plan, whether it resumes an earlier run, its keeper and its lanes
 pub record Began : Type 0 where
   pub program : Program
   pub graph : List Node
   pub infos : List NodeInfo
   pub resume : Bool
   pub keeper : KeeperNow
-  pub lane : LaneNow
+  pub lanes : List LaneNow
 
-abbrev pub begun_over : Program → List Node → List NodeInfo → Bool → KeeperNow → LaneNow → Began
-begun_over n graph infos resume keeper lane =
-    record { program = n; graph = graph; infos = infos; resume = resume; keeper = keeper; lane = lane }
+abbrev pub begun_over : Program → List Node → List NodeInfo → Bool → KeeperNow → List LaneNow → Began
+begun_over n graph infos resume keeper lanes =
+    record { program = n; graph = graph; infos = infos; resume = resume; keeper = keeper; lanes = lanes }
 
--- the events, the lane's Dones and Seens, what is to be written, and the keeper and the lane
+-- the events, the lanes' Dones and Seens, what is to be written, and the keeper and the lanes
 pub record Came (D S : Type 0) : Type 0 where
   pub history : List Event
   pub dones : List D
   pub seens : List S
   pub outcome : Result Output End
   pub keeper : KeeperNow
-  pub lane : LaneNow
+  pub lanes : List LaneNow
 
-abbrev pub came_to : {D S : Type 0} → List Event → List D → List S → Result Output End → KeeperNow → LaneNow → Came D S
-came_to h dones seens outcome keeper lane =
-    record { history = h; dones = dones; seens = seens; outcome = outcome; keeper = keeper; lane = lane }
+abbrev pub came_to : {D S : Type 0} → List Event → List D → List S → Result Output End → KeeperNow → List LaneNow
+    → Came D S
+came_to h dones seens outcome keeper lanes =
+    record { history = h; dones = dones; seens = seens; outcome = outcome; keeper = keeper; lanes = lanes }
 
 abbrev pub rules_for : Began → Rules
 rules_for x = rules_of x.program x.infos
 
--- a run on this lane alone
+-- a run on these lanes
 abbrev pub opening_of : Began → Opening
 opening_of x = record {
   graph = x.graph;
@@ -99,7 +127,7 @@ opening_of x = record {
   resumed = x.resume;
   held = x.keeper.held;
   faults = x.keeper.faults;
-  lanes = record { world = x.lane.world; store = x.lane.store } ∷ [];
+  lanes = told_by x.lanes;
 }
 
 -- a run of these nodes with this history
@@ -116,23 +144,21 @@ parts_of x y = record {
   faults = y.keeper.faults;
 }
 
--- an end that blames the lane or the keeper: the one it blames failed
+-- an end that blames a lane or the keeper: one of the lanes failed, or the keeper
 abbrev pub Blames : Type 0 → Type 0 → End → Type 0
-Blames lane keeper end.LaneFault = lane
-Blames lane keeper end.KeeperFault = keeper
-Blames lane keeper _ = Unit {0}
+Blames lanes keeper end.LaneFault = lanes
+Blames lanes keeper end.KeeperFault = keeper
+Blames lanes keeper _ = Unit {0}
 
 -- The run that began so came to this. done and seen say what is known of a Done and a Seen beside the attempt that it
 -- ended
 pub record RanPlan (x : Began) {D S : Type 0} (done : Rules → D → Ending → Type 0) (seen : S → Ending → Type 0)
     (y : Came D S) : Type 0 where
-  -- the lane ran once for each Start
-  pub goes : Goes (begun x.graph) (with_history x.graph y.history) x.lane y.lane
-  -- and tells the world that it told
-  pub world : y.lane.world ≡ x.lane.world
-  -- the history is lawful, and what the lane and the keeper gave belongs to its events
+  -- what the lanes did
+  pub lanes : LanesRan y.history x.lanes y.lanes
+  -- the history is lawful, and what the lanes and the keeper gave belongs to its events
   pub run : IsRun (opening_of x) (done (rules_for x)) seen (parts_of x y)
   -- what it came to is owed by what the plan means
   pub comes : (b : PlanBuilder) → IsMade b x.graph x.infos → ComesTo (run_of x.program b) y.history y.outcome
   -- who is blamed failed
-  pub blamed : IfErr y.outcome (Blames (Rose x.lane.faults y.lane.faults) (Rose x.keeper.faults y.keeper.faults))
+  pub blamed : IfErr y.outcome (Blames (LanesRose x.lanes y.lanes) (Rose x.keeper.faults y.keeper.faults))

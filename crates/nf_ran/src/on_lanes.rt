@@ -1,6 +1,7 @@
-//! `run_plan`: runs a plan on one lane.
+//! `run_plan`: runs a plan on several lanes at once.
 
-ghost use Rattle.std.specs.Prelude.{◌≡◌, ◌<◌, ◌+◌, ◌^◌, List, [], IfOk};
+ghost use Rattle.std.specs.Prelude.{◌≡◌, ◌<◌, ◌≤◌, ◌^◌, List, [], IfOk, vec_capacity, vec_len};
+ghost use Rattle.std.specs.List.{All};
 ghost use Rattle.nf_graph.specs.declared.node.Node.{Node};
 ghost use Rattle.nf_stored.specs.Attempts.{TellsApart};
 ghost use Rattle.nf_tasks.specs.Memory.{Program, program};
@@ -8,7 +9,8 @@ ghost use Rattle.nf_bodies.specs.declared.body.NodeInfo.{NodeInfo};
 ghost use Rattle.nf_bodies.specs.Bodies.{rules_of};
 ghost use Rattle.nf_flow.specs.Seen.{begun};
 ghost use Rattle.nf_core.specs.Told.{IsDoneOf, IsSeenOf};
-ghost use Rattle.nf_serial.specs.Serial.{lane_now};
+ghost use Rattle.nf_serial.specs.Serial.{LaneNow};
+ghost use Rattle.nf_pool.specs.Pool.{lanes_now};
 ghost use Rattle.nf_ran.specs.Ran.{IsPlanned, PublishNone, RanPlan, begun_over, came_to, keeper_now};
 
 use crate::plan_run::PlanRun;
@@ -21,52 +23,89 @@ use nf_keeper::Keeper;
 use nf_lane::Lane;
 use nf_owed::end_of_run;
 use nf_plan::Plan;
-use nf_serial::run_alone;
+use nf_pool::{PoolEnd, run};
 use nf_value::Mem;
 use std::alloc::Global;
 use std::mem::replace;
+use std::sync::Wait;
+use std::thread::Threads;
 
-/// Runs a plan on one lane, on one thread, from its first event to its end (own). If the run resumes an earlier one,
-/// the keeper is asked for the records of its jobs. The plan is one of which no report publishes a file.
+/// Runs a plan on 1 to 16 lanes at once, with a worker for each, from its first event to its end (own). If the run
+/// resumes an earlier one, the keeper is asked for the records of its jobs. The plan is one of which no report
+/// publishes a file. The lanes come back in their order.
 ///
-/// The run is lawful, each of its finished tasks was run by the lane, and what it comes to is owed by what the plan
-/// means: the report of its views, or the end that names the stop. A lane or a keeper is blamed only if its count of
-/// failures rose. Without memory for the first event the history is empty, and the outcome `Mem`.
-pub fn run_plan<L: Lane, K: Keeper, N: Natives>(
+/// The run is lawful, each of its finished tasks was run by a lane, and what it comes to is owed by what the plan
+/// means: the report of its views, or the end that names the stop. The lanes or the keeper are blamed only if one of
+/// their counts of failures rose. Without memory for the first event the history is empty, and the outcome `Mem`.
+pub fn run_plan<L, K, N, T>(
+    rt: &T,
     alloc: Global,
     plan: Plan,
     keeper: K,
-    lane: &mut L,
+    lanes: Vec<L>,
     natives: &N,
     resume: bool,
 ) -> PlanRun<L, K>
+where
+    L: Lane + Send + Drop,
+    L::Done: Send,
+    L::Seen: Send,
+    K: Keeper + Send + Drop,
+    N: Natives + Sync,
+    T: Threads + Wait + Sync,
     requires natives { N.keeps natives.now }
     requires planned { IsPlanned plan.graph plan.infos.items }
     requires unpublished { PublishNone (program (N.titles natives.now) (N.answer natives.now)) plan.infos.items }
-    requires runs { L.runs lane.old < 2 ^ 62 + 2 ^ 32 }
-    ensures { RanPlan (begun_over (program (N.titles natives.now) (N.answer natives.now)) plan.graph plan.infos.items
+    requires lanes { (0 < vec_len lanes) × (vec_len lanes ≤ 16) }
+    requires runs { All (λ l. L.runs l < 2 ^ 62) lanes.items }
+    ensures room { (vec_len result.lanes ≡ vec_len lanes) × (vec_capacity result.lanes ≡ vec_capacity lanes) }
+    ensures ran { RanPlan (begun_over (program (N.titles natives.now) (N.answer natives.now)) plan.graph plan.infos.items
         resume (keeper_now (K.held keeper) (K.faults keeper))
-        (lane_now (L.runs lane.old) (L.faults lane.old) (L.world lane.old) (L.store lane.old)))
+        (lanes_now L.runs L.faults L.world L.store lanes.items))
         (IsDoneOf L.Done.genuine L.Done.job L.Done.told) (IsSeenOf L.Seen.genuine L.Seen.told)
         (came_to result.history.items result.kept.dones.items result.kept.seens.items result.outcome
         (keeper_now (K.held result.keeper) (K.faults result.keeper))
-        (lane_now (L.runs lane.new) (L.faults lane.new) (L.world lane.new) (L.store lane.new))) }
+        (lanes_now L.runs L.faults L.world L.store result.lanes.items)) }
 {
     plans_tell_apart();
     nf_bodies::laws::nodes_are_rules();
     let mut plan = plan;
     match begin_flow(alloc, &mut plan) {
         Ok(flow) => run_flow(
+            rt,
             alloc,
             flow,
             plan.infos.as_slice(),
             keeper,
-            lane,
+            lanes,
             natives,
             resume,
         ),
-        Err(Mem) => PlanRun::idle(alloc, keeper, Err(End::Mem)),
+        Err(Mem) => PlanRun::idle(alloc, keeper, lanes, Err(End::Mem)),
     }
+}
+
+/// What a run of a plan comes to for which there is no memory, on whichever lanes: no event, and the outcome `Mem`.
+pub fn without_memory<L: Lane, K: Keeper, N: Natives>(
+    alloc: Global,
+    plan: &Plan,
+    keeper: K,
+    lanes: Vec<L>,
+    natives: &N,
+    resume: bool,
+) -> PlanRun<L, K>
+    requires planned { IsPlanned plan.now.graph plan.now.infos.items }
+    ensures lanes { result.lanes ≡ lanes }
+    ensures ran { (some : List LaneNow) → RanPlan
+        (begun_over (program (N.titles natives.now) (N.answer natives.now)) plan.now.graph plan.now.infos.items
+        resume (keeper_now (K.held keeper) (K.faults keeper)) some)
+        (IsDoneOf L.Done.genuine L.Done.job L.Done.told) (IsSeenOf L.Seen.genuine L.Seen.told)
+        (came_to result.history.items result.kept.dones.items result.kept.seens.items result.outcome
+        (keeper_now (K.held result.keeper) (K.faults result.keeper)) some) }
+{
+    plans_tell_apart();
+    nf_bodies::laws::nodes_are_rules();
+    PlanRun::idle(alloc, keeper, lanes, Err(End::Mem))
 }
 
 /// The flow of a plan before its first event. The graph moves there: a source holds all its items, which may be many.
@@ -80,36 +119,52 @@ fn begin_flow(alloc: Global, plan: &mut Plan) -> Result<Flow, Mem>
 }
 
 /// Runs a flow from its first event on, under the rules of its nodes.
-fn run_flow<L: Lane, K: Keeper, N: Natives>(
+fn run_flow<L, K, N, T>(
+    rt: &T,
     alloc: Global,
     flow: Flow,
     infos: &[NodeInfo],
     keeper: K,
-    lane: &mut L,
+    lanes: Vec<L>,
     natives: &N,
     resume: bool,
 ) -> PlanRun<L, K>
+where
+    L: Lane + Send + Drop,
+    L::Done: Send,
+    L::Seen: Send,
+    K: Keeper + Send + Drop,
+    N: Natives + Sync,
+    T: Threads + Wait + Sync,
     requires begun { flow.history ≡ [] }
     requires natives { N.keeps natives.now }
     requires planned { IsPlanned flow.graph infos.now }
     requires unpublished { PublishNone (program (N.titles natives.now) (N.answer natives.now)) infos.now }
-    requires runs { L.runs lane.old < 2 ^ 62 + 2 ^ 32 }
-    ensures { RanPlan (begun_over (program (N.titles natives.now) (N.answer natives.now)) flow.graph infos.now
+    requires lanes { (0 < vec_len lanes) × (vec_len lanes ≤ 16) }
+    requires runs { All (λ l. L.runs l < 2 ^ 62) lanes.items }
+    ensures room { (vec_len result.lanes ≡ vec_len lanes) × (vec_capacity result.lanes ≡ vec_capacity lanes) }
+    ensures ran { RanPlan (begun_over (program (N.titles natives.now) (N.answer natives.now)) flow.graph infos.now
         resume (keeper_now (K.held keeper) (K.faults keeper))
-        (lane_now (L.runs lane.old) (L.faults lane.old) (L.world lane.old) (L.store lane.old)))
+        (lanes_now L.runs L.faults L.world L.store lanes.items))
         (IsDoneOf L.Done.genuine L.Done.job L.Done.told) (IsSeenOf L.Seen.genuine L.Seen.told)
         (came_to result.history.items result.kept.dones.items result.kept.seens.items result.outcome
         (keeper_now (K.held result.keeper) (K.faults result.keeper))
-        (lane_now (L.runs lane.new) (L.faults lane.new) (L.world lane.new) (L.store lane.new))) }
+        (lanes_now L.runs L.faults L.world L.store result.lanes.items)) }
 {
     plans_tell_apart();
     nf_owed::laws::nothing_is_published();
     let rules = NodeRules::new(infos, natives);
-    let (flow, kept, keeper) = run_alone(alloc, flow, keeper, lane, &rules, resume);
+    let PoolEnd {
+        flow,
+        kept,
+        lanes,
+        keeper,
+    } = run(rt, alloc, flow, lanes, keeper, &rules, resume);
     let outcome = end_of_run(alloc, infos, &flow);
     PlanRun {
         history: flow.into_history(),
         kept,
+        lanes,
         keeper,
         outcome,
     }

@@ -14,6 +14,8 @@ pub struct PlanRun<L: Lane, K> {
     pub history: Vec<Event>,
     /// The jobs that were run, and the reports whose files were found.
     pub kept: Kept<L>,
+    /// The lanes of the run, in their order.
+    pub lanes: Vec<L>,
     /// The keeper of the run.
     pub keeper: K,
     /// What is to be written, or the end that names why it stopped.
@@ -22,10 +24,16 @@ pub struct PlanRun<L: Lane, K> {
 
 impl<L: Lane, K> PlanRun<L, K> {
     /// What a call comes to that ran nothing. Takes no memory.
-    pub fn idle(alloc: Global, keeper: K, outcome: Result<Output, End>) -> PlanRun<L, K>
+    pub fn idle(
+        alloc: Global,
+        keeper: K,
+        lanes: Vec<L>,
+        outcome: Result<Output, End>,
+    ) -> PlanRun<L, K>
         ensures history { result.history.items ≡ [] }
         ensures dones { result.kept.dones.items ≡ [] }
         ensures seens { result.kept.seens.items ≡ [] }
+        ensures lanes { result.lanes ≡ lanes }
         ensures keeper { result.keeper ≡ keeper }
         ensures outcome { result.outcome ≡ outcome }
     {
@@ -36,6 +44,7 @@ impl<L: Lane, K> PlanRun<L, K> {
         PlanRun {
             history: Vec::new(alloc),
             kept,
+            lanes,
             keeper,
             outcome,
         }

@@ -3,7 +3,7 @@ use Rattle.nf_stored.specs.Attempts.{TellsApart}
 use Rattle.nf_bodies.specs.declared.body.NodeInfo.{NodeInfo}
 use Rattle.nf_bodies.specs.Bodies.{rules_of}
 use Rattle.nf_plan.specs.Plans.{name_in}
-use Rattle.nf_ran.proofs.on_lane.plans_tell_apart.Goals as goal
+use Rattle.nf_ran.proofs.on_lanes.plans_tell_apart.Goals as goal
 
 pub returns : goal.returns
 returns c = λ n graph infos p.
