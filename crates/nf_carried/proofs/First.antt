@@ -1,23 +1,18 @@
--- The first of some lanes, before and after it worked.
-use Rattle.std.proofs.Common.{◌≡◌, ◌≤◌, ℕ, List, [], ◌∷◌, drop, length, slice_index_or, slice_set, refl, ap, arith}
-use Rattle.std.specs.declared.option.Option.{Option}
-use Rattle.nf_lane.specs.World.{World}
-use Rattle.nf_lane.specs.Store.{Store}
-use Rattle.nf_serial.specs.Serial.{LaneNow, lane_now}
-use Rattle.nf_carried.specs.Objects.{first_of}
+-- The first of some lanes, and the others after them.
+use Rattle.std.proofs.Common.{◌≡◌, ℕ, List, [], ◌∷◌, ◌++◌, take, drop, length, refl, ap, sym, subst}
 
-module _ {L : Type 0} (runs faults : L → ℕ) (world : L → Option World) (store : L → Option Store) where
-  abbrev pub now_of : L → LaneNow
-  now_of l = lane_now (runs l) (faults l) (world l) (store l)
+module _ {X : Type 0} where
+  at_length : (xs ys : List X) → take (length xs) (xs ++ ys) ≡ xs
+  at_length [] ys = refl
+  at_length (x ∷ xs) ys = ap (λ zs. x ∷ zs) (at_length xs ys)
 
-  pub first_before : (ls : List L) (old : L) → 1 ≤ length ls → old ≡ slice_index_or ls 0 old → now_of old ≡ first_of now_of ls
-  first_before [] old some first = absurd (omega (arith, some))
-  first_before (l ∷ ls) old some first = ap now_of first
+  past_length : (xs ys : List X) → drop (length xs) (xs ++ ys) ≡ ys
+  past_length [] ys = refl
+  past_length (x ∷ xs) ys = past_length xs ys
 
-  pub first_after : (ls : List L) (new : L) → 1 ≤ length ls → now_of new ≡ first_of now_of (slice_set ls 0 new)
-  first_after [] new some = absurd (omega (arith, some))
-  first_after (l ∷ ls) new some = refl
+  -- lanes after which the others were put again
+  pub first_again : (n : ℕ) (all front rest : List X) → all ≡ front ++ rest → length front ≡ n → take n all ≡ front
+  first_again n all front rest is len = subst (λ k. take k all ≡ front) len (subst (λ zs. take (length front) zs ≡ front) (sym is) (at_length front rest))
 
-pub others_stay : {L : Type 0} (ls : List L) (new : L) → drop 1 (slice_set ls 0 new) ≡ drop 1 ls
-others_stay [] new = refl
-others_stay (l ∷ ls) new = refl
+  pub others_again : (n : ℕ) (all front rest : List X) → all ≡ front ++ rest → length front ≡ n → drop n all ≡ rest
+  others_again n all front rest is len = subst (λ k. drop k all ≡ rest) len (subst (λ zs. drop (length front) zs ≡ rest) (sym is) (past_length front rest))

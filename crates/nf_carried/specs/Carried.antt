@@ -30,7 +30,7 @@ pub record RanNothing (before : Hands) {D S : Type 0} (y : Came D S) : Type 0 wh
   pub dones : y.dones ≡ []
   pub seens : y.seens ≡ []
   pub keeper : y.keeper ≡ before.keeper
-  pub lane : y.lane ≡ before.lane
+  pub lanes : y.lanes ≡ before.lanes
 
 -- A text and a refusal are as they were, and nothing was run for them. A plan was run. done and seen say what is known
 -- of a Done and a Seen beside the attempt that it ended
@@ -39,7 +39,7 @@ abbrev pub Did : Program → Work → Hands → {D S : Type 0} → (Rules → D 
 Did n (work.Write text) before done seen y = (y.outcome ≡ Ok (Text text)) × RanNothing before y
 Did n (work.Refuse e) before done seen y = (y.outcome ≡ Err e) × RanNothing before y
 Did n (work.Run plan resume) before done seen y =
-    RanPlan (begun_over n plan.graph plan.infos.items resume before.keeper before.lane) done seen y
+    RanPlan (begun_over n plan.graph plan.infos.items resume before.keeper before.lanes) done seen y
 
 -- ---- what is written
 
@@ -57,7 +57,7 @@ pub record Closes (outcome : Result Output End) (before after : SinkNow) (e : En
 -- ---- the whole
 
 abbrev pub with_outcome : {D S : Type 0} → Result Output End → CallEnd D S → Came D S
-with_outcome outcome y = came_to y.history y.dones y.seens outcome y.after.hands.keeper y.after.hands.lane
+with_outcome outcome y = came_to y.history y.dones y.seens outcome y.after.hands.keeper y.after.hands.lanes
 
 -- of a plan the call owes what its script means; of other work nothing more
 abbrev pub OwesWork : Program → Work → Objects → {D S : Type 0} → CallEnd D S → Type 0

@@ -1,24 +1,18 @@
 -- The objects that a call works with, and what it came to.
-use Rattle.std.specs.Prelude.{ℕ, List, [], ◌∷◌, IfSome}
+use Rattle.std.specs.Prelude.{ℕ, List, IfSome}
 use Rattle.std.specs.declared.option.Option.{Option}
-use Rattle.std.specs.declared.option.Option.TheVariants.{None}
 use Rattle.nf_machine.specs.declared.event.Event.{Event}
-use Rattle.nf_serial.specs.Serial.{LaneNow, lane_now}
+use Rattle.nf_serial.specs.Serial.{LaneNow}
 use Rattle.nf_ends.specs.declared.end.End.{End}
 use Rattle.nf_ran.specs.Ran.{KeeperNow}
 
--- the first of some lanes; without a lane one that never ran
-abbrev pub first_of : {L : Type 0} → (L → LaneNow) → List L → LaneNow
-first_of now [] = lane_now 0 0 None None
-first_of now (l ∷ ls) = now l
-
--- those that work: the keeper, and the lane that runs the tasks
+-- those that work: the keeper, and the lanes that run the tasks
 pub record Hands : Type 0 where
   pub keeper : KeeperNow
-  pub lane : LaneNow
+  pub lanes : List LaneNow
 
-abbrev pub hands : KeeperNow → LaneNow → Hands
-hands keeper lane = record { keeper = keeper; lane = lane }
+abbrev pub hands : KeeperNow → List LaneNow → Hands
+hands keeper lanes = record { keeper = keeper; lanes = lanes }
 
 -- what was written to a sink, if it tells that, and how often it failed
 pub record SinkNow : Type 0 where
@@ -41,7 +35,7 @@ OnWritten before after P = IfSome before.written (λ old. IfSome after.written (
 
 -- ---- what a call came to
 
--- its end, its events, the Dones and Seens of its lane, and the objects afterwards
+-- its end, its events, the Dones and Seens of its lanes, and the objects afterwards
 pub record CallEnd (D S : Type 0) : Type 0 where
   pub end : End
   pub history : List Event

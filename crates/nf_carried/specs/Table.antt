@@ -10,12 +10,14 @@ use Rattle.nf_ends.specs.Summary.{summary, starts_in, reuses_in}
 use Rattle.nf_ends.specs.Writes.{WroteLine}
 use Rattle.nf_owed.specs.Run.{Run}
 use Rattle.nf_owed.specs.Ended.{EndedWell, EndsByStop, IsFaultless, meant_by}
+use Rattle.nf_ran.specs.Ran.{LanesRose}
 use Rattle.nf_carried.specs.Objects.{CallEnd, Objects, OnWritten}
 
 -- ---- who failed
 
+-- one of the lanes
 abbrev pub LaneRose : Objects → Objects → Type 0
-LaneRose before after = Rose before.hands.lane.faults after.hands.lane.faults
+LaneRose before after = LanesRose before.hands.lanes after.hands.lanes
 
 abbrev pub KeeperRose : Objects → Objects → Type 0
 KeeperRose before after = Rose before.hands.keeper.faults after.hands.keeper.faults

@@ -1,4 +1,4 @@
-//! What is left of a call once its words, files and script are read: a plan is run on a lane, and what that comes to is
+//! What is left of a call once its words, files and script are read: a plan is run on lanes, and what that comes to is
 //! written.
 #![tactic(auto)]
 
