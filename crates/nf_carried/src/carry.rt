@@ -152,8 +152,8 @@ where
     requires queue { (0 < queue) × (queue ≤ 16) × (queue ≤ vec_len lanes) }
     requires room { All (λ l. L.runs l < 2 ^ 62) lanes.items }
     ensures idle { drop queue result.lanes.items ≡ drop queue lanes.items }
-    ensures ran { RanPlan (begun_over (program (N.titles natives.now) (N.answer natives.now)) plan.graph plan.infos.items
-        resume (keeper_now (K.held keeper) (K.faults keeper))
+    ensures ran { RanPlan (begun_over (program (N.titles natives.now) (N.answer natives.now))
+        plan.graph plan.infos.items resume (keeper_now (K.held keeper) (K.faults keeper))
         (lanes_now L.runs L.faults L.world L.store (take queue lanes.items)))
         (IsDoneOf L.Done.genuine L.Done.job L.Done.told) (IsSeenOf L.Seen.genuine L.Seen.told)
         (came_to result.history.items result.kept.dones.items result.kept.seens.items result.outcome

@@ -59,8 +59,8 @@ where
     requires lanes { (0 < vec_len lanes) × (vec_len lanes ≤ 16) }
     requires runs { All (λ l. L.runs l < 2 ^ 62) lanes.items }
     ensures room { (vec_len result.lanes ≡ vec_len lanes) × (vec_capacity result.lanes ≡ vec_capacity lanes) }
-    ensures ran { RanPlan (begun_over (program (N.titles natives.now) (N.answer natives.now)) plan.graph plan.infos.items
-        resume (keeper_now (K.held keeper) (K.faults keeper))
+    ensures ran { RanPlan (begun_over (program (N.titles natives.now) (N.answer natives.now))
+        plan.graph plan.infos.items resume (keeper_now (K.held keeper) (K.faults keeper))
         (lanes_now L.runs L.faults L.world L.store lanes.items))
         (IsDoneOf L.Done.genuine L.Done.job L.Done.told) (IsSeenOf L.Seen.genuine L.Seen.told)
         (came_to result.history.items result.kept.dones.items result.kept.seens.items result.outcome
