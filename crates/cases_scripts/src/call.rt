@@ -17,12 +17,13 @@ use nf_value::{Mem, Txt, Vals, Value};
 use std::alloc::Global;
 use std::fmt::Write;
 use std::sync::Wait;
+use std::thread::Threads;
 
 /// Beyond so many bytes of what a call wrote only their number is shown.
 const SHOWN_BYTES: usize = 1000;
 
 /// What each call gives, after one another.
-pub(crate) fn answer<R: AllocGlobal + Wait>(rt: &R, row: Row) -> Result<String> {
+pub(crate) fn answer<R: AllocGlobal + Threads + Wait + Sync>(rt: &R, row: Row) -> Result<String> {
     let alloc = rt.alloc();
     let Row { calls, host, sink } = row;
     let mut hosts = hosts(rt, alloc, host, calls.len())?;
@@ -33,7 +34,7 @@ pub(crate) fn answer<R: AllocGlobal + Wait>(rt: &R, row: Row) -> Result<String> 
             out.push_str(" then ")?;
         }
         let before = sink.written().len();
-        let (status, starts) = made(alloc, words, &mut hosts, &mut sink)?;
+        let (status, starts) = made(rt, alloc, words, &mut hosts, &mut sink)?;
         write!(out, "{status}")?;
         add_written(alloc, &mut out, sink.written().get(before..).unwrap_or(&[]))?;
         if starts > 0 {
@@ -44,7 +45,8 @@ pub(crate) fn answer<R: AllocGlobal + Wait>(rt: &R, row: Row) -> Result<String> 
 }
 
 /// Makes a call on hosts of its own. Gives its exit status, and how many tasks it started.
-fn made<H: Host + Drop>(
+fn made<R: Threads + Wait + Sync, H: Host + Send + Drop>(
+    rt: &R,
     alloc: Global,
     words: &[String],
     hosts: &mut Vec<H>,
@@ -56,11 +58,12 @@ fn made<H: Host + Drop>(
     };
     let folder = Txt::of(String::from_str(alloc, "work/.cache")?);
     let keeper = FileKeeper::new(alloc, kept, folder);
-    main_with(alloc, words, &mut files, keeper, lanes, sink)
+    main_with(rt, alloc, words, &mut files, keeper, lanes, sink)
 }
 
 /// Makes a call with the program's functions.
-fn main_with<H: Host, K: Keeper + Drop, L: Lane + Drop, O: Sink>(
+fn main_with<R, H, K, L, O>(
+    rt: &R,
     alloc: Global,
     words: &[String],
     host: &mut H,
@@ -68,6 +71,14 @@ fn main_with<H: Host, K: Keeper + Drop, L: Lane + Drop, O: Sink>(
     lanes: Vec<L>,
     out: &mut O,
 ) -> Result<(u8, usize)>
+where
+    R: Threads + Wait + Sync,
+    H: Host,
+    K: Keeper + Send + Drop,
+    L: Lane + Send + Drop,
+    L::Done: Send,
+    L::Seen: Send,
+    O: Sink,
     requires count { length lanes.items ≡ 16 }
     requires room { All (λ l. L.runs l < 2 ^ 62) lanes.items }
 {
@@ -78,7 +89,7 @@ fn main_with<H: Host, K: Keeper + Drop, L: Lane + Drop, O: Sink>(
             ensures { AnswersNative (program_answer id args.entry.now) result }
         { program_native(alloc, id, args) },
     );
-    let end = nf_main(alloc, words, host, keeper, lanes, &natives, out);
+    let end = nf_main(rt, alloc, words, host, keeper, lanes, &natives, out);
     let starts = starts_in(&end.history);
     Ok((end.status, starts))
 }

@@ -16,12 +16,13 @@ mod text;
 
 use anyhow::Result;
 use std::sync::Wait;
+use std::thread::Threads;
 
 fn main(rt: HostRuntime) -> Result<()> {
     run(&rt)
 }
 
-fn run<R: AllocGlobal + Input + Print + Wait>(rt: &R) -> Result<()> {
+fn run<R: AllocGlobal + Input + Print + Threads + Wait + Sync>(rt: &R) -> Result<()> {
     for line in rt.lines(rt.alloc()) {
         let line = line?;
         print_line(rt, line.as_str())?;
@@ -30,7 +31,7 @@ fn run<R: AllocGlobal + Input + Print + Wait>(rt: &R) -> Result<()> {
 }
 
 /// Prints a row and what its calls give.
-fn print_line<R: AllocGlobal + Print + Wait>(rt: &R, line: &str) -> Result<()> {
+fn print_line<R: AllocGlobal + Print + Threads + Wait + Sync>(rt: &R, line: &str) -> Result<()> {
     if line.is_empty() || line.starts_with('#') {
         println!(rt; "{line}")?;
         return Ok(());

@@ -16,7 +16,7 @@ use Rattle.nf_ends.specs.Summary.{is_start, starts_in}
 use Rattle.nf_ends.specs.Writes.{IsKept, IsWritten, OnSinkFault}
 use Rattle.nf_owed.specs.Run.{Run, by_path, run_of}
 use Rattle.nf_owed.specs.Ended.{meant_by, state_after}
-use Rattle.nf_ran.specs.Ran.{RanPlan, begun_over}
+use Rattle.nf_ran.specs.Ran.{RanPlan, begun_over, runs_of}
 use Rattle.nf_request.specs.Wishes.{wish_for}
 use Rattle.nf_asked.specs.Request.{Request, refused, formats, accepts, runs, Comes}
 use Rattle.nf_asked.specs.Answers.{IsTextFor}
@@ -28,10 +28,11 @@ use Rattle.nf_carried.specs.Carried.{CarriedOut, Closes, with_outcome}
 use Rattle.nf_carried.specs.Table.{GoesWell, OwesRun, SinkRose, Wrote, output_of}
 use Rattle.nf_cli.specs.Scripts.{Script, Sources, IsRunOf}
 use Rattle.nf_cli.specs.Planned.{IsPlanFor}
-use Rattle.nf_cli.specs.Calls.{AsksFor, Call, IsRefused, IsWorkOf, RefusesRun, script_in}
+use Rattle.nf_cli.specs.Calls.{AsksFor, Call, IsRefused, IsWorkOf, RefusesRun, lanes_for, script_in}
+use Rattle.nf_cli.proofs.Lanes.{same_worlds, worlds_of}
 use Rattle.nf_cli.specs.Main.{CallEnds, Completes, Ends, NothingFailed, Ran, RanNothing, WroteMeaning, wrote, was_refused, ran}
 
--- ---- how often the first lane ran
+-- ---- how often the lanes ran, and the worlds that they tell
 
 same_start : (v : Event) → serial.is_start v ≡ is_start v
 same_start (e.Start t cause) = refl
@@ -41,29 +42,27 @@ same_starts : (h : List Event) → count_by serial.is_start h ≡ starts_in h
 same_starts h = ap (λ (p : Event → Bool). count_by p h) (λ i v. same_start v i)
 
 module _ (x : Call) (failed : Type 0) (before : Objects) {D S : Type 0} (done : Rules → D → Ending → Type 0) (seen : S → Ending → Type 0) (y : CallEnd D S) where
-  idle_runs : RanNothing before y → y.after.hands.lane.runs ≡ before.hands.lane.runs + starts_in y.history
+  idle_runs : RanNothing before y → runs_of y.after.hands.lanes ≡ runs_of before.hands.lanes + starts_in y.history
   idle_runs k =
-      let same : y.after.hands.lane.runs ≡ before.hands.lane.runs = ap (λ z. z.lane.runs) k.hands in
+      let same : runs_of y.after.hands.lanes ≡ runs_of before.hands.lanes = ap (λ z. runs_of z.lanes) k.hands in
       let none : starts_in y.history ≡ 0 = ap starts_in k.history in
       omega (arith, same, none)
 
-  ran_runs : Ran x before done seen y → y.after.hands.lane.runs ≡ before.hands.lane.runs + starts_in y.history
+  ran_runs : Ran x before done seen y → runs_of y.after.hands.lanes ≡ runs_of before.hands.lanes + starts_in y.history
   ran_runs r =
-      let goes = r.ran.goes in
-      let is : starts_in y.history ≡ starts_in goes.events = ap starts_in goes.history in
-      let same : count_by serial.is_start goes.events ≡ starts_in goes.events = same_starts goes.events in
-      let due : y.after.hands.lane.runs ≡ before.hands.lane.runs + count_by serial.is_start goes.events = goes.runs in
-      omega (arith, is, same, due)
+      let same : count_by serial.is_start y.history ≡ starts_in y.history = same_starts y.history in
+      let due : runs_of y.after.hands.lanes ≡ runs_of before.hands.lanes + count_by serial.is_start y.history = r.ran.lanes.runs in
+      omega (arith, same, due)
 
-  pub first_ran : Ends x failed before done seen y → y.after.hands.lane.runs ≡ before.hands.lane.runs + starts_in y.history
+  pub first_ran : Ends x failed before done seen y → runs_of y.after.hands.lanes ≡ runs_of before.hands.lanes + starts_in y.history
   first_ran (wrote text w k c) = idle_runs k
   first_ran (was_refused f w k c) = idle_runs k
   first_ran (ran r) = ran_runs r
 
-  pub first_told : Ends x failed before done seen y → y.after.hands.lane.world ≡ before.hands.lane.world
-  first_told (wrote text w k c) = ap (λ z. z.lane.world) k.hands
-  first_told (was_refused f w k c) = ap (λ z. z.lane.world) k.hands
-  first_told (ran r) = r.ran.world
+  pub first_told : Ends x failed before done seen y → worlds_of y.after.hands.lanes ≡ worlds_of before.hands.lanes
+  first_told (wrote text w k c) = ap (λ z. worlds_of z.lanes) k.hands
+  first_told (was_refused f w k c) = ap (λ z. worlds_of z.lanes) k.hands
+  first_told (ran r) = same_worlds before.hands.lanes y.after.hands.lanes r.ran.lanes.later
 
   -- ---- how it ends
 
@@ -72,7 +71,7 @@ module _ (x : Call) (failed : Type 0) (before : Objects) {D S : Type 0} (done : 
     history = k.history;
     dones = k.dones;
     seens = k.seens;
-    hands = λ i. record { keeper = k.keeper i; lane = k.lane i };
+    hands = λ i. record { keeper = k.keeper i; lanes = k.lanes i };
   }
 
   headline : (s : Script) {told : _} (sources : Sources s told) (run : Run) → IsRunOf s sources run → OwesRun run before y → WroteMeaning s sources run before y
@@ -82,14 +81,15 @@ module _ (x : Call) (failed : Type 0) (before : Objects) {D S : Type 0} (done : 
     wrote = λ ok. subst (λ (f : End). OnWritten before.sink y.after.sink (Wrote (output_of run y.history) (SinkRose before y.after) f)) ok owes.wrote;
   }
 
-  ran_script : (plan : _) (resume : Bool) (asks : AsksFor x) (it : IsPlanFor (script_in x asks) x.files plan) → resume ≡ (wish_for asks.command).resume
+  ran_script : (plan : _) (resume : Bool) (asks : AsksFor x) (it : IsPlanFor (script_in x asks) x.files plan) → resume ≡ (wish_for asks.command).resume → x.queue ≡ lanes_for asks.command
       → CarriedOut x.program (work.Run plan resume) before done seen y → Ran x before done seen y
-  ran_script plan resume asks it same k =
+  ran_script plan resume asks it same lanes k =
       let P : List Node → List NodeInfo → Bool → Type 0 =
-      λ graph infos again. RanPlan (begun_over x.program graph infos again before.hands.keeper before.hands.lane) done seen (with_outcome k.outcome y) in
+      λ graph infos again. RanPlan (begun_over x.program graph infos again before.hands.keeper before.hands.lanes) done seen (with_outcome k.outcome y) in
       let owes = k.owes it.made it.is_made in
       record {
         asks = asks;
+        workers = lanes;
         sources = it.sources;
         plan = it.made;
         is_plan = it.is_made.is_plan;
@@ -108,7 +108,7 @@ module _ (x : Call) (failed : Type 0) (before : Objects) {D S : Type 0} (done : 
       wrote text h (nothing k.outcome k.did.1) (subst (λ (r : Result Output End). Closes r before.sink y.after.sink y.end) k.did.0 k.closed)
   ends_of (work.Refuse f) h k =
       was_refused f h (nothing k.outcome k.did.1) (subst (λ (r : Result Output End). Closes r before.sink y.after.sink y.end) k.did.0 k.closed)
-  ends_of (work.Run plan resume) h k = ran (ran_script plan resume h.0 h.1 h.2 k)
+  ends_of (work.Run plan resume) h k = ran (ran_script plan resume h.0 h.1 h.2 h.3 k)
 
   -- ---- no call is refused without need
 

@@ -1,5 +1,5 @@
 -- What is left to do of a call.
-use Rattle.std.proofs.Common.{◌≡◌, Ok, sym, subst, inr, ◌∙◌}
+use Rattle.std.proofs.Common.{◌≡◌, ℕ, Ok, sym, subst, inr, ◌∙◌}
 use Rattle.std.specs.Prelude.{Bool}
 use Rattle.std.specs.declared.option.Option.{Option}
 use Rattle.nf_host.specs.Files.{Files}
@@ -17,7 +17,7 @@ use Rattle.nf_carried.specs.declared.work.Work.{Work}
 use Rattle.nf_carried.specs.declared.work.Work.TheVariants as work
 use Rattle.nf_cli.specs.Scripts.{Script}
 use Rattle.nf_cli.specs.Planned.{IsPlanFor, RefusesScript, script_of}
-use Rattle.nf_cli.specs.Calls.{AsksFor, GivesUpAs, HasPlainNames, IsRefused, IsRunWork, IsWorkAsked, IsWorkOf, call_of, script_in}
+use Rattle.nf_cli.specs.Calls.{AsksFor, GivesUpAs, HasPlainNames, IsRefused, IsRunWork, IsWorkAsked, IsWorkOf, call_of, lanes_for, script_in}
 use Rattle.nf_cli.proofs.Requests.{PlainNames, request_names, request_refuses}
 
 -- ---- the host is blamed in a longer time, too
@@ -33,10 +33,10 @@ run_blames x told failed later resume (work.Write text) longer h = h
 run_blames x told failed later resume (work.Refuse e) longer h = blames x told failed later e longer h
 run_blames x told failed later resume (work.Run plan again) longer h = h
 
-pub asked_blames : (n : Program) (told : Option Files) (failed later : Type 0) (a : Asked) (w : Work) → (failed → later) → IsWorkAsked n told failed a w
-    → IsWorkAsked n told later a w
-asked_blames n told failed later (asked.Write text) w longer h = h
-asked_blames n told failed later (asked.Run run) w longer h = run_blames (script_of n run) told failed later run.resume w longer h
+pub asked_blames : (n : Program) (told : Option Files) (failed later : Type 0) (a : Asked) (w : Work) (queue : ℕ) → (failed → later)
+    → IsWorkAsked n told failed a w queue → IsWorkAsked n told later a w queue
+asked_blames n told failed later (asked.Write text) w queue longer h = h
+asked_blames n told failed later (asked.Run run) w queue longer h = (run_blames (script_of n run) told failed later run.resume w longer h.0, h.1)
 
 -- ---- what a command line asks for
 
@@ -45,11 +45,11 @@ module _ (plain : PlainNames) where
   asked_names x (asked.Write text) h = tt
   asked_names x (asked.Run run) h = request_names plain h.is.is
 
-module _ (n : Program) (told : Option Files) (x : CommandLine) (failed : Type 0) where
-  abbrev asks_for : (run : AskedRun) → Runs (Comes x) run → AsksFor (call_of told n x)
+module _ (n : Program) (told : Option Files) (x : CommandLine) (queue : ℕ) (failed : Type 0) where
+  abbrev asks_for : (run : AskedRun) → Runs (Comes x) run → AsksFor (call_of told n x queue)
   asks_for run h = record { command = run.command; tree = (script_of n run).tree; params = run.params; only = h.is }
 
-  same_script : (run : AskedRun) (h : Runs (Comes x) run) → script_of n run ≡ script_in (call_of told n x) (asks_for run h)
+  same_script : (run : AskedRun) (h : Runs (Comes x) run) → script_of n run ≡ script_in (call_of told n x queue) (asks_for run h)
   same_script run h = λ i. record {
     tree = (script_of n run).tree;
     params = run.params;
@@ -59,23 +59,25 @@ module _ (n : Program) (told : Option Files) (x : CommandLine) (failed : Type 0)
   }
 
   -- a refusal of the script is one of the call
-  refusal_of_run : (run : AskedRun) (h : Runs (Comes x) run) (e : End) → GivesUpAs (script_of n run) told failed e → IsRefused (call_of told n x) failed e
+  refusal_of_run : (run : AskedRun) (h : Runs (Comes x) run) (e : End) → GivesUpAs (script_of n run) told failed e → IsRefused (call_of told n x queue) failed e
   refusal_of_run run h end.HostFault g = g
   refusal_of_run run h end.Mem g = tt
   refusal_of_run run h e g = inr (record { asks = asks_for run h; why = subst (λ (s : Script). RefusesScript s told e) (same_script run h) g })
 
-  work_of_run : (run : AskedRun) (h : Runs (Comes x) run) (w : Work) → IsRunWork (script_of n run) told failed run.resume w → IsWorkOf (call_of told n x) failed w
-  work_of_run run h (work.Write text) k = absurd k
-  work_of_run run h (work.Refuse e) k = refusal_of_run run h e k
-  work_of_run run h (work.Run plan resume) k = (
+  work_of_run : (run : AskedRun) (h : Runs (Comes x) run) (w : Work) → IsRunWork (script_of n run) told failed run.resume w → queue ≡ lanes_for run.command
+      → IsWorkOf (call_of told n x queue) failed w
+  work_of_run run h (work.Write text) k lanes = absurd k
+  work_of_run run h (work.Refuse e) k lanes = refusal_of_run run h e k
+  work_of_run run h (work.Run plan resume) k lanes = (
     asks_for run h,
     subst (λ (s : Script). IsPlanFor s told plan) (same_script run h) k.0,
     k.1 ∙ h.wish.resume,
+    lanes,
   )
 
-  pub work_answers : (a : Asked) (w : Work) → Answers (Comes x) (Ok a) → IsWorkAsked n told failed a w → IsWorkOf (call_of told n x) failed w
-  work_answers (asked.Write text) w h k = subst (IsWorkOf (call_of told n x) failed) (sym k) h
-  work_answers (asked.Run run) w h k = work_of_run run h w k
+  pub work_answers : (a : Asked) (w : Work) → Answers (Comes x) (Ok a) → IsWorkAsked n told failed a w queue → IsWorkOf (call_of told n x queue) failed w
+  work_answers (asked.Write text) w h k = subst (IsWorkOf (call_of told n x queue) failed) (sym k) h
+  work_answers (asked.Run run) w h k = work_of_run run h w k.0 k.1
 
 -- what the words and files come to is no end of a call that wrote an output
 pub refusal_is_one : (x : CommandLine) (e : End) → Refuses (Comes x) e → IsRefusal e

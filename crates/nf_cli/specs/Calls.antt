@@ -1,5 +1,5 @@
 -- What a call asks for, or how it is refused.
-use Rattle.std.specs.Prelude.{◌≡◌, ◌⊎◌, Bool}
+use Rattle.std.specs.Prelude.{◌≡◌, ◌⊎◌, ℕ, Bool, max, min}
 use Rattle.std.specs.declared.option.Option.{Option}
 use Rattle.nf_ast.specs.Tops.{view_script}
 use Rattle.nf_ast.specs.Tree.{Tree}
@@ -21,12 +21,17 @@ use Rattle.nf_carried.specs.declared.work.Work.TheVariants as work
 use Rattle.nf_cli.specs.Scripts.{Script}
 use Rattle.nf_cli.specs.Planned.{IsPlanFor, RefusesScript, script_of}
 
--- what a call is made with: the host's files, if it tells them, and the functions that the program adds; and its command
--- line with the files that this names
+-- what a call is made with: the host's files, if it tells them, and the functions that the program adds; its command line
+-- with the files that this names; and how many lanes it works with
 pub record Call : Type 0 where
   pub files : Option Files
   pub program : Program
   pub line : CommandLine
+  pub queue : ℕ
+
+-- as many as tasks may run at once
+abbrev pub lanes_for : Command → ℕ
+lanes_for c = max 1 (min (wish_for c).queue 16)
 
 -- it asks for the run of this script by this command, and for nothing else
 pub record AsksFor (x : Call) : Type 0 where
@@ -69,10 +74,11 @@ IsRunWork x told failed resume (work.Write text) = ⊥
 IsRunWork x told failed resume (work.Refuse e) = GivesUpAs x told failed e
 IsRunWork x told failed resume (work.Run plan again) = IsPlanFor x told plan × (again ≡ resume)
 
--- of what is asked for: a text that is written, or a script that is run
-abbrev pub IsWorkAsked : Program → Option Files → Type 0 → Asked → Work → Type 0
-IsWorkAsked n told failed (asked.Write text) w = w ≡ work.Write text
-IsWorkAsked n told failed (asked.Run run) w = IsRunWork (script_of n run) told failed run.resume w
+-- of what is asked for: a text that is written, or a script that is run on so many lanes
+abbrev pub IsWorkAsked : Program → Option Files → Type 0 → Asked → Work → ℕ → Type 0
+IsWorkAsked n told failed (asked.Write text) w queue = w ≡ work.Write text
+IsWorkAsked n told failed (asked.Run run) w queue =
+    IsRunWork (script_of n run) told failed run.resume w × (queue ≡ lanes_for run.command)
 
 -- no process or workflow of a script that is run has a name with a colon
 abbrev pub HasPlainNames : Asked → Type 0
@@ -81,8 +87,8 @@ HasPlainNames (asked.Run run) = NamesArePlain (definitions_of (view_script run.s
 
 -- ---- of a call
 
-abbrev pub call_of : Option Files → Program → CommandLine → Call
-call_of files program line = record { files = files; program = program; line = line }
+abbrev pub call_of : Option Files → Program → CommandLine → ℕ → Call
+call_of files program line queue = record { files = files; program = program; line = line; queue = queue }
 
 -- what its work is
 abbrev pub IsWorkOf : Call → Type 0 → Work → Type 0
@@ -90,3 +96,4 @@ IsWorkOf x failed (work.Write text) = Writes (Comes x.line) text
 IsWorkOf x failed (work.Refuse e) = IsRefused x failed e
 IsWorkOf x failed (work.Run plan resume) =
     (asks : AsksFor x) × IsPlanFor (script_in x asks) x.files plan × (resume ≡ (wish_for asks.command).resume)
+    × (x.queue ≡ lanes_for asks.command)

@@ -24,7 +24,7 @@ use Rattle.nf_carried.specs.Objects.{CallEnd, Objects, OnWritten}
 use Rattle.nf_carried.specs.Carried.{Closes, with_outcome}
 use Rattle.nf_carried.specs.Table.{GoesWell, NoneRose, OwesRun}
 use Rattle.nf_cli.specs.Scripts.{Script, Sources, IsRunOf, meaning_over}
-use Rattle.nf_cli.specs.Calls.{Call, AsksFor, IsRefused, RefusesRun, script_in}
+use Rattle.nf_cli.specs.Calls.{Call, AsksFor, IsRefused, RefusesRun, lanes_for, script_in}
 
 -- nothing was run
 pub record RanNothing (before : Objects) {D S : Type 0} (y : CallEnd D S) : Type 0 where
@@ -48,6 +48,8 @@ pub record WroteMeaning (x : Script) {told : Option Files} (s : Sources x told) 
 pub record Ran (x : Call) (before : Objects) {D S : Type 0} (done : Rules → D → Ending → Type 0)
     (seen : S → Ending → Type 0) (y : CallEnd D S) : Type 0 where
   pub asks : AsksFor x
+  -- on as many lanes as tasks may run at once
+  pub workers : x.queue ≡ lanes_for asks.command
   pub sources : Sources (script_in x asks) x.files
   pub plan : PlanBuilder
   pub is_plan : IsPlan plan
@@ -55,7 +57,7 @@ pub record Ran (x : Call) (before : Objects) {D S : Type 0} (done : Rules → D 
   pub outcome : Result Output End
   -- the history is lawful, and what lanes and keeper gave belongs to its events
   pub ran : RanPlan (begun_over x.program plan.nodes.items plan.infos.items (wish_for asks.command).resume
-      before.hands.keeper before.hands.lane) done seen (with_outcome outcome y)
+      before.hands.keeper before.hands.lanes) done seen (with_outcome outcome y)
   pub closed : Closes outcome before.sink y.after.sink y.end
   -- a row for each end, what was written, and when the call goes well
   pub owes : OwesRun (run_of x.program plan) before y

@@ -1,11 +1,11 @@
 //! `nf_main`, the whole program over the traits of what lies outside it.
 
-ghost use Rattle.std.specs.Prelude.{◌≡◌, ◌⊎◌, ◌+◌, ◌<◌, ◌≤◌, ◌^◌, All, length, map, string_bytes};
+ghost use Rattle.std.specs.Prelude.{◌≡◌, ◌⊎◌, ◌+◌, ◌<◌, ◌≤◌, ◌^◌, ℕ, All, length, map, string_bytes, take};
 ghost use Rattle.std.specs.List.{sum_by};
 ghost use Rattle.nf_ast.specs.Tops.{view_script};
 ghost use Rattle.nf_core.specs.Told.{IsDoneOf, IsSeenOf};
 ghost use Rattle.nf_host.specs.Faults.{Rose};
-ghost use Rattle.nf_serial.specs.Serial.{lane_now};
+ghost use Rattle.nf_pool.specs.Pool.{lanes_now};
 ghost use Rattle.nf_tasks.specs.Memory.{Program, program};
 ghost use Rattle.nf_meaning.specs.CallPaths.{NamesArePlain};
 ghost use Rattle.nf_meaning.specs.Script.{definitions_of};
@@ -15,9 +15,9 @@ ghost use Rattle.nf_ends.specs.declared.end.End.TheVariants as end;
 ghost use Rattle.nf_ends.specs.Summary.{starts_in};
 ghost use Rattle.nf_ran.specs.Ran.{IsPlanned, keeper_now};
 ghost use Rattle.nf_carried.specs.Carried.{IsDoable};
-ghost use Rattle.nf_carried.specs.Objects.{first_of, hands, objects, sink_now};
+ghost use Rattle.nf_carried.specs.Objects.{hands, objects, sink_now};
 ghost use Rattle.nf_carried.specs.declared.work.Work.TheVariants as work;
-ghost use Rattle.nf_cli.specs.Calls.{HasPlainNames, IsRunWork, IsWorkAsked, IsWorkOf, call_of};
+ghost use Rattle.nf_cli.specs.Calls.{HasPlainNames, IsRunWork, IsWorkAsked, IsWorkOf, call_of, lanes_for};
 ghost use Rattle.nf_cli.specs.Main.{CallEnds};
 ghost use Rattle.nf_cli.specs.Planned.{script_of};
 
@@ -25,6 +25,7 @@ use crate::plans::planned;
 use nf_asked::{Asked, AskedRun, asked};
 use nf_builtins::Natives;
 use nf_carried::{Work, carry_out};
+use nf_command::Command;
 use nf_ends::{End, NfEnd};
 use nf_host::{Host, Sink};
 use nf_keeper::Keeper;
@@ -33,21 +34,25 @@ use nf_plan::Plan;
 use nf_ran::publishes_nothing;
 use nf_spelled::laws::names_are_plain;
 use std::alloc::Global;
+use std::sync::Wait;
+use std::thread::Threads;
 
 /// How many lanes `nf_main` takes (own).
 pub const LANES: usize = 16;
 
-/// Does what a command line asks for (Nextflow documentation, "Command line", `run`; `fmt`, `check` and `gen` are own). `words` are
-/// those after the program's name.
+/// Does what a command line asks for (Nextflow documentation, "Command line", `run`; `fmt`, `check` and `gen` are own).
+/// `words` are those after the program's name.
 ///
-/// `run FILE` reads the script and its parameters, finds and stores the files of its sources, lowers it, runs its tasks on the
-/// first of the 16 lanes, and writes the report and the line after it to the sink, or one error line. `gen N START` does so with
-/// a script that it makes. `fmt FILE` writes the script's canonical text, `check FILE` the line `accepted`, or the error line of the
-/// first order rule that the script breaks; both run nothing. All lanes and the keeper are given back.
+/// `run FILE` reads the script and its parameters, finds and stores the files of its sources, lowers it, runs its tasks
+/// on as many of the 16 lanes as `-queue-size` says, at once, and writes the report and the line after it to the sink,
+/// or one error line. `gen N START` does so with a script that it makes. `fmt FILE` writes the script's canonical text,
+/// `check FILE` the line `accepted`, or the error line of the first order rule that the script breaks; both run nothing.
+/// All lanes and the keeper are given back, the lanes in their order.
 ///
-/// `natives` are the functions that the program adds to the language. What is said of a script's files and of written bytes is
-/// said over a host and a sink that reveal them. Any call may end by `End::Mem`; it wrote nothing then.
-pub fn nf_main<H: Host, K: Keeper, L: Lane, N: Natives, O: Sink>(
+/// `natives` are the functions that the program adds to the language. What is said of a script's files and of written
+/// bytes is said over a host and a sink that reveal them. Any call may end by `End::Mem`; it wrote nothing then.
+pub fn nf_main<H, K, L, N, O, T>(
+    rt: &T,
     alloc: Global,
     words: &[String],
     host: &mut H,
@@ -56,6 +61,15 @@ pub fn nf_main<H: Host, K: Keeper, L: Lane, N: Natives, O: Sink>(
     natives: &N,
     out: &mut O,
 ) -> NfEnd<L, K>
+where
+    H: Host,
+    K: Keeper + Send + Drop,
+    L: Lane + Send + Drop,
+    L::Done: Send,
+    L::Seen: Send,
+    N: Natives + Sync,
+    O: Sink,
+    T: Threads + Wait + Sync,
     requires natives { N.keeps natives.now }
     requires count { length lanes.items ≡ 16 }
     requires room { All (λ l. L.runs l < 2 ^ 62) lanes.items }
@@ -66,14 +80,16 @@ pub fn nf_main<H: Host, K: Keeper, L: Lane, N: Natives, O: Sink>(
     // The host's count of failures never falls, and it starts no child.
     ensures host_later { H.faults host.old ≤ H.faults host.new }
     ensures no_start { H.started host.new ≡ H.started host.old }
-    // Whatever the words and files come to, the call ends so (`CallEnds`): a text was written, the call was refused for its one
-    // cause, or a script was run. Then its history is lawful, its end is owed by what the script means under the outcomes
-    // that the history tells, and after Ok the report of that meaning was written. No call is refused without need.
+    // Whatever the words and files come to, the call ends so (`CallEnds`): a text was written, the call was refused for
+    // its one cause, or a script was run. Then its history is lawful, its end is owed by what the script means under
+    // the outcomes that the history tells, and after Ok the report of that meaning was written. No call is refused
+    // without need. The first lanes worked, as many as tasks may run at once.
     ensures ends { (line : CommandLine) × IsOver (map string_bytes words.now) (H.files host.old) line
-        × CallEnds (call_of (H.files host.old) (program (N.titles natives.now) (N.answer natives.now)) line)
+        × (queue : ℕ) × CallEnds
+        (call_of (H.files host.old) (program (N.titles natives.now) (N.answer natives.now)) line queue)
         (Rose (H.faults host.old) (H.faults host.new))
         (objects (hands (keeper_now (K.held keeper) (K.faults keeper))
-        (first_of (λ l. lane_now (L.runs l) (L.faults l) (L.world l) (L.store l)) lanes.items))
+        (lanes_now L.runs L.faults L.world L.store (take queue lanes.items)))
         (sink_now (O.written out.old) (O.faults out.old)))
         (IsDoneOf L.Done.genuine L.Done.job L.Done.told) (IsSeenOf L.Seen.genuine L.Seen.told)
         (record {
@@ -82,44 +98,81 @@ pub fn nf_main<H: Host, K: Keeper, L: Lane, N: Natives, O: Sink>(
           dones = result.kept.dones.items;
           seens = result.kept.seens.items;
           after = objects (hands (keeper_now (K.held result.keeper) (K.faults result.keeper))
-              (first_of (λ l. lane_now (L.runs l) (L.faults l) (L.world l) (L.store l)) result.lanes.items))
+              (lanes_now L.runs L.faults L.world L.store (take queue result.lanes.items)))
               (sink_now (O.written out.new) (O.faults out.new));
         }) }
 {
-    let work = work_of(alloc, words, host, natives);
-    carry_out(alloc, work, keeper, lanes, natives, out)
+    let Duty { work, queue } = duty_of(alloc, words, host, natives);
+    carry_out(rt, alloc, work, keeper, lanes, queue, natives, out)
+}
+
+/// What a call is to do, and with how many lanes.
+struct Duty {
+    work: Work,
+    queue: usize,
 }
 
 /// What a command line asks to be done.
-fn work_of<H: Host, N: Natives>(alloc: Global, words: &[String], host: &mut H, natives: &N) -> Work
+fn duty_of<H: Host, N: Natives>(alloc: Global, words: &[String], host: &mut H, natives: &N) -> Duty
     requires natives { N.keeps natives.now }
     ensures later { H.faults host.old ≤ H.faults host.new }
     ensures no_start { H.started host.new ≡ H.started host.old }
-    ensures doable { IsDoable (program (N.titles natives.now) (N.answer natives.now)) result }
+    ensures queue { (0 < result.queue) × (result.queue ≤ 16) }
+    ensures doable { IsDoable (program (N.titles natives.now) (N.answer natives.now)) result.work }
     ensures work { (line : CommandLine) × IsOver (map string_bytes words.now) (H.files host.old) line
-        × IsWorkOf (call_of (H.files host.old) (program (N.titles natives.now) (N.answer natives.now)) line)
-        (Rose (H.faults host.old) (H.faults host.new)) result }
+        × IsWorkOf (call_of (H.files host.old) (program (N.titles natives.now) (N.answer natives.now)) line result.queue)
+        (Rose (H.faults host.old) (H.faults host.new)) result.work }
 {
     names_are_plain();
     match asked(alloc, words, host) {
-        Ok(asked) => work_asked(alloc, host, asked, natives),
-        Err(end) => Work::Refuse(end),
+        Ok(asked) => duty_asked(alloc, host, asked, natives),
+        Err(end) => Duty {
+            work: Work::Refuse(end),
+            queue: 1,
+        },
     }
 }
 
 /// The same, once it is known what is asked for.
-fn work_asked<H: Host, N: Natives>(alloc: Global, host: &mut H, asked: Asked, natives: &N) -> Work
+fn duty_asked<H: Host, N: Natives>(alloc: Global, host: &mut H, asked: Asked, natives: &N) -> Duty
     requires natives { N.keeps natives.now }
     requires names { HasPlainNames asked }
     ensures later { H.faults host.old ≤ H.faults host.new }
     ensures no_start { H.started host.new ≡ H.started host.old }
-    ensures doable { IsDoable (program (N.titles natives.now) (N.answer natives.now)) result }
+    ensures queue { (0 < result.queue) × (result.queue ≤ 16) }
+    ensures doable { IsDoable (program (N.titles natives.now) (N.answer natives.now)) result.work }
     ensures work { IsWorkAsked (program (N.titles natives.now) (N.answer natives.now)) (H.files host.old)
-        (Rose (H.faults host.old) (H.faults host.new)) asked result }
+        (Rose (H.faults host.old) (H.faults host.new)) asked result.work result.queue }
 {
     match asked {
-        Asked::Write(text) => Work::Write(text),
-        Asked::Run(run) => run_work(alloc, host, &run, natives),
+        Asked::Write(text) => Duty {
+            work: Work::Write(text),
+            queue: 1,
+        },
+        Asked::Run(run) => {
+            let queue = queue_of(&run.command);
+            Duty {
+                work: run_work(alloc, host, &run, natives),
+                queue,
+            }
+        }
+    }
+}
+
+/// With how many lanes a command works: with as many as tasks may run at once.
+fn queue_of(command: &Command) -> usize
+    ensures { result ≡ lanes_for command.now }
+{
+    let queue = match command {
+        Command::Run(words) => words.queue,
+        Command::Gen { .. } | Command::Fmt { .. } | Command::Check { .. } => 4,
+    };
+    if queue == 0 {
+        1
+    } else if queue > 16 {
+        16
+    } else {
+        queue as usize
     }
 }
 

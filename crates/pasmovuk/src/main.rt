@@ -21,6 +21,8 @@ use nf_value::{Mem, Txt, Vals, Value};
 use std::alloc::{AllocError, Global};
 use std::process::{ExitCode, Processes};
 use std::rt::Files;
+use std::sync::Wait;
+use std::thread::Threads;
 use std::{env, io};
 
 /// What `--help` prints.
@@ -30,6 +32,7 @@ const HELP: &str = "pasmovuk: runs pipelines written in a subset of Nextflow DSL
     --NAME VALUE       sets a parameter; --NAME=VALUE does so too
     -params-file FILE  reads parameters from a JSON file; the command line wins
     -resume            takes tasks from earlier runs whose records and files are there
+    -queue-size N      runs at most N tasks at once, from 1 to 16; 4 without it (-qs is the same)
     -work-dir DIR      works in DIR; work without it (-w is the same)
   fmt FILE       prints the script in FILE in its canonical layout
   check FILE     says whether the script in FILE breaks a rule that keeps results from depending on order
@@ -86,7 +89,7 @@ fn main(rt: HostRuntime) -> ExitCode {
 
 /// Calls `nf_main`, and gives its exit status. Of a script that isn't accepted, it says on standard error why, and what to
 /// write instead; of a task that failed, where its folder is and what it wrote to standard error last.
-fn status<R: Eprint, H: Host, K: Keeper + Drop, L: Lane + Drop, N: Natives, O: Sink>(
+fn status<R, H, K, L, N, O>(
     rt: &R,
     alloc: Global,
     words: &[String],
@@ -96,11 +99,20 @@ fn status<R: Eprint, H: Host, K: Keeper + Drop, L: Lane + Drop, N: Natives, O: S
     natives: &N,
     out: &mut O,
 ) -> u8
+where
+    R: Eprint + Threads + Wait + Sync,
+    H: Host,
+    K: Keeper + Send + Drop,
+    L: Lane + Send + Drop,
+    L::Done: Send,
+    L::Seen: Send,
+    N: Natives + Sync,
+    O: Sink,
     requires natives { N.keeps natives.now }
     requires count { length lanes.items ≡ 16 }
     requires room { All (λ l. L.runs l < 2 ^ 62) lanes.items }
 {
-    let ended = nf_main(alloc, words, host, keeper, lanes, natives, out);
+    let ended = nf_main(rt, alloc, words, host, keeper, lanes, natives, out);
     match &ended.end {
         End::Order(Broken { rule, .. }) => {
             let _ = eprintln!(rt; "{}", advice(*rule));
