@@ -18,7 +18,7 @@ join() {
 statements() {
     awk -v count="$1" 'BEGIN {
         print "workflow {"
-        for (i = 0; i < count; i++) printf "    x%05d = [1 + 2 * 3, \"a%05d$projectDir\", [b: %05d]]\n", i, i, i
+        for (i = 0; i < count; i++) printf "  x%05d = [1 + 2, \"a%05d$projectDir\", [b: %05d]]\n", i, i, i
         print "}"
     }'
 }

@@ -1,8 +1,7 @@
 #!/bin/sh
-# Times the built program on 1,000 tasks, and a bare loop that starts the same 1,000 children one after another.
-# Then times the lane of shells, on a file system in memory: 1,000 tasks, and the loop of floor.c that does the same but for digests; 500 and 1,000
-# staged files, and as many outputs; a file of 256 MiB that is stored, and one that is read and digested; children with 512 MiB of memory held, and
-# with none. Prints the times, each the least of five runs, and their ratios.
+# Times, on a file system in memory, 1,000 tasks by the built program, one at a time, and by the lane of shells, beside the loop of floor.c, which does the
+# same but for digests. Then the lane of shells: 500 and 1,000 staged files, and as many outputs; a file of 256 MiB that is stored, and one that is read and
+# digested; children with 512 MiB of memory held, and with none. Prints the times, each the least of five runs, and their ratios.
 # shellcheck source=bench/common.sh
 . "$(dirname "$(readlink -f "$0")")/common.sh"
 find_program
@@ -14,24 +13,7 @@ awk 'BEGIN {
     print ")).view() }"
 }' >"$folder/tasks.nf"
 
-children() {
-    for i in $(seq 0 999); do
-        sh -ue -c "printf $((i * 7919 % 10007))" </dev/null
-    done
-}
-
-# both are timed in turn, so that a slow moment of the machine meets both
-for _ in $(seq 5); do
-    timed children >>"$folder/children"
-    timed "$program" run "$folder/tasks.nf" >>"$folder/tasks"
-done
-tail -n 1 "$folder/printed"
-awk -v a="$(least tasks)" -v b="$(least children)" 'BEGIN {
-    printf "1,000 tasks: %.0f ms; 1,000 children of a bare loop: %.0f ms\n", a / 1000, b / 1000
-    printf "ratio: %.2f (due: at most 1.3)\n", a / b
-}'
-
-# ---- the lane of shells
+# all on a file system in memory
 find_bench nf_bench
 memory=$(mktemp -d /dev/shm/tasks.XXXXXX)
 trap 'rm -rf "$folder" "$memory"' EXIT
@@ -45,6 +27,7 @@ anew() {
 
 for _ in $(seq 5); do
     anew "$folder/floor" 1000 >>"$folder/floor-times"
+    anew timed "$program" run "$folder/tasks.nf" -queue-size 1 >>"$folder/tasks"
     anew benched tasks 1000 >>"$folder/lane"
     anew benched digests 1000 >>"$folder/digests"
     anew benched staged 500 >>"$folder/staged-half"
@@ -65,6 +48,7 @@ done
 compared() {
     echo "$1: $(ms "$(least "$3")") ms; $2: $(ms "$(least "$4")") ms; ratio $(ratio "$(least "$3")" "$(least "$4")") (due: at most $5)"
 }
+compared "1,000 tasks by the program" "by a bare loop" tasks floor-times 1.3
 compared "1,000 tasks on the lane" "by a bare loop" lane floor-times 1.25
 echo "of these, 1,000 digests of outputs: $(ms "$(least digests)") ms"
 compared "1,000 staged files" "500" staged staged-half 2.2
