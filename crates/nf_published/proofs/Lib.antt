@@ -1,0 +1,5 @@
+pub mod Ended
+pub mod Meant
+pub mod Standing
+pub mod Histories
+pub mod Unpublished
