@@ -1,28 +1,21 @@
 -- Lists with the same files, each as often, clash alike.
-use Rattle.std.proofs.Common.{◌≡◌, ℕ, ◌+◌, ◌≤◌, List, [], ◌∷◌, Bool, true, false, refl, ap, sym, ◌∙◌, subst, arith, inl, inr}
-use Rattle.std.specs.Prelude.{◌⊎◌, ◌||◌, ◌&&◌, bytes_eq, count_by, Option, Some, None}
+use Rattle.std.proofs.Common.{◌≡◌, ℕ, ◌≤◌, List, [], ◌∷◌, Bool, true, false, ap, sym, ◌∙◌, arith, inl, inr}
+use Rattle.std.specs.Prelude.{◌||◌, ◌&&◌, bytes_eq, Option}
 use Rattle.std.specs.List.{list_any}
 use Rattle.std.proofs.lemmas.Bool.{cases_Bool, true≢false}
 use Rattle.nf_bag.specs.Bag.{IsSameBag}
 use Rattle.nf_bag.specs.Tests.{IsSameByTests}
 use Rattle.nf_opstream.proofs.Pushes.{same_bag}
 use Rattle.nf_opstream.proofs.Tally.{Same, count_is_passes, one_if, passes, same_map}
-use Rattle.nf_value.specs.Plain.{Plain, text}
+use Rattle.nf_value.specs.Plain.{text}
 use Rattle.nf_tasks.specs.declared.target_list.Target.{Target}
 use Rattle.nf_meaning.specs.Report.{publish_line, publish_texts}
 use Rattle.nf_publish.specs.declared.fault.Clash.{Clash}
-use Rattle.nf_publish.specs.declared.fault.PublishFault.{PublishFault}
-use Rattle.nf_publish.specs.declared.fault.PublishFault.TheVariants as fault
-use Rattle.nf_publish.specs.Report.{IsCause}
 use Rattle.nf_host.specs.Files.{Files}
 use Rattle.nf_publish.specs.Copies.{AreCopied, IsTrueOf, KeepsRest, is_target}
 use Rattle.nf_publish.specs.declared.fault.CopyRefusal.{CopyRefusal}
 use Rattle.nf_publish.specs.declared.fault.CopyRefusal.TheVariants as copy
 use Rattle.nf_publish.specs.Targets.{HaveOneContent, IsFirstClash, IsPublished}
-use Rattle.nf_ends.specs.declared.end.End.{End}
-use Rattle.nf_ends.specs.declared.end.End.TheVariants as end
-use Rattle.nf_ends.specs.Causes.{end_of_publishing}
-use Rattle.nf_owed.specs.Finished.{RefusesReport}
 
 pub by_tests : {A : Type 0} (a z : List A) → IsSameByTests a z → Same a z
 by_tests a z h = record { at = λ p. sym (count_is_passes p a) ∙ h.at p ∙ count_is_passes p z }
@@ -94,16 +87,7 @@ module _ (ts us : List Target) (same : Same ts us) where
   pub texts_same : IsSameBag (publish_texts ts) (publish_texts us)
   texts_same = same_bag (same_map (λ (t : Target). text (publish_line t)) same)
 
--- why there is no report, as an end
-cause_refuses : (ts : List Target) (f : PublishFault) → IsCause ts f → RefusesReport ts (end_of_publishing f)
-cause_refuses ts (fault.Clash c) h = h
-cause_refuses ts fault.Mem h = tt
-
-pub report_refused : (ts : List Target) (f : PublishFault) (e : End) → IsCause ts f → e ≡ end_of_publishing f → RefusesReport ts e
-report_refused ts f e cause same = subst (RefusesReport ts) (sym same) (cause_refuses ts f cause)
-
-pub memory_refused : (ts : List Target) (e : End) → e ≡ end.Mem → RefusesReport ts e
-memory_refused ts e same = subst (RefusesReport ts) (sym same) tt
+-- ---- what copying says of them
 
 pub copied_alike : (ts us : List Target) (g : Files) → IsSameByTests ts us → AreCopied ts g → AreCopied us g
 copied_alike ts us g same = copied_there ts us (by_tests ts us same) g

@@ -26,7 +26,7 @@ use Rattle.nf_ends.specs.declared.writes.Output.{Output}
 use Rattle.nf_ends.specs.declared.writes.Output.TheVariants as output
 use Rattle.nf_ends.specs.Summary.{summary, starts_in, reuses_in}
 use Rattle.nf_ends.specs.Stops.{end_by_stop}
-use Rattle.nf_owed.specs.Run.{Run, run_of}
+use Rattle.nf_owed.specs.Run.{Run}
 use Rattle.nf_owed.specs.declared.finished.Finished.{Finished}
 use Rattle.nf_owed.specs.Ended.{EndedWell, EndsByStop, IsFromOutside, meant_by}
 
