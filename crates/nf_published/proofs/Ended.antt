@@ -22,7 +22,7 @@ use Rattle.nf_machine.specs.Event.{PlainEvent, PlainStop, pass, taking, give, st
 use Rattle.nf_machine.specs.History.{Agrees, IsHistory, IsLawful, IsPrefix, after, all_closed, ended_well}
 use Rattle.nf_machine.specs.Legal.{IsLegal, IsProcessKind, FinishIsLegal, ReuseIsLegal, ReportIsLegal}
 use Rattle.nf_machine.specs.State.{Ended, Take, Ticket, Spot, State, attempt_of, instance, opened, opening}
-use Rattle.nf_machine.specs.Step.{Given, at_ticket, do_close, do_finish, do_give, do_pass, do_take, end_of, ended_on, give_push, limit, next_item, op_ends, op_gives, push_with, replay, step, take_at, ticket_at, without}
+use Rattle.nf_machine.specs.Step.{Given, at_ticket, do_close, do_finish, do_give, do_pass, end_of, ended_on, give_push, limit, next_item, op_ends, op_gives, push_with, replay, step, ticket_at, without}
 use Rattle.nf_machine.proofs.Ends.{history_good, opening_good, step_good}
 use Rattle.nf_machine.proofs.Faultless.{closed_at}
 use Rattle.nf_machine.proofs.Good.{FlightOk, Formed, Good, MadeOk, ProcessMade, TicketOk}

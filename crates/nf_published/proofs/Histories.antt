@@ -1,12 +1,10 @@
 -- What is read of a whole history, in memory.
-use Rattle.std.proofs.Common.{◌≡◌, ℕ, ◌+◌, ◌<◌, ◌≤◌, List, [], ◌∷◌, ◌++◌, map, length, get_or, drop, refl, ap, sym, ◌∙◌, subst}
-use Rattle.std.specs.Prelude.{Result, Ok, Err, OnOk}
+use Rattle.std.proofs.Common.{◌≡◌, ℕ, ◌+◌, ◌<◌, ◌≤◌, List, [], ◌∷◌, map, length, get_or, drop, ap, sym, ◌∙◌, subst}
 use Rattle.std.proofs.lemmas.List.{drop_more, drop_all}
-use Rattle.nf_value.specs.Plain.{Plain}
 use Rattle.nf_graph.specs.Rules.{Rules, IsRules}
 use Rattle.nf_machine.specs.declared.event.Event.{Event}
 use Rattle.nf_machine.specs.declared.event.Event.TheVariants as e
-use Rattle.nf_machine.specs.Event.{PlainEvent, event_of}
+use Rattle.nf_machine.specs.Event.{event_of}
 use Rattle.nf_machine.specs.History.{IsHistory}
 use Rattle.nf_flow.specs.Seen.{Seen, plain_of, events_of}
 use Rattle.nf_tasks.specs.declared.target_list.Target.{Target}

@@ -1,17 +1,13 @@
 -- What a run that ended well published is what its plan's graph means.
-use Rattle.std.proofs.Common.{◌≡◌, ℕ, zero, suc, ◌+◌, ◌<◌, ◌≤◌, List, [], ◌∷◌, ◌++◌, map, length, Bool, true, refl, ap, sym, ◌∙◌, subst, arith}
-use Rattle.std.specs.Prelude.{Option}
-use Rattle.std.specs.List.{flat_map}
+use Rattle.std.proofs.Common.{◌≡◌, ℕ, zero, suc, ◌<◌, ◌≤◌, List, length, Bool, true, refl, ap, sym, ◌∙◌, subst, arith}
 use Rattle.std.proofs.lemmas.List.{length-map}
 use Rattle.std.proofs.Math.ListN.{get_or-map}
-use Rattle.nf_value.specs.Plain.{Plain}
 use Rattle.nf_bag.specs.Tests.{IsSameByTests}
 use Rattle.nf_opstream.proofs.Tally.{passes, tally-append, one_if, count_is_passes}
 use Rattle.nf_tasks.specs.declared.target_list.Target.{Target}
-use Rattle.nf_graph.specs.declared.node.Node.{Node}
 use Rattle.nf_graph.specs.declared.node.NodeKind.{NodeKind}
 use Rattle.nf_graph.specs.declared.node.NodeKind.TheVariants as k
-use Rattle.nf_graph.specs.Node.{Kind, PlainNode, process, node_at, IsGraph}
+use Rattle.nf_graph.specs.Node.{PlainNode, node_at, IsGraph}
 use Rattle.nf_graph.specs.WellMade.{no_source, node_in, plain_kind, plain_node}
 use Rattle.nf_machine.specs.Event.{PlainEvent}
 use Rattle.nf_machine.specs.History.{Agrees, IsHistory, after, ended_well}

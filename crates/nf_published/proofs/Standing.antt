@@ -15,8 +15,8 @@ use Rattle.nf_opstream.proofs.Tally.{passes, one_if, tally-append}
 use Rattle.nf_graph.specs.Rules.{Rules, IsRules, Outs, last_attempt}
 use Rattle.nf_graph.specs.Node.{Kind, source, operator, process, PlainNode, node_at}
 use Rattle.nf_graph.specs.Meaning.{cost}
-use Rattle.nf_machine.specs.Event.{PlainEvent, PlainStop, pass, taking, give, start, finish, reuse, close, abort, halt}
-use Rattle.nf_machine.specs.Legal.{IsLegal, IsProcessKind, FinishIsLegal, ReuseIsLegal, ReportIsLegal}
+use Rattle.nf_machine.specs.Event.{PlainEvent, pass, taking, give, start, finish, reuse, close, abort, halt}
+use Rattle.nf_machine.specs.Legal.{IsProcessKind, FinishIsLegal, ReuseIsLegal, ReportIsLegal}
 use Rattle.nf_machine.specs.History.{IsLawful}
 use Rattle.nf_machine.specs.State.{Ticket, State, attempt_of, opening}
 use Rattle.nf_machine.specs.Step.{Given, at_ticket, do_close, do_finish, do_give, do_pass, give_push, limit, next_item, op_ends, op_gives, push_with, step, take_at, ticket_at, with_ticket, without}

@@ -1,5 +1,5 @@
 -- A process without a directive that publishes publishes no file.
-use Rattle.std.proofs.Common.{◌≡◌, ℕ, List, [], ◌∷◌, map, length, Bool, true, false, ap, subst, sym, take, refl}
+use Rattle.std.proofs.Common.{◌≡◌, ℕ, List, [], map, length, Bool, true, false, ap, subst, sym, take, refl}
 use Rattle.std.specs.Prelude.{Option, Some, None, Ok, Err, not, ◌==◌}
 use Rattle.std.proofs.lemmas.Bool.{eqb-true}
 use Rattle.std.proofs.lemmas.List.{nil_from_length}

@@ -1,4 +1,4 @@
-use Rattle.std.proofs.Common.{rules, ◌∙◌}
+use Rattle.std.proofs.Common.{◌∙◌}
 use Rattle.nf_bodies.specs.Bodies.{rules_of}
 use Rattle.nf_tasks.specs.Memory.{program}
 use Rattle.nf_published.specs.Published.{publishing_of}
