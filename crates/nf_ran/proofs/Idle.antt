@@ -9,7 +9,7 @@ use Rattle.nf_core.specs.Told.{Ending}
 use Rattle.nf_core.specs.Records.{Agrees}
 use Rattle.nf_ends.specs.declared.end.End.{End}
 use Rattle.nf_ends.specs.declared.end.End.TheVariants as end
-use Rattle.nf_ends.specs.declared.writes.Output.{Output}
+use Rattle.nf_owed.specs.declared.finished.Finished.{Finished}
 use Rattle.nf_ran.specs.Ran.{Began, KeeperNow, RanPlan, came_to, rules_for}
 
 same_held : (held : Option Held) → Both held held (λ m n. Agrees m [] n)
@@ -42,15 +42,15 @@ module _ (x : Began) {D S : Type 0} (done : Rules → D → Ending → Type 0) (
       later = omega arith;
       blamed = λ t there. absurd (let below = there.1 in omega arith);
     };
-    comes = λ b made. inr refl;
+    comes = λ b made. inr (inr refl);
     blamed = tt;
   }
 
-  pub ran_nothing : (h : List Event) (dones : List D) (seens : List S) (outcome : Result Output End) (keeper : KeeperNow) → h ≡ [] → dones ≡ [] → seens ≡ [] → outcome ≡ Err end.Mem → keeper ≡ x.keeper
+  pub ran_nothing : (h : List Event) (dones : List D) (seens : List S) (outcome : Result Finished End) (keeper : KeeperNow) → h ≡ [] → dones ≡ [] → seens ≡ [] → outcome ≡ Err end.Mem → keeper ≡ x.keeper
       → IsRules (rules_for x) → TellsApart (rules_for x) → RanPlan x done seen (came_to h dones seens outcome keeper x.lane)
   ran_nothing h dones seens outcome keeper none no_dones no_seens mem same are apart =
       let a = subst (λ (k : List Event). RanPlan x done seen (came_to k [] [] (Err end.Mem) x.keeper x.lane)) (sym none) (at_once are apart) in
       let b = subst (λ (ds : List D). RanPlan x done seen (came_to h ds [] (Err end.Mem) x.keeper x.lane)) (sym no_dones) a in
       let d = subst (λ (ss : List S). RanPlan x done seen (came_to h dones ss (Err end.Mem) x.keeper x.lane)) (sym no_seens) b in
-      let f = subst (λ (r : Result Output End). RanPlan x done seen (came_to h dones seens r x.keeper x.lane)) (sym mem) d in
+      let f = subst (λ (r : Result Finished End). RanPlan x done seen (came_to h dones seens r x.keeper x.lane)) (sym mem) d in
       subst (λ (k : KeeperNow). RanPlan x done seen (came_to h dones seens outcome k x.lane)) (sym same) f

@@ -2,4 +2,3 @@ pub mod Stopping
 pub mod Blaming
 pub mod Viewing
 pub mod Idle
-pub mod Publishing

@@ -20,7 +20,6 @@ use Rattle.nf_serial.specs.Serial.{LaneNow, Goes}
 use Rattle.nf_tasks.specs.Memory.{Program}
 use Rattle.nf_bodies.specs.declared.body.NodeInfo.{NodeInfo}
 use Rattle.nf_bodies.specs.Bodies.{rules_of}
-use Rattle.nf_meaning.specs.Given.{Outcomes}
 use Rattle.nf_plan.specs.declared.builder.PlanBuilder.{PlanBuilder}
 use Rattle.nf_owed.specs.Run.{run_of}
 use Rattle.nf_owed.specs.Finished.{ComesTo, IsRunOf}
@@ -56,15 +55,14 @@ module _ (F : Opening) {D S : Type 0} (done : D → Ending → Type 0) (seen : S
   keeper_rose : (z : Parts D S) → IsRun F done seen z → HasStop Keeper (plain_of z.flow) z.flow.history → Rose F.faults z.faults
   keeper_rose z r k = r.blamed k.ticket k.seen
 
-  -- a run of a plan that publishes nothing is one that its plan owes something of
+  -- a run of a plan is one that its plan owes something of
   is_run_of : (n : Program) (b : PlanBuilder) (infos : List NodeInfo) (z : Parts D S) → IsMade b F.graph infos → F.rules ≡ rules_of n infos
-      → ((o : Outcomes) → ((run_of n b).meaning o).targets ≡ []) → IsRun F done seen z → IsRunOf n b infos z.flow
-  is_run_of n b infos z made rules none r = record {
+      → IsRun F done seen z → IsRunOf n b infos z.flow
+  is_run_of n b infos z made rules r = record {
     plan = made.is_plan;
     graph = r.graph ∙ made.graph_is;
     infos_are = made.infos_are;
     lawful = subst (λ (R : Rules). IsHistory (plain_of z.flow) R (events_of z.flow)) (rules ∙ ap (rules_of n) made.infos_are) r.lawful;
-    unpublished = none;
   }
 
 -- how a run went on from its first event
@@ -110,17 +108,16 @@ module _ (n : Program) (old : Seen) (infos : List NodeInfo) (resume : Bool) (kee
   -- a run on one lane, with what it comes to
   pub ran_alone : (z : Seen) (R : Rules) (y : Came D S) → R ≡ rules_of n infos → old.history ≡ [] → y.history ≡ z.history → Goes old z lane y.lane → y.lane.world ≡ lane.world
       → IsRun (opening_under R) (done R) seen (parts_with z y) → IsPlanned old.graph infos
-      → ((b : PlanBuilder) → IsMade b old.graph infos → (o : Outcomes) → ((run_of n b).meaning o).targets ≡ [])
       → ((b : PlanBuilder) → IsRunOf n b infos z → ComesTo (run_of n b) z.history y.outcome)
       → RanPlan (begun_over n old.graph infos resume keeper lane) done seen y
-  ran_alone z R y same none history goes world run planned unpublished owed =
+  ran_alone z R y same none history goes world run planned owed =
       let due = rules_of n infos in
       let F : Opening = opening_under due in
       let is : IsRun F (done due) seen (parts_with z y) = subst (λ (Q : Rules). IsRun (opening_under Q) (done Q) seen (parts_with z y)) same run in
       let whole = with_graph F (done due) seen (parts_with z y) y.history history is in
       let went = from_begin old z y.history lane y.lane none history goes in
       let comes : (b : PlanBuilder) → IsMade b old.graph infos → ComesTo (run_of n b) y.history y.outcome =
-      λ b made. subst (λ (h : List Event). ComesTo (run_of n b) h y.outcome) (sym history) (owed b (is_run_of F (done due) seen n b infos (parts_with z y) made refl (unpublished b made) is)) in
+      λ b made. subst (λ (h : List Event). ComesTo (run_of n b) h y.outcome) (sym history) (owed b (is_run_of F (done due) seen n b infos (parts_with z y) made refl is)) in
       let b = planned.0 in
       let made = planned.1 in
       record {

@@ -1,18 +1,14 @@
 -- A run of a plan on one lane: what it began over, and what it came to.
-use Rattle.std.specs.Prelude.{◌≡◌, ◌==◌, ℕ, List, ◌∷◌, [], length, Bool, true, Result, IfErr}
+use Rattle.std.specs.Prelude.{◌≡◌, ℕ, List, ◌∷◌, [], Bool, Result, IfErr}
 use Rattle.std.specs.declared.option.Option.{Option}
-use Rattle.nf_value.specs.Plain.{Plain}
-use Rattle.nf_job.specs.declared.report.Report.{Report}
 use Rattle.nf_host.specs.Faults.{Rose}
 use Rattle.nf_keeper.specs.Held.{Held}
 use Rattle.nf_graph.specs.declared.node.Node.{Node}
 use Rattle.nf_graph.specs.Rules.{Rules}
 use Rattle.nf_machine.specs.declared.event.Event.{Event}
 use Rattle.nf_tasks.specs.Memory.{Program}
-use Rattle.nf_bodies.specs.declared.body.NodeBody.{NodeBody}
-use Rattle.nf_bodies.specs.declared.body.NodeBody.TheVariants as body
 use Rattle.nf_bodies.specs.declared.body.NodeInfo.{NodeInfo}
-use Rattle.nf_bodies.specs.Bodies.{body_in, published_of, rules_of}
+use Rattle.nf_bodies.specs.Bodies.{rules_of}
 use Rattle.nf_plan.specs.declared.builder.PlanBuilder.{PlanBuilder}
 use Rattle.nf_plan.specs.Plans.{IsPlan}
 use Rattle.nf_flow.specs.Seen.{Seen, begun}
@@ -22,9 +18,9 @@ use Rattle.nf_core.specs.Run.{Parts, IsRun}
 use Rattle.nf_serial.specs.Serial.{LaneNow, Goes}
 use Rattle.nf_ends.specs.declared.end.End.{End}
 use Rattle.nf_ends.specs.declared.end.End.TheVariants as end
-use Rattle.nf_ends.specs.declared.writes.Output.{Output}
+use Rattle.nf_owed.specs.declared.finished.Finished.{Finished}
 use Rattle.nf_owed.specs.Run.{run_of}
-use Rattle.nf_owed.specs.Finished.{ComesTo, PublishesNone}
+use Rattle.nf_owed.specs.Finished.{ComesTo}
 
 -- ---- plans that may be run
 
@@ -37,20 +33,6 @@ pub record IsMade (b : PlanBuilder) (graph : List Node) (infos : List NodeInfo) 
 -- some builder made it
 abbrev pub IsPlanned : List Node → List NodeInfo → Type 0
 IsPlanned graph infos = (b : PlanBuilder) × IsMade b graph infos
-
--- no report of a task of these nodes publishes a file, whatever it is
-abbrev pub PublishNone : Program → List NodeInfo → Type 0
-PublishNone n infos =
-    (i : ℕ) (inputs : List Plain) (attempt : ℕ) (r : Report)
-    → PublishesNone (published_of n (body_in infos i) inputs attempt r)
-
--- its process, if it has one, has no directive that publishes
-abbrev pub is_unpublished_body : NodeBody → Bool
-is_unpublished_body (body.Process s) = length s.publishes.items == 0
-is_unpublished_body _ = true
-
-abbrev pub is_unpublished : NodeInfo → Bool
-is_unpublished info = is_unpublished_body info.body
 
 -- ---- what a run begins over, and what it comes to
 
@@ -75,16 +57,16 @@ abbrev pub begun_over : Program → List Node → List NodeInfo → Bool → Kee
 begun_over n graph infos resume keeper lane =
     record { program = n; graph = graph; infos = infos; resume = resume; keeper = keeper; lane = lane }
 
--- the events, the lane's Dones and Seens, what is to be written, and the keeper and the lane
+-- the events, the lane's Dones and Seens, what is to be written and copied, and the keeper and the lane
 pub record Came (D S : Type 0) : Type 0 where
   pub history : List Event
   pub dones : List D
   pub seens : List S
-  pub outcome : Result Output End
+  pub outcome : Result Finished End
   pub keeper : KeeperNow
   pub lane : LaneNow
 
-abbrev pub came_to : {D S : Type 0} → List Event → List D → List S → Result Output End → KeeperNow → LaneNow → Came D S
+abbrev pub came_to : {D S : Type 0} → List Event → List D → List S → Result Finished End → KeeperNow → LaneNow → Came D S
 came_to h dones seens outcome keeper lane =
     record { history = h; dones = dones; seens = seens; outcome = outcome; keeper = keeper; lane = lane }
 

@@ -3,8 +3,6 @@
 
 mod on_lane;
 mod plan_run;
-mod unpublished;
 
 pub use on_lane::run_plan;
 pub use plan_run::PlanRun;
-pub use unpublished::publishes_nothing;

@@ -9,7 +9,7 @@ ghost use Rattle.nf_bodies.specs.Bodies.{rules_of};
 ghost use Rattle.nf_flow.specs.Seen.{begun};
 ghost use Rattle.nf_core.specs.Told.{IsDoneOf, IsSeenOf};
 ghost use Rattle.nf_serial.specs.Serial.{lane_now};
-ghost use Rattle.nf_ran.specs.Ran.{IsPlanned, PublishNone, RanPlan, begun_over, came_to, keeper_now};
+ghost use Rattle.nf_ran.specs.Ran.{IsPlanned, RanPlan, begun_over, came_to, keeper_now};
 
 use crate::plan_run::PlanRun;
 use nf_bodies::{NodeInfo, NodeRules};
@@ -27,11 +27,12 @@ use std::alloc::Global;
 use std::mem::replace;
 
 /// Runs a plan on one lane, on one thread, from its first event to its end (own). If the run resumes an earlier one,
-/// the keeper is asked for the records of its jobs. The plan is one of which no report publishes a file.
+/// the keeper is asked for the records of its jobs.
 ///
 /// The run is lawful, each of its finished tasks was run by the lane, and what it comes to is owed by what the plan
-/// means: the report of its views, or the end that names the stop. A lane or a keeper is blamed only if its count of
-/// failures rose. Without memory for the first event the history is empty, and the outcome `Mem`.
+/// means: its report and the files that it published, or the end that names why there are none. A lane or a keeper is
+/// blamed only if its count of failures rose. Without memory for the first event the history is empty, and the outcome
+/// `Mem`.
 pub fn run_plan<L: Lane, K: Keeper, N: Natives>(
     alloc: Global,
     plan: Plan,
@@ -42,7 +43,6 @@ pub fn run_plan<L: Lane, K: Keeper, N: Natives>(
 ) -> PlanRun<L, K>
     requires natives { N.keeps natives.now }
     requires planned { IsPlanned plan.graph plan.infos.items }
-    requires unpublished { PublishNone (program (N.titles natives.now) (N.answer natives.now)) plan.infos.items }
     requires runs { L.runs lane.old < 2 ^ 62 + 2 ^ 32 }
     ensures { RanPlan (begun_over (program (N.titles natives.now) (N.answer natives.now)) plan.graph plan.infos.items
         resume (keeper_now (K.held keeper) (K.faults keeper))
@@ -92,7 +92,6 @@ fn run_flow<L: Lane, K: Keeper, N: Natives>(
     requires begun { flow.history ≡ [] }
     requires natives { N.keeps natives.now }
     requires planned { IsPlanned flow.graph infos.now }
-    requires unpublished { PublishNone (program (N.titles natives.now) (N.answer natives.now)) infos.now }
     requires runs { L.runs lane.old < 2 ^ 62 + 2 ^ 32 }
     ensures { RanPlan (begun_over (program (N.titles natives.now) (N.answer natives.now)) flow.graph infos.now
         resume (keeper_now (K.held keeper) (K.faults keeper))
@@ -103,10 +102,9 @@ fn run_flow<L: Lane, K: Keeper, N: Natives>(
         (lane_now (L.runs lane.new) (L.faults lane.new) (L.world lane.new) (L.store lane.new))) }
 {
     plans_tell_apart();
-    nf_owed::laws::nothing_is_published();
     let rules = NodeRules::new(infos, natives);
     let (flow, kept, keeper) = run_alone(alloc, flow, keeper, lane, &rules, resume);
-    let outcome = end_of_run(alloc, infos, &flow);
+    let outcome = end_of_run(alloc, infos, natives, &flow);
     PlanRun {
         history: flow.into_history(),
         kept,

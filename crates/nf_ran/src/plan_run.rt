@@ -2,9 +2,10 @@
 
 ghost use Rattle.std.specs.Prelude.{◌≡◌, []};
 
-use nf_ends::{End, Output};
+use nf_ends::End;
 use nf_lane::{Kept, Lane};
 use nf_machine::Event;
+use nf_owed::Finished;
 use std::alloc::Global;
 
 /// A run of a plan that is over (own).
@@ -16,13 +17,13 @@ pub struct PlanRun<L: Lane, K> {
     pub kept: Kept<L>,
     /// The keeper of the run.
     pub keeper: K,
-    /// What is to be written, or the end that names why it stopped.
-    pub outcome: Result<Output, End>,
+    /// What is to be written and to be copied, or the end that names why nothing is.
+    pub outcome: Result<Finished, End>,
 }
 
 impl<L: Lane, K> PlanRun<L, K> {
-    /// What a call comes to that ran nothing. Takes no memory.
-    pub fn idle(alloc: Global, keeper: K, outcome: Result<Output, End>) -> PlanRun<L, K>
+    /// What a run comes to for whose first event there was no memory. Takes no memory.
+    pub(crate) fn idle(alloc: Global, keeper: K, outcome: Result<Finished, End>) -> PlanRun<L, K>
         ensures history { result.history.items ≡ [] }
         ensures dones { result.kept.dones.items ≡ [] }
         ensures seens { result.kept.seens.items ≡ [] }

@@ -1,11 +1,13 @@
-use Rattle.std.proofs.Common.{◌≡◌, List, sym, subst}
+use Rattle.std.proofs.Common.{◌≡◌, sym, subst}
+use Rattle.nf_graph.specs.Rules.{Rules}
+use Rattle.nf_machine.specs.History.{IsHistory}
+use Rattle.nf_flow.specs.Seen.{events_of, plain_of}
 use Rattle.nf_stored.specs.Attempts.{TellsApart}
 use Rattle.nf_tasks.specs.Memory.{program}
-use Rattle.nf_bodies.specs.declared.body.NodeInfo.{NodeInfo}
 use Rattle.nf_bodies.specs.Bodies.{rules_of}
 use Rattle.nf_core.specs.Told.{IsDoneOf, IsSeenOf}
 use Rattle.nf_serial.specs.Serial.{lane_now}
-use Rattle.nf_ran.specs.Ran.{PublishNone, keeper_now, came_to}
+use Rattle.nf_ran.specs.Ran.{keeper_now, came_to}
 use Rattle.nf_ran.proofs.Viewing.{ran_alone}
 use Rattle.nf_ran.proofs.on_lane.run_flow.Goals as goal
 
@@ -19,7 +21,12 @@ run_alone-flow-requires-clause-apart g c =
     subst TellsApart same of_infos
 
 pub end_of_run-outcome-requires-clause-lawful : goal.end_of_run-outcome-requires-clause-lawful
-end_of_run-outcome-requires-clause-lawful g c = record { rules = _; lawful = c.run_alone-flow.ensures.run.lawful }
+end_of_run-outcome-requires-clause-lawful g c =
+    let rules = c.new-rules.result in
+    let flow = c.run_alone-flow.result.0 in
+    let same : rules_of (program (g.N.Natives.titles rules.natives.now) (g.N.Natives.answer rules.natives.now)) rules.infos.now ≡ rules_of (program (g.N.Natives.titles c.args.natives.now) (g.N.Natives.answer c.args.natives.now)) c.args.infos.now =
+    λ i. rules_of (program (g.N.Natives.titles (c.new-rules.ensures.natives i)) (g.N.Natives.answer (c.new-rules.ensures.natives i))) (c.new-rules.ensures.infos i) in
+    subst (λ (R : Rules). IsHistory (plain_of flow) R (events_of flow)) same c.run_alone-flow.ensures.run.lawful
 
 pub returns : goal.returns
 returns g c =
@@ -38,5 +45,4 @@ returns g c =
     let y = came_to c.into_history.result.items c.run_alone-flow.result.1.dones.items c.run_alone-flow.result.1.seens.items outcome after lane_after in
     ran_alone n c.args.flow infos c.args.resume before lane (IsDoneOf g.L.Done.Finished.genuine g.L.Done.Finished.job g.L.Done.Finished.told) (IsSeenOf g.L.Seen.Present.genuine g.L.Seen.Present.told)
     c.run_alone-flow.result.0 meaning y same c.requires.begun c.into_history.ensures c.run_alone-flow.ensures.goes c.run_alone-flow.ensures.world c.run_alone-flow.ensures.run c.requires.planned
-    (λ b made. c.nothing_is_published.ensures n b (subst (λ (xs : List NodeInfo). PublishNone n xs) made.infos_are c.requires.unpublished))
-    (λ b of. c.end_of_run-outcome.ensures n b of)
+    (λ b of. c.end_of_run-outcome.ensures b of)

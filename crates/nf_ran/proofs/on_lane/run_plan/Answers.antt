@@ -1,21 +1,16 @@
-use Rattle.std.proofs.Common.{List, ap, sym, subst, ◌∙◌}
+use Rattle.std.proofs.Common.{List, ap, ◌∙◌}
 use Rattle.nf_graph.specs.declared.node.Node.{Node}
 use Rattle.nf_tasks.specs.Memory.{program}
 use Rattle.nf_bodies.specs.declared.body.NodeInfo.{NodeInfo}
 use Rattle.nf_core.specs.Told.{IsDoneOf, IsSeenOf}
 use Rattle.nf_serial.specs.Serial.{lane_now}
-use Rattle.nf_ran.specs.Ran.{IsPlanned, PublishNone, RanPlan, keeper_now, begun_over, came_to}
+use Rattle.nf_ran.specs.Ran.{IsPlanned, RanPlan, keeper_now, begun_over, came_to}
 use Rattle.nf_ran.proofs.Idle.{ran_nothing}
 use Rattle.nf_ran.proofs.Viewing.{from_nodes, to_nodes}
 use Rattle.nf_ran.proofs.on_lane.run_plan.Goals as goal
 
 pub run_flow-requires-clause-planned : goal.run_flow-requires-clause-planned
 run_flow-requires-clause-planned g c = to_nodes IsPlanned c.in-Ok.flow c.args.plan.graph c.args.plan.infos.items c.as_slice.result.now c.in-Ok.ensures.flow (c.as_slice.ensures.value ∙ ap (λ v. v.items) c.begin_flow.ensures.infos) c.requires.planned
-
-pub run_flow-requires-clause-unpublished : goal.run_flow-requires-clause-unpublished
-run_flow-requires-clause-unpublished g c =
-    let n = program (g.N.Natives.titles c.args.natives.now) (g.N.Natives.answer c.args.natives.now) in
-    subst (PublishNone n) (sym (c.as_slice.ensures.value ∙ ap (λ v. v.items) c.begin_flow.ensures.infos)) c.requires.unpublished
 
 pub returns-in-Ok : goal.returns-in-Ok
 returns-in-Ok g c =
