@@ -1,3 +1,4 @@
 pub mod Objects
+pub mod Copying
 pub mod Table
 pub mod Carried

@@ -1,10 +1,12 @@
 -- The objects that a call works with, and what it came to.
-use Rattle.std.specs.Prelude.{ℕ, List, [], ◌∷◌, IfSome}
+use Rattle.std.specs.Prelude.{ℕ, List, [], ◌∷◌, IfSome, Result}
 use Rattle.std.specs.declared.option.Option.{Option}
 use Rattle.std.specs.declared.option.Option.TheVariants.{None}
+use Rattle.nf_host.specs.Files.{Files}
 use Rattle.nf_machine.specs.declared.event.Event.{Event}
 use Rattle.nf_serial.specs.Serial.{LaneNow, lane_now}
 use Rattle.nf_ends.specs.declared.end.End.{End}
+use Rattle.nf_ends.specs.declared.writes.Output.{Output}
 use Rattle.nf_ran.specs.Ran.{KeeperNow}
 
 -- the first of some lanes; without a lane one that never ran
@@ -12,13 +14,22 @@ abbrev pub first_of : {L : Type 0} → (L → LaneNow) → List L → LaneNow
 first_of now [] = lane_now 0 0 None None
 first_of now (l ∷ ls) = now l
 
--- those that work: the keeper, and the lane that runs the tasks
+-- a host's files, if it tells them, and how often it failed
+pub record HostNow : Type 0 where
+  pub files : Option Files
+  pub faults : ℕ
+
+abbrev pub host_now : Option Files → ℕ → HostNow
+host_now files faults = record { files = files; faults = faults }
+
+-- those that work: the keeper, the lane that runs the tasks, and the host in which published files are copied
 pub record Hands : Type 0 where
   pub keeper : KeeperNow
   pub lane : LaneNow
+  pub host : HostNow
 
-abbrev pub hands : KeeperNow → LaneNow → Hands
-hands keeper lane = record { keeper = keeper; lane = lane }
+abbrev pub hands : KeeperNow → LaneNow → HostNow → Hands
+hands keeper lane host = record { keeper = keeper; lane = lane; host = host }
 
 -- what was written to a sink, if it tells that, and how often it failed
 pub record SinkNow : Type 0 where
@@ -41,7 +52,16 @@ OnWritten before after P = IfSome before.written (λ old. IfSome after.written (
 
 -- ---- what a call came to
 
--- its end, its events, the Dones and Seens of its lane, and the objects afterwards
+-- Of its work: the events, the Dones and Seens of its lane, what is to be written or the end of a refusal, and those that
+-- worked afterwards
+pub record Worked (D S : Type 0) : Type 0 where
+  pub history : List Event
+  pub dones : List D
+  pub seens : List S
+  pub outcome : Result Output End
+  pub after : Hands
+
+-- of the whole: its end, its events, the Dones and Seens of its lane, and the objects afterwards
 pub record CallEnd (D S : Type 0) : Type 0 where
   pub end : End
   pub history : List Event

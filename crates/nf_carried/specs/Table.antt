@@ -1,16 +1,23 @@
--- What a call owes that ran a plan: a row for each end, what was written, and when it goes well.
-use Rattle.std.specs.Prelude.{◌≡◌, ℕ, List, ◌++◌}
+-- What a call owes that ran a plan: a row for each end, what was written and copied, and when it goes well.
+use Rattle.std.specs.Prelude.{◌≡◌, ℕ, List, ◌++◌, IfSome}
 use Rattle.nf_host.specs.Faults.{Rose}
 use Rattle.nf_host.specs.Sink.{GrowsByFront}
+use Rattle.nf_shell.specs.Folder.{HasDigest}
+use Rattle.nf_tasks.specs.declared.target_list.Target.{Target}
 use Rattle.nf_machine.specs.declared.event.Event.{Event}
 use Rattle.nf_meaning.specs.Report.{report_of}
+use Rattle.nf_publish.specs.Copies.{IsTrueOf}
+use Rattle.nf_publish.specs.Targets.{HaveOneContent, IsPublished}
+use Rattle.nf_publish.specs.declared.fault.CopyRefusal.TheVariants as copy
 use Rattle.nf_ends.specs.declared.end.End.{End}
 use Rattle.nf_ends.specs.declared.end.End.TheVariants as end
 use Rattle.nf_ends.specs.Summary.{summary, starts_in, reuses_in}
 use Rattle.nf_ends.specs.Writes.{WroteLine}
 use Rattle.nf_owed.specs.Run.{Run}
 use Rattle.nf_owed.specs.Ended.{EndedWell, EndsByStop, IsFaultless, meant_by}
-use Rattle.nf_carried.specs.Objects.{CallEnd, Objects, OnWritten}
+use Rattle.nf_owed.specs.Finished.{Clashes}
+use Rattle.nf_carried.specs.Objects.{CallEnd, HostNow, Objects, OnWritten}
+use Rattle.nf_carried.specs.Copying.{KeepsFiles}
 
 -- ---- who failed
 
@@ -20,6 +27,9 @@ LaneRose before after = Rose before.hands.lane.faults after.hands.lane.faults
 abbrev pub KeeperRose : Objects → Objects → Type 0
 KeeperRose before after = Rose before.hands.keeper.faults after.hands.keeper.faults
 
+abbrev pub HostRose : Objects → Objects → Type 0
+HostRose before after = Rose before.hands.host.faults after.hands.host.faults
+
 abbrev pub SinkRose : Objects → Objects → Type 0
 SinkRose before after = Rose before.sink.faults after.sink.faults
 
@@ -27,19 +37,25 @@ SinkRose before after = Rose before.sink.faults after.sink.faults
 pub record NoneRose (before after : Objects) : Type 0 where
   pub lane : LaneRose before after → ⊥
   pub keeper : KeeperRose before after → ⊥
+  pub host : HostRose before after → ⊥
   pub sink : SinkRose before after → ⊥
 
 -- ---- the rows
 
 -- Of a run with this history. An end that names a stop has the stop's values, and the script's meaning has that fault;
--- an end that blames an object has a failure of it in the call. `Mem` is free
-abbrev pub Row : Run → List Event → Objects → Objects → End → Type 0
-Row run h before after end.Ok = EndedWell run h
-Row run h before after end.SinkFault = EndedWell run h × SinkRose before after
-Row run h before after end.LaneFault = EndsByStop run h end.LaneFault × LaneRose before after
-Row run h before after end.KeeperFault = EndsByStop run h end.KeeperFault × KeeperRose before after
-Row run h before after end.Mem = Unit {0}
-Row run h before after e = EndsByStop run h e
+-- an end that names a target or a digest is true of the files that the meaning publishes; an end that blames an object
+-- has a failure of it in the call. `Mem` is free
+abbrev pub Row : Run → List Event → List ℕ → Objects → Objects → End → Type 0
+Row run h folder before after end.Ok = EndedWell run h
+Row run h folder before after end.SinkFault = EndedWell run h × SinkRose before after
+Row run h folder before after end.HostFault = EndedWell run h × HostRose before after
+Row run h folder before after (end.Damaged due found) =
+    EndedWell run h × IsTrueOf folder (meant_by run h).targets after.hands.host.files (copy.Damaged due found)
+Row run h folder before after (end.PublishClash c) = Clashes run h c
+Row run h folder before after end.LaneFault = EndsByStop run h end.LaneFault × LaneRose before after
+Row run h folder before after end.KeeperFault = EndsByStop run h end.KeeperFault × KeeperRose before after
+Row run h folder before after end.Mem = Unit {0}
+Row run h folder before after e = EndsByStop run h e
 
 -- ---- what was written
 
@@ -53,17 +69,40 @@ Wrote output rose end.Ok before after = after ≡ before ++ output
 Wrote output rose end.SinkFault before after = GrowsByFront before output after
 Wrote output rose e before after = WroteLine e rose before after
 
+-- ---- what was copied
+
+-- No target has two contents. If the host tells its files, each target holds exactly the bytes that are published there,
+-- and all other files are as they were
+pub record AreInPlace (ts : List Target) (before after : HostNow) : Type 0 where
+  pub one : HaveOneContent ts
+  pub copied : IfSome after.files (λ g. (path digest : List ℕ) → IsPublished ts path digest → HasDigest (g path) digest)
+  pub others : KeepsFiles ts before after
+
+-- Before an output is written its files are in place. A call that ended while they were copied changed targets alone,
+-- and before that nothing was copied
+abbrev pub Published : List Target → HostNow → HostNow → End → Type 0
+Published ts before after end.Ok = AreInPlace ts before after
+Published ts before after end.SinkFault = AreInPlace ts before after
+Published ts before after end.HostFault = KeepsFiles ts before after
+Published ts before after (end.Damaged due found) = KeepsFiles ts before after
+Published ts before after end.Mem = KeepsFiles ts before after
+Published ts before after e = after ≡ before
+
 -- ---- the whole
 
--- the end of a run that nothing spoils
+-- The end of a run that neither an object nor a fault of the script spoils. Of two contents for one target, and of a
+-- stored file that isn't what was published, the row says that they are there
 abbrev pub GoesWell : End → Type 0
 GoesWell end.Ok = Unit {0}
+GoesWell (end.PublishClash c) = Unit {0}
+GoesWell (end.Damaged due found) = Unit {0}
 GoesWell end.Mem = Unit {0}
 GoesWell _ = ⊥
 
-pub record OwesRun (run : Run) (before : Objects) {D S : Type 0} (y : CallEnd D S) : Type 0 where
-  pub row : Row run y.history before y.after y.end
+pub record OwesRun (run : Run) (folder : List ℕ) (before : Objects) {D S : Type 0} (y : CallEnd D S) : Type 0 where
+  pub row : Row run y.history folder before y.after y.end
   pub wrote : OnWritten before.sink y.after.sink
       (Wrote (output_of run y.history) (SinkRose before y.after) y.end)
+  pub published : Published (meant_by run y.history).targets before.hands.host y.after.hands.host y.end
   -- if no object failed, and the script's meaning has no fault and costs no more than the limit, the call goes well
   pub complete : NoneRose before y.after → IsFaultless (meant_by run y.history) → GoesWell y.end

@@ -1,8 +1,9 @@
-//! What is left of a call once its words, files and script are read: a plan is run on a lane, and what that comes to is
-//! written.
+//! What is left of a call once its words, files and script are read: a plan is run on a lane, the files that it published
+//! are copied, and what that comes to is written.
 #![tactic(auto)]
 
 mod carry;
+mod copied;
 mod work;
 
 pub use carry::carry_out;

@@ -1,28 +1,52 @@
-use Rattle.std.proofs.Common.{ap, refl}
+use Rattle.std.proofs.Common.{ap}
 use Rattle.nf_tasks.specs.Memory.{program}
 use Rattle.nf_core.specs.Told.{IsDoneOf, IsSeenOf}
 use Rattle.nf_serial.specs.Serial.{lane_now}
-use Rattle.nf_ran.specs.Ran.{came_to, keeper_now}
-use Rattle.nf_carried.specs.Objects.{hands}
+use Rattle.nf_ran.specs.Ran.{keeper_now}
+use Rattle.nf_carried.specs.Objects.{Worked, hands, host_now}
 use Rattle.nf_carried.proofs.Closing.{did_refuse, did_write}
 use Rattle.nf_carried.proofs.carry.do_work.Goals as goal
 
-pub returns-in-Write : goal.returns-in-Write
-returns-in-Write g c =
+pub returns-in-Write-clause-did : goal.returns-in-Write-clause-did
+returns-in-Write-clause-did g c =
     let n = program (g.N.Natives.titles c.args.natives.now) (g.N.Natives.answer c.args.natives.now) in
     let r = c.idle.result in
     let lane = lane_now (g.L.Lane.runs c.args.lane.now) (g.L.Lane.faults c.args.lane.now) (g.L.Lane.world c.args.lane.now) (g.L.Lane.store c.args.lane.now) in
-    let before = hands (keeper_now (g.K.Keeper.held c.args.keeper) (g.K.Keeper.faults c.args.keeper)) lane in
-    let y = came_to r.history.items r.kept.dones.items r.kept.seens.items r.outcome (keeper_now (g.K.Keeper.held r.keeper) (g.K.Keeper.faults r.keeper)) lane in
+    let host = host_now (g.H.Host.files c.args.host.now) (g.H.Host.faults c.args.host.now) in
+    let before = hands (keeper_now (g.K.Keeper.held c.args.keeper) (g.K.Keeper.faults c.args.keeper)) lane host in
+    let y : Worked g.row.L-Done.Denot g.row.L-Seen.Denot = record {
+      history = r.history.items;
+      dones = r.kept.dones.items;
+      seens = r.kept.seens.items;
+      outcome = r.outcome;
+      after = hands (keeper_now (g.K.Keeper.held r.keeper) (g.K.Keeper.faults r.keeper)) lane host;
+    } in
     did_write n c.args.work (IsDoneOf g.L.Done.Finished.genuine g.L.Done.Finished.job g.L.Done.Finished.told) (IsSeenOf g.L.Seen.Present.genuine g.L.Seen.Present.told) before c.in-Write.text y c.in-Write.is c.idle.ensures.outcome
-    (record { history = c.idle.ensures.history; dones = c.idle.ensures.dones; seens = c.idle.ensures.seens; keeper = ap (λ k. keeper_now (g.K.Keeper.held k) (g.K.Keeper.faults k)) c.idle.ensures.keeper; lane = refl })
+    (record {
+      history = c.idle.ensures.history;
+      dones = c.idle.ensures.dones;
+      seens = c.idle.ensures.seens;
+      after = ap (λ k. hands (keeper_now (g.K.Keeper.held k) (g.K.Keeper.faults k)) lane host) c.idle.ensures.keeper;
+    })
 
-pub returns-in-Refuse : goal.returns-in-Refuse
-returns-in-Refuse g c =
+pub returns-in-Refuse-clause-did : goal.returns-in-Refuse-clause-did
+returns-in-Refuse-clause-did g c =
     let n = program (g.N.Natives.titles c.args.natives.now) (g.N.Natives.answer c.args.natives.now) in
     let r = c.idle-in-Refuse.result in
     let lane = lane_now (g.L.Lane.runs c.args.lane.now) (g.L.Lane.faults c.args.lane.now) (g.L.Lane.world c.args.lane.now) (g.L.Lane.store c.args.lane.now) in
-    let before = hands (keeper_now (g.K.Keeper.held c.args.keeper) (g.K.Keeper.faults c.args.keeper)) lane in
-    let y = came_to r.history.items r.kept.dones.items r.kept.seens.items r.outcome (keeper_now (g.K.Keeper.held r.keeper) (g.K.Keeper.faults r.keeper)) lane in
+    let host = host_now (g.H.Host.files c.args.host.now) (g.H.Host.faults c.args.host.now) in
+    let before = hands (keeper_now (g.K.Keeper.held c.args.keeper) (g.K.Keeper.faults c.args.keeper)) lane host in
+    let y : Worked g.row.L-Done.Denot g.row.L-Seen.Denot = record {
+      history = r.history.items;
+      dones = r.kept.dones.items;
+      seens = r.kept.seens.items;
+      outcome = r.outcome;
+      after = hands (keeper_now (g.K.Keeper.held r.keeper) (g.K.Keeper.faults r.keeper)) lane host;
+    } in
     did_refuse n c.args.work (IsDoneOf g.L.Done.Finished.genuine g.L.Done.Finished.job g.L.Done.Finished.told) (IsSeenOf g.L.Seen.Present.genuine g.L.Seen.Present.told) before c.in-Refuse.end y c.in-Refuse.is c.idle-in-Refuse.ensures.outcome
-    (record { history = c.idle-in-Refuse.ensures.history; dones = c.idle-in-Refuse.ensures.dones; seens = c.idle-in-Refuse.ensures.seens; keeper = ap (λ k. keeper_now (g.K.Keeper.held k) (g.K.Keeper.faults k)) c.idle-in-Refuse.ensures.keeper; lane = refl })
+    (record {
+      history = c.idle-in-Refuse.ensures.history;
+      dones = c.idle-in-Refuse.ensures.dones;
+      seens = c.idle-in-Refuse.ensures.seens;
+      after = ap (λ k. hands (keeper_now (g.K.Keeper.held k) (g.K.Keeper.faults k)) lane host) c.idle-in-Refuse.ensures.keeper;
+    })
