@@ -17,7 +17,7 @@ use Rattle.nf_carried.specs.declared.work.Work.{Work}
 use Rattle.nf_carried.specs.declared.work.Work.TheVariants as work
 use Rattle.nf_cli.specs.Scripts.{Script}
 use Rattle.nf_cli.specs.Planned.{IsPlanFor, RefusesScript, script_of}
-use Rattle.nf_cli.specs.Calls.{AsksFor, GivesUpAs, HasPlainNames, IsRefused, IsRunWork, IsWorkAsked, IsWorkOf, call_of, script_in}
+use Rattle.nf_cli.specs.Calls.{AsksFor, Call, GivesUpAs, HasPlainNames, IsRefused, IsRunWork, IsWorkAsked, IsWorkOf, call_of, script_in}
 use Rattle.nf_cli.proofs.Requests.{PlainNames, request_names, request_refuses}
 
 -- ---- the host is blamed in a longer time, too
@@ -31,12 +31,22 @@ run_blames : (x : Script) (told : Option Files) (failed later : Type 0) (resume 
     → IsRunWork x told later resume w
 run_blames x told failed later resume (work.Write text) longer h = h
 run_blames x told failed later resume (work.Refuse e) longer h = blames x told failed later e longer h
-run_blames x told failed later resume (work.Run plan again) longer h = h
+run_blames x told failed later resume (work.Run plan again folder) longer h = h
 
 pub asked_blames : (n : Program) (told : Option Files) (failed later : Type 0) (a : Asked) (w : Work) → (failed → later) → IsWorkAsked n told failed a w
     → IsWorkAsked n told later a w
 asked_blames n told failed later (asked.Write text) w longer h = h
 asked_blames n told failed later (asked.Run run) w longer h = run_blames (script_of n run) told failed later run.resume w longer h
+
+refused_blames : (x : Call) (failed later : Type 0) (e : End) → (failed → later) → IsRefused x failed e → IsRefused x later e
+refused_blames x failed later end.HostFault longer h = longer h
+refused_blames x failed later end.Mem longer h = tt
+refused_blames x failed later e longer h = h
+
+pub work_blames : (x : Call) (failed later : Type 0) (w : Work) → (failed → later) → IsWorkOf x failed w → IsWorkOf x later w
+work_blames x failed later (work.Write text) longer h = h
+work_blames x failed later (work.Refuse e) longer h = refused_blames x failed later e longer h
+work_blames x failed later (work.Run plan resume folder) longer h = h
 
 -- ---- what a command line asks for
 
@@ -67,10 +77,11 @@ module _ (n : Program) (told : Option Files) (x : CommandLine) (failed : Type 0)
   work_of_run : (run : AskedRun) (h : Runs (Comes x) run) (w : Work) → IsRunWork (script_of n run) told failed run.resume w → IsWorkOf (call_of told n x) failed w
   work_of_run run h (work.Write text) k = absurd k
   work_of_run run h (work.Refuse e) k = refusal_of_run run h e k
-  work_of_run run h (work.Run plan resume) k = (
+  work_of_run run h (work.Run plan resume folder) k = (
     asks_for run h,
     subst (λ (s : Script). IsPlanFor s told plan) (same_script run h) k.0,
     k.1 ∙ h.wish.resume,
+    k.2 ∙ h.wish.work,
   )
 
   pub work_answers : (a : Asked) (w : Work) → Answers (Comes x) (Ok a) → IsWorkAsked n told failed a w → IsWorkOf (call_of told n x) failed w

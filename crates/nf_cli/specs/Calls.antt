@@ -4,6 +4,9 @@ use Rattle.std.specs.declared.option.Option.{Option}
 use Rattle.nf_ast.specs.Tops.{view_script}
 use Rattle.nf_ast.specs.Tree.{Tree}
 use Rattle.nf_host.specs.Files.{Files}
+use Rattle.nf_host.specs.Told.{Both}
+use Rattle.nf_shell.specs.Places.{KeepsOrStores}
+use Rattle.nf_sources.specs.Sources.{scratch_in}
 use Rattle.nf_tasks.specs.Memory.{Program}
 use Rattle.nf_meaning.specs.CallPaths.{NamesArePlain}
 use Rattle.nf_meaning.specs.Script.{definitions_of}
@@ -12,7 +15,7 @@ use Rattle.nf_ends.specs.declared.end.End.{End}
 use Rattle.nf_ends.specs.declared.end.End.TheVariants as end
 use Rattle.nf_request.specs.Wishes.{Params, wish_for}
 use Rattle.nf_asked.specs.CommandLine.{CommandLine}
-use Rattle.nf_asked.specs.Request.{Request, refused, runs, Comes, folder_of}
+use Rattle.nf_asked.specs.Request.{refused, runs, Comes, folder_of}
 use Rattle.nf_asked.specs.Answers.{IsOnly, Writes}
 use Rattle.nf_asked.specs.declared.answer.Asked.{Asked}
 use Rattle.nf_asked.specs.declared.answer.Asked.TheVariants as asked
@@ -67,7 +70,8 @@ GivesUpAs x told failed e = RefusesScript x told e
 abbrev pub IsRunWork : Script → Option Files → Type 0 → Bool → Work → Type 0
 IsRunWork x told failed resume (work.Write text) = ⊥
 IsRunWork x told failed resume (work.Refuse e) = GivesUpAs x told failed e
-IsRunWork x told failed resume (work.Run plan again) = IsPlanFor x told plan × (again ≡ resume)
+IsRunWork x told failed resume (work.Run plan again folder) =
+    IsPlanFor x told plan × (again ≡ resume) × (folder ≡ x.work)
 
 -- of what is asked for: a text that is written, or a script that is run
 abbrev pub IsWorkAsked : Program → Option Files → Type 0 → Asked → Work → Type 0
@@ -88,5 +92,13 @@ call_of files program line = record { files = files; program = program; line = l
 abbrev pub IsWorkOf : Call → Type 0 → Work → Type 0
 IsWorkOf x failed (work.Write text) = Writes (Comes x.line) text
 IsWorkOf x failed (work.Refuse e) = IsRefused x failed e
-IsWorkOf x failed (work.Run plan resume) =
+IsWorkOf x failed (work.Run plan resume folder) =
     (asks : AsksFor x) × IsPlanFor (script_in x asks) x.files plan × (resume ≡ (wish_for asks.command).resume)
+    × (folder ≡ (script_in x asks).work)
+
+-- What was done so far to the host's files, if it tells them: for a text nothing; for a run the files of its sources
+-- were put into the file store of its work folder
+abbrev pub StoresFor : Work → Option Files → Option Files → Type 0
+StoresFor (work.Write text) before after = after ≡ before
+StoresFor (work.Refuse e) before after = Unit {0}
+StoresFor (work.Run plan resume folder) before after = Both before after (KeepsOrStores folder (scratch_in folder))

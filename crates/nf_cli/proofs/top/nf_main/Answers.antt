@@ -1,13 +1,15 @@
+use Rattle.std.proofs.Common.{arith}
 use Rattle.nf_host.specs.Faults.{Rose}
 use Rattle.nf_core.specs.Told.{IsDoneOf, IsSeenOf}
 use Rattle.nf_serial.specs.Serial.{LaneNow, lane_now}
 use Rattle.nf_tasks.specs.Memory.{program}
 use Rattle.nf_ends.specs.Summary.{starts_in}
 use Rattle.nf_ran.specs.Ran.{keeper_now}
-use Rattle.nf_carried.specs.Objects.{CallEnd, first_of, hands, objects, sink_now}
+use Rattle.nf_carried.specs.Objects.{CallEnd, first_of, hands, host_now, objects, sink_now}
 use Rattle.nf_cli.specs.Calls.{call_of}
 use Rattle.nf_cli.proofs.Lanes.{all_ran, all_told}
 use Rattle.nf_cli.proofs.Ending.{call_ends, first_ran, first_told}
+use Rattle.nf_cli.proofs.Working.{work_blames}
 use Rattle.nf_cli.proofs.top.nf_main.Goals as goal
 
 pub returns-clause-ends : goal.returns-clause-ends
@@ -15,7 +17,8 @@ returns-clause-ends g c =
     let n = program (g.N.Natives.titles c.args.natives.now) (g.N.Natives.answer c.args.natives.now) in
     let now : g.row.L.Denot → LaneNow = λ l. lane_now (g.L.Lane.runs l) (g.L.Lane.faults l) (g.L.Lane.world l) (g.L.Lane.store l) in
     let r = c.carry_out.result in
-    let before = objects (hands (keeper_now (g.K.Keeper.held c.args.keeper) (g.K.Keeper.faults c.args.keeper)) (first_of now c.args.lanes.items)) (sink_now (g.O.Sink.written c.args.out.now) (g.O.Sink.faults c.args.out.now)) in
+    let read = host_now (g.H.Host.files c.work_of-work.new.host) (g.H.Host.faults c.work_of-work.new.host) in
+    let before = objects (hands (keeper_now (g.K.Keeper.held c.args.keeper) (g.K.Keeper.faults c.args.keeper)) (first_of now c.args.lanes.items) read) (sink_now (g.O.Sink.written c.args.out.now) (g.O.Sink.faults c.args.out.now)) in
     let done = IsDoneOf g.L.Done.Finished.genuine g.L.Done.Finished.job g.L.Done.Finished.told in
     let seen = IsSeenOf g.L.Seen.Present.genuine g.L.Seen.Present.told in
     let y : CallEnd g.row.L-Done.Denot g.row.L-Seen.Denot = record {
@@ -23,19 +26,21 @@ returns-clause-ends g c =
       history = r.history.items;
       dones = r.kept.dones.items;
       seens = r.kept.seens.items;
-      after = objects (hands (keeper_now (g.K.Keeper.held r.keeper) (g.K.Keeper.faults r.keeper)) (first_of now r.lanes.items)) (sink_now (g.O.Sink.written c.carry_out.new.out) (g.O.Sink.faults c.carry_out.new.out));
+      after = objects (hands (keeper_now (g.K.Keeper.held r.keeper) (g.K.Keeper.faults r.keeper)) (first_of now r.lanes.items) (host_now (g.H.Host.files c.carry_out.new.host) (g.H.Host.faults c.carry_out.new.host))) (sink_now (g.O.Sink.written c.carry_out.new.out) (g.O.Sink.faults c.carry_out.new.out));
     } in
     let it = c.work_of-work.ensures.work in
     let x = call_of (g.H.Host.files c.args.host.now) n it.0 in
-    let failed = Rose (g.H.Host.faults c.args.host.now) (g.H.Host.faults c.work_of-work.new.host) in
-    (it.0, it.1, call_ends x failed before done seen y c.work_of-work.result it.2 c.carry_out.ensures.carried)
+    let sooner = Rose (g.H.Host.faults c.args.host.now) (g.H.Host.faults c.work_of-work.new.host) in
+    let failed = Rose (g.H.Host.faults c.args.host.now) (g.H.Host.faults c.carry_out.new.host) in
+    let longer : sooner → failed = λ h. omega (arith, h, c.carry_out.ensures.host_later) in
+    (it.0, it.1, read, c.work_of-work.ensures.later, call_ends x failed before done seen y c.work_of-work.result (work_blames x sooner failed c.work_of-work.result longer it.2) c.work_of-work.ensures.stored c.carry_out.ensures.carried)
 
 pub returns-clause-runs : goal.returns-clause-runs
 returns-clause-runs g c =
     let r = c.carry_out.result in
-    all_ran g.L.Lane.runs g.L.Lane.faults g.L.Lane.world g.L.Lane.store c.args.lanes.items r.lanes.items (starts_in r.history.items) c.requires.count c.carry_out.ensures.idle (first_ran _ _ _ _ _ _ (returns-clause-ends g c).2.ends)
+    all_ran g.L.Lane.runs g.L.Lane.faults g.L.Lane.world g.L.Lane.store c.args.lanes.items r.lanes.items (starts_in r.history.items) c.requires.count c.carry_out.ensures.idle (first_ran _ _ _ _ _ _ (returns-clause-ends g c).4.ends)
 
 pub returns-clause-worlds : goal.returns-clause-worlds
 returns-clause-worlds g c =
     let r = c.carry_out.result in
-    all_told g.L.Lane.runs g.L.Lane.faults g.L.Lane.world g.L.Lane.store c.args.lanes.items r.lanes.items c.requires.count c.carry_out.ensures.idle (first_told _ _ _ _ _ _ (returns-clause-ends g c).2.ends)
+    all_told g.L.Lane.runs g.L.Lane.faults g.L.Lane.world g.L.Lane.store c.args.lanes.items r.lanes.items c.requires.count c.carry_out.ensures.idle (first_told _ _ _ _ _ _ (returns-clause-ends g c).4.ends)
