@@ -1,5 +1,5 @@
 #!/bin/sh
-# Times, on a file system in memory, 1,000 tasks by the built program, one at a time, and by the lane of shells, beside the loop of floor.c, which does the
+# Times, on a file system in memory, 1,000 tasks by the built program, one at a time, 4 at once and resumed, and by the lane of shells, beside the loop of floor.c, which does the
 # same but for digests. Then the lane of shells: 500 and 1,000 staged files, and as many outputs; a file of 256 MiB that is stored, and one that is read and
 # digested; children with 512 MiB of memory held, and with none. Prints the times, each the least of five runs, and their ratios.
 # shellcheck source=bench/common.sh
@@ -28,6 +28,8 @@ anew() {
 for _ in $(seq 5); do
     anew "$folder/floor" 1000 >>"$folder/floor-times"
     anew timed "$program" run "$folder/tasks.nf" -queue-size 1 >>"$folder/tasks"
+    anew timed "$program" run "$folder/tasks.nf" -queue-size 4 >>"$folder/four"
+    (cd "$memory" && timed "$program" run "$folder/tasks.nf" -resume) >>"$folder/resumed"
     anew benched tasks 1000 >>"$folder/lane"
     anew benched digests 1000 >>"$folder/digests"
     anew benched staged 500 >>"$folder/staged-half"
@@ -49,6 +51,8 @@ compared() {
     echo "$1: $(ms "$(least "$3")") ms; $2: $(ms "$(least "$4")") ms; ratio $(ratio "$(least "$3")" "$(least "$4")") (due: at most $5)"
 }
 compared "1,000 tasks by the program" "by a bare loop" tasks floor-times 1.3
+echo "the same, 4 at once: $(ms "$(least four)") ms"
+compared "1,000 tasks resumed" "run by 4 workers" resumed four 0.1
 compared "1,000 tasks on the lane" "by a bare loop" lane floor-times 1.25
 echo "of these, 1,000 digests of outputs: $(ms "$(least digests)") ms"
 compared "1,000 staged files" "500" staged staged-half 2.2
