@@ -1,18 +1,17 @@
 -- Names after two arms, which have the same names in the same order.
-use Rattle.std.proofs.Common.{◌≡◌, ℕ, List, [], ◌∷◌, ◌++◌, sym, ap, ◌∙◌, append_assoc, inl, inr}
+use Rattle.std.proofs.Common.{◌≡◌, [], ◌∷◌, ◌++◌, length, reverse, refl, sym, ap, ◌∙◌, inl, inr}
 use Rattle.std.specs.Prelude.{◌⊎◌}
-use Rattle.std.proofs.lemmas.List.{append-nil}
-use Rattle.nf_kinds.specs.Kinds.{Shaped, merged}
+use Rattle.std.proofs.lemmas.List.{append-nil, nil_from_length}
 use Rattle.nf_kinds.specs.Scope.{Bindings, aligned}
 
-pub aligned_more : (out new xs bs xs' bs' all : Bindings) (a b : List ℕ × Shaped) → xs ≡ a ∷ xs' → bs ≡ b ∷ bs' → new ≡ out ++ (a.0, merged a.1 b.1) ∷ [] → out ++ aligned xs bs ≡ all → new ++ aligned xs' bs' ≡ all
-aligned_more out new xs bs xs' bs' all a b e f g inv =
-    ap (λ v. v ++ aligned xs' bs') g
-    ∙ append_assoc out ((a.0, merged a.1 b.1) ∷ []) (aligned xs' bs')
-    ∙ ap (λ v. out ++ v) (sym (ap (λ v. aligned v bs) e ∙ ap (aligned (a ∷ xs')) f))
-    ∙ inv
+aligned_nil : (xs : Bindings) → aligned xs [] ≡ []
+aligned_nil [] = refl
+aligned_nil (x ∷ xs) = refl
 
-pub aligned_end : (out xs bs all : Bindings) → (xs ≡ []) ⊎ (bs ≡ []) → out ++ aligned xs bs ≡ all → out ≡ all
-aligned_end out xs bs all (inl e) inv = sym (ap (λ v. out ++ aligned v bs) e ∙ append-nil out) ∙ inv
-aligned_end out [] bs all (inr f) inv = sym (append-nil out) ∙ inv
-aligned_end out (a ∷ xs) bs all (inr f) inv = sym (ap (λ v. out ++ aligned (a ∷ xs) v) f ∙ append-nil out) ∙ inv
+-- where one of the two has no more names
+none_aligned : (xs bs : Bindings) → (length xs ≡ 0) ⊎ (length bs ≡ 0) → aligned (reverse xs) (reverse bs) ≡ []
+none_aligned xs bs (inl h) = ap (λ v. aligned (reverse v) (reverse bs)) (nil_from_length xs h)
+none_aligned xs bs (inr h) = ap (λ v. aligned (reverse xs) (reverse v)) (nil_from_length bs h) ∙ aligned_nil (reverse xs)
+
+pub aligned_end : (out xs bs all : Bindings) → (length xs ≡ 0) ⊎ (length bs ≡ 0) → out ++ aligned (reverse xs) (reverse bs) ≡ all → out ≡ all
+aligned_end out xs bs all h inv = sym (ap (λ v. out ++ v) (none_aligned xs bs h) ∙ append-nil out) ∙ inv

@@ -1,3 +1,4 @@
 pub mod Firsts
 pub mod Aligned
-pub mod Rebound
+pub mod Latest
+pub mod NamesLeft

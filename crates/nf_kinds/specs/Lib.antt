@@ -2,6 +2,8 @@ pub mod Texts
 pub mod Fault
 pub mod Kinds
 pub mod Scope
+pub mod Bindings
+pub mod HalfBound
 pub mod Walk
 pub mod Facts
 pub mod Args

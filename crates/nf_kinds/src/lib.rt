@@ -3,7 +3,9 @@
 #![tactic(auto)]
 
 mod args;
+mod bindings;
 mod fault;
+mod half_bound;
 mod kinds;
 mod scope;
 

@@ -28,3 +28,7 @@ last_depth (Some ss) = most size-Stmt ss
 pub choice_weighs : (arms : Vec Arm Global) (last : Option (Vec Stmt Global)) → suc (max (most size-Arm arms.items) (last_depth (option_map (λ v. v.items) last))) ≤ size-Stmt (stmt.Choice arms last)
 choice_weighs arms None = search (rules, the_lemmas)
 choice_weighs arms (Some v) = search (rules, the_lemmas)
+
+-- an arm is as deep as its statements, or deeper
+pub arm_weighs : (x : Arm) → most size-Stmt x.body.items ≤ size-Arm x
+arm_weighs x = search (rules, the_lemmas)

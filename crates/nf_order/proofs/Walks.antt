@@ -6,6 +6,9 @@ use Rattle.nf_kinds.specs.Scope.{Scope}
 use Rattle.nf_kinds.specs.Walk.{Out, came, Walk, after, then_by, ◌>>=◌, gives}
 use Rattle.nf_order.specs.declared.around.State.{State}
 use Rattle.nf_order.specs.Standing.{Gives, Leads}
+use Rattle.std.specs.Prelude.{ℕ, Option}
+use Rattle.nf_kinds.specs.declared.kinds.Kinds.{Kinds}
+use Rattle.nf_order.specs.Accepted.{ended}
 
 pub after_none : {A : Type 0} (o : Out A) → after [] o ≡ o
 after_none (came x s fs) = refl
@@ -16,6 +19,13 @@ after_twice fs gs (came x s hs) = ap (λ l. came x s l) (sym (append_assoc fs gs
 -- what follows a part comes after what was broken before it
 pub after_then : {A B : Type 0} (fs : List Broken) (f : A → Walk B) (o : Out A) → after fs (then_by f o) ≡ then_by f (after fs o)
 after_then fs f (came x s gs) = after_twice fs gs (f x s)
+
+abbrev broken_in : {A : Type 0} → Out A → List Broken
+broken_in (came x s fs) = fs
+
+-- what is broken at the end of a body stands behind what was broken before
+pub ended_broken : (before : List Broken) (o : Out (List (Option (List ℕ) × Kinds))) (x : List (Option (List ℕ) × Kinds)) (s : Scope) (all : List Broken) → after before o ≡ came x s all → all ≡ before ++ (ended o).broken
+ended_broken before (came y t gs) x s all e = sym (ap broken_in e)
 
 pub then_twice : {A B C : Type 0} (f : A → Walk B) (g : B → Walk C) (o : Out A) → then_by g (then_by f o) ≡ then_by (λ x. f x >>= g) o
 then_twice f g (came x s fs) = sym (after_then fs g (f x s))

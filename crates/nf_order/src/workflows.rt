@@ -5,6 +5,7 @@ ghost use Rattle.nf_ast.specs.Tops.{maybe, view_emit, view_emits, view_take, vie
 ghost use Rattle.nf_ast.specs.View.{names as names_tree, trees};
 ghost use Rattle.nf_placed.specs.Body.{names_in};
 ghost use Rattle.nf_slips.specs.Definitions.{emits_in, taken_by as taken_by_of, taken_in};
+ghost use Rattle.nf_kinds.specs.Scope.{started};
 ghost use Rattle.nf_order.specs.Accepted as spec;
 ghost use Rattle.nf_order.specs.Memory.{run_in};
 ghost use Rattle.nf_order.specs.Standing.{Gives, around_of, outputs_by, taken_kind};
@@ -30,9 +31,10 @@ pub(crate) fn run(
     ensures broken { OnOk result (broken.new.items ≡ broken.old.items
         ++ (run_in around.now workflow.now args.now).broken) }
 {
+    let scope = begun(workflow, args, around)?;
     let earlier = std::mem::replace(broken, Vec::new(around.alloc));
     let mut state = State {
-        scope: BodyScope::started(around.alloc, taken(workflow, args, around)?),
+        scope,
         broken: earlier,
     };
     let outputs = statements_and_emits(workflow, around, &mut state)?;
@@ -64,6 +66,14 @@ fn statements_and_emits(
             emits(&parts.emit, around, state)
         }
     }
+}
+
+/// The scope at the start of a workflow's body: the names that it takes.
+fn begun(workflow: &WorkflowBody, args: &[Given], around: &Around<'_>) -> Result<BodyScope, Mem>
+    ensures { IfOk result (λ s. s ≡ started (spec.taken_with (taken_by_of (view_workflow_body workflow.now)) args.now)) }
+{
+    let names = taken(workflow, args, around)?;
+    BodyScope::started(around.alloc, names)
 }
 
 /// The names that a workflow takes, each with the argument at its place.

@@ -37,7 +37,7 @@ fn closures_are_asked(rt: HostRuntime) -> Result<(), Fail> {
 fn operators_give_kinds(rt: HostRuntime) -> Result<(), Fail> {
     let alloc = rt.alloc();
     let queue = Kinds::channel(true);
-    let mut scope = BodyScope::started(alloc, Vec::new(alloc));
+    let mut scope = BodyScope::started(alloc, Vec::new(alloc))?;
     let mut broken = Vec::new(alloc);
     assert!(rt; is_queue_source("fromPath"));
     assert_eq!(rt; source_call("of", &[]), queue);
@@ -56,7 +56,7 @@ fn processes_have_outputs(rt: HostRuntime) -> Result<(), Fail> {
     let args = two_queues(alloc)?;
     assert!(rt; any_queue(&args));
     assert!(rt; !any_unknown(&args));
-    let mut scope = BodyScope::started(alloc, Vec::new(alloc));
+    let mut scope = BodyScope::started(alloc, Vec::new(alloc))?;
     let mut broken = Vec::new(alloc);
     let names = Vec::new(alloc);
     let shape = process_call(alloc, PLACE, &name, names, &args, &mut scope, &mut broken)?;

@@ -9,7 +9,7 @@ use std::test::Fail;
 fn body(alloc: Global) -> Result<BodyScope, Fail> {
     let mut names = Vec::new(alloc);
     names.push((txt(alloc, "x")?, Shape::alone(Kinds::channel(true))))?;
-    let mut scope = BodyScope::started(alloc, names);
+    let mut scope = BodyScope::started(alloc, names)?;
     scope.define(&txt(alloc, "y")?, Shape::alone(Kinds::plain()))?;
     let mut others = Vec::new(alloc);
     others.push((PLACE, txt(alloc, "z")?))?;

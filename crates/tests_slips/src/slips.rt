@@ -87,7 +87,7 @@ fn closures_are_judged(rt: HostRuntime) -> Result<(), Fail> {
     let Form::Closure(closure) = read_form(&read) else {
         return Err(Fail::from("no closure"));
     };
-    let scope = BodyScope::started(rt.alloc(), Vec::new(rt.alloc()));
+    let scope = BodyScope::started(rt.alloc(), Vec::new(rt.alloc()))?;
     let mut broken = Vec::new(rt.alloc());
     add_shared(rt.alloc(), closure, &mut broken)?;
     add_shared_in(rt.alloc(), &read, &mut broken)?;

@@ -7,9 +7,12 @@ use Rattle.nf_order.proofs.Entering.{called_as, called_head, in_if, unknown_ther
 use Rattle.nf_builtins.specs.Natives.{is_among}
 use Rattle.nf_kinds.specs.declared.args.Given.{Given}
 use Rattle.nf_opkinds.specs.Operators.{Call}
-use Rattle.nf_order.specs.Accepted.{around, entered_with, emitted, emitted_one}
+use Rattle.nf_order.specs.Accepted.{around, ended, entered_with, emitted, emitted_one, taken_with}
+use Rattle.nf_slips.specs.Definitions.{taken_by}
+use Rattle.nf_kinds.specs.Scope.{started}
+use Rattle.nf_order.specs.Standing.{outputs_by}
 use Rattle.nf_order.specs.Standing.{led_from, around_of, after_operands, rest, Gives, Stands, plain_subject, uncalled, chain_of, IsRead, after_operand, option_name, call_now, after_parts, IsCalledBy, after_index, is_task}
-use Rattle.nf_order.proofs.Walks.{if_ok, maps}
+use Rattle.nf_order.proofs.Walks.{ended_broken, if_ok, maps}
 use Rattle.nf_order.proofs.Ways.{either_gives}
 use Rattle.nf_order.proofs.Chaining.{operands_step, infix_result, postfix_result, prefix_some, same_result, joined_stands, no_pipe, operand_as, piped_stands, parts_step}
 use Rattle.std.proofs.lemmas.List.{nil_from_length}
@@ -34,7 +37,7 @@ use Rattle.nf_ast.specs.declared.expr.Branch.{size-Branch}
 use Rattle.nf_ast.specs.declared.expr.Arm.{size-Arm}
 use Rattle.nf_ast.specs.declared.expr.Stmt.{size-Stmt}
 use Rattle.nf_slips.specs.Memory.{body_depth, depth, emit_depth, emits_depth, section_depth, weight}
-use Rattle.nf_order.proofs.Ending.{choice_weighs, depth_is, emit_at, last_depth}
+use Rattle.nf_order.proofs.Ending.{arm_weighs, choice_weighs, depth_is, emit_at, last_depth}
 use Rattle.nf_slips.specs.Definitions as definition
 use Rattle.nf_ast.specs.Tree as tree
 use Rattle.nf_order.specs.declared.subject.Head.TheVariants as heads
@@ -659,3 +662,28 @@ stmts::stmt-choice-requires t0 c =
     let falls : (max (most size-Arm arms) last + weight r.tops.now r.within.now) * 1180591620717411303424 + length arms * 64 + 28 < t0 =
     omega (arith, deep, same, long, p.arms.ok.0, p.arms.ok.1, p.arms.small, c.decreases) in
     (falls, tt)
+
+pub stmts::choice-block-requires : goal.stmts::choice-block-requires
+stmts::choice-block-requires t0 c =
+    let r = c.args.around.now in
+    let arms = c.args.arms.now in
+    let x = c.arm-item.result in
+    let xs = c.deref.result.now in
+    let more = take (length arms - 1) (drop 1 arms) in
+    let all : arms ≡ x ∷ more = first_of arms x (omega (arith, c.in-len1-up.len_at_least)) c.arm-item.is in
+    let top : most size-Arm arms ≡ max (size-Arm x) (most size-Arm more) = ap (most size-Arm) all in
+    let inner : most size-Stmt x.body.items ≤ size-Arm x = arm_weighs x in
+    let same : most size-Stmt xs ≡ most size-Stmt x.body.items = ap (most size-Stmt) c.deref.ensures.value in
+    let falls : (most size-Stmt xs + weight r.tops.now r.within.now) * 1180591620717411303424 + 26 < t0 = omega (arith, top, inner, same, c.decreases) in
+    (falls, tt)
+
+pub workflows::run-returns-clause-broken : goal.workflows::run-returns-clause-broken
+workflows::run-returns-clause-broken t0 c =
+    let b = view_workflow_body c.args.workflow.now in
+    let a = around_of c.args.around.now in
+    let out = outputs_by a b (started (taken_with (taken_by b) c.args.args.now)) in
+    let new = c.statements_and_emits.new.state in
+    let old = c.args.broken.now.items in
+    let g : after old out ≡ came c.in_ok-outputs.outputs.items new.scope new.broken.items = search rules in
+    let all : new.broken.items ≡ old ++ (ended out).broken = ended_broken old out _ _ _ g in
+    if_ok c.shape_of.result _ (λ v. new.broken.items ≡ old ++ (ended out).broken) (λ v e. all) c.shape_of.ensures
