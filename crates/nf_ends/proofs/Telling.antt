@@ -92,7 +92,6 @@ kind_by_word w =
     then kind.unlexed
     else if among (codes "Unexpected" ∷ codes "TooDeep" ∷ []) w then kind.unparsed
     else if bytes_eq w (codes "Order") then kind.disordered
-    else if bytes_eq w (codes "Unbuilt") then kind.not_built
     else kind.unlowered
 
 -- of what stands after a place
@@ -283,7 +282,6 @@ tells_kind (end.Parse f) h = parse_kind f h
 tells_kind (end.Lower f) h = lower_kind f h
 tells_kind (end.Order b) h = kind_placed b.place h (rule_text b.rule) ∙ order_after b.rule
 tells_kind (end.BadParams p) h = refl
-tells_kind (end.Unbuilt p) h = kind_placed p h (codes "Unbuilt")
 tells_kind end.HostFault h = refl
 tells_kind end.LaneFault h = refl
 tells_kind end.KeeperFault h = refl
@@ -342,7 +340,6 @@ tells_digits (end.Parse f) h = parse_digits f h
 tells_digits (end.Lower f) h = lower_digits f h
 tells_digits (end.Order b) h = digits_placed b.place h (rule_text b.rule)
 tells_digits (end.BadParams p) h = refl
-tells_digits (end.Unbuilt p) h = digits_placed p h (codes "Unbuilt")
 tells_digits end.HostFault h = refl
 tells_digits end.LaneFault h = refl
 tells_digits end.KeeperFault h = refl
@@ -375,7 +372,6 @@ place_fits (end.Parse f) h = fits (kind.parse_place f) h
 place_fits (end.Lower f) h = fits (lowered.place_in f) h
 place_fits (end.Order b) h = h
 place_fits (end.BadParams p) h = tt
-place_fits (end.Unbuilt p) h = h
 place_fits end.HostFault h = tt
 place_fits end.LaneFault h = tt
 place_fits end.KeeperFault h = tt

@@ -44,7 +44,6 @@ kept (end.Parse p) = refl
 kept (end.Lower p) = refl
 kept (end.Order o) = refl
 kept (end.BadParams p) = refl
-kept (end.Unbuilt p) = refl
 kept end.HostFault = refl
 kept end.LaneFault = refl
 kept end.KeeperFault = refl
@@ -90,8 +89,6 @@ wrote_line a b (end.Order o) rose r refusal other cause front all =
     came a b (error_line (end.Order o)) rose r cause front all
 wrote_line a b (end.BadParams p) rose r refusal other cause front all =
     came a b (error_line (end.BadParams p)) rose r cause front all
-wrote_line a b (end.Unbuilt p) rose r refusal other cause front all =
-    came a b (error_line (end.Unbuilt p)) rose r cause front all
 wrote_line a b end.HostFault rose r refusal other cause front all =
     came a b (error_line end.HostFault) rose r cause front all
 wrote_line a b end.LaneFault rose r refusal other cause front all =

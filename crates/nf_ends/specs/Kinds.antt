@@ -30,7 +30,6 @@ pub data Kind : Type 0 where
   unlowered : Kind
   disordered : Kind
   bad_params : Kind
-  not_built : Kind
   host_failed : Kind
   lane_failed : Kind
   keeper_failed : Kind
@@ -53,7 +52,6 @@ kind_of (end.Parse f) = unparsed
 kind_of (end.Lower f) = unlowered
 kind_of (end.Order b) = disordered
 kind_of (end.BadParams p) = bad_params
-kind_of (end.Unbuilt p) = not_built
 kind_of end.HostFault = host_failed
 kind_of end.LaneFault = lane_failed
 kind_of end.KeeperFault = keeper_failed
@@ -87,7 +85,6 @@ place_in (end.Lex f) = lex_place f
 place_in (end.Parse f) = parse_place f
 place_in (end.Lower f) = lower.place_in f
 place_in (end.Order b) = Some b.place
-place_in (end.Unbuilt p) = Some p
 place_in _ = None
 
 -- ---- ends that write a line
@@ -118,5 +115,4 @@ HasLine (end.Lex f) = HasPlace (lex_place f)
 HasLine (end.Parse f) = HasPlace (parse_place f)
 HasLine (end.Lower f) = HasPlace (lower.place_in f)
 HasLine (end.Order b) = IsPlace b.place
-HasLine (end.Unbuilt p) = IsPlace p
 HasLine _ = Unit {0}

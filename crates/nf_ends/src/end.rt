@@ -72,11 +72,6 @@ pub enum End {
         /// Which value is refused (RFC 6901); empty for the file as a whole.
         pointer: Txt,
     },
-    /// The script has a form that isn't run yet.
-    Unbuilt {
-        /// Where it stands first.
-        place: Place,
-    },
     /// The host failed: a file couldn't be read or written.
     HostFault,
     /// A lane failed: a task couldn't be run.
@@ -130,8 +125,7 @@ impl End {
             | End::Parse(_)
             | End::Lower(_)
             | End::Order(_)
-            | End::BadParams { .. }
-            | End::Unbuilt { .. } => 3,
+            | End::BadParams { .. } => 3,
             End::HostFault
             | End::LaneFault
             | End::KeeperFault

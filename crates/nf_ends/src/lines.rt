@@ -53,7 +53,6 @@ fn text_of_end(alloc: Global, end: &End) -> Result<String, Mem>
         End::Lower(fault) => text_of_lower(alloc, *fault),
         End::Order(broken) => text_of_order(alloc, *broken),
         End::BadParams { pointer } => named(alloc, "BadParams", pointer),
-        End::Unbuilt { place } => at_place(alloc, *place, "Unbuilt"),
         End::HostFault => Ok(String::from_str(alloc, "HostFault")?),
         End::LaneFault => Ok(String::from_str(alloc, "LaneFault")?),
         End::KeeperFault => Ok(String::from_str(alloc, "KeeperFault")?),

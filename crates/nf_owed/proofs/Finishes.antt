@@ -8,6 +8,7 @@ use Rattle.nf_value.specs.Plain.{Plain}
 use Rattle.nf_value.specs.View.{plain_of as plain_value}
 use Rattle.nf_value.specs.declared.place.Place.{Place}
 use Rattle.nf_bag.specs.Bag.{IsSameBag}
+use Rattle.nf_bag.specs.Tests.{IsSameByTests}
 use Rattle.nf_bag.specs.declared.fault.OpFault.{OpFault}
 use Rattle.nf_bag.specs.declared.fault.OpFault.TheVariants as op
 use Rattle.nf_opstream.specs.Fault.{Fault, fault_of}
@@ -44,6 +45,8 @@ use Rattle.nf_plan.specs.Plans.{graph_of, is_view, place_in}
 use Rattle.nf_plan.specs.Runs as plan
 use Rattle.nf_plan.specs.Whole.{graph_meaning}
 use Rattle.nf_publish.specs.Report.{report_text}
+use Rattle.nf_publish.specs.Targets.{HaveOneContent}
+use Rattle.nf_published.specs.Published.{published_in, published_of_run, publishing_of}
 use Rattle.nf_shown.specs.Shown.{printed_in, views_from, views_of}
 use Rattle.nf_ends.specs.declared.end.End.{End}
 use Rattle.nf_ends.specs.declared.end.End.TheVariants as end
@@ -52,7 +55,9 @@ use Rattle.nf_ends.specs.declared.writes.Output.{Output}
 use Rattle.nf_ends.specs.Stops.{end_by_fault}
 use Rattle.nf_owed.specs.Run.{by_path, goes_by, run_of}
 use Rattle.nf_owed.specs.Ended.{EndsByStop, events_in, meant_by, state_after}
-use Rattle.nf_owed.specs.Finished.{ComesTo, GivesOutput, IsRunOf, end_in, is_view_node}
+use Rattle.nf_owed.specs.declared.finished.Finished.{Finished}
+use Rattle.nf_owed.specs.Finished.{ComesTo, EndsByClash, GivesFinished, IsRunOf, OwesOutput, RefusesReport, end_in, is_view_node}
+use Rattle.nf_owed.proofs.Contents.{by_tests, first_there, one_there, texts_same}
 use Rattle.nf_owed.proofs.Paths.{name_is, place_is}
 use Rattle.nf_owed.proofs.Agreeing.{agrees_by_path}
 use Rattle.nf_owed.proofs.Meanings.{SameAt, are, cost_to, fault_in, named_fault, node_is, none_to, views_same}
@@ -65,6 +70,8 @@ pub record Laws : Type 0 where
   pub by_bags : (m n : ScriptMeaning) → ShowsSame m n → report_of m ≡ report_of n
   pub printed_as_meant : (g : List PlainNode) (R : Rules) (o : graph.Outcomes) (h : List PlainEvent) (i : ℕ) (p : Operator) → IsGraph g → IsHistory g R h → Agrees o (after g h)
       → ended_well g (after g h) ≡ true → (node_at g i).kind ≡ operator p → IsSameBag (printed_in g h i) (printed R o g i)
+  pub published_as_meant : (x : plan.Run) (b : PlanBuilder) (h : List PlainEvent) → IsGraph (graph_of b) → IsHistory (graph_of b) x.rules h → Agrees x.outcomes (after (graph_of b) h)
+      → ended_well (graph_of b) (after (graph_of b) h) ≡ true → IsSameByTests (published_in (publishing_of x.program b.infos.items) (graph_of b) h) (graph_meaning x b).targets
 
 -- ---- ends
 
@@ -178,7 +185,7 @@ module _ (laws : Laws) (n : Program) (b : PlanBuilder) (infos : List NodeInfo) (
   pub stopped_comes : (w : Stop) (e : End) → option_map stop_of (Some w) ≡ (state_of z).stop → IsNamed w → (e ≡ end_in infos w) ⊎ (e ≡ end.Mem) → ComesTo (run_of n b) z.history (Err e)
   stopped_comes w e st named either = elim either [
     | inl due ↦ inl (subst (EndsByStop (run_of n b) z.history) (sym (due ∙ ap (λ (xs : List NodeInfo). end_in xs w) is.infos_are)) (stop_ends w (st ∙ ap (λ (u : State). u.stop) state_is) named))
-    | inr memory ↦ inr memory
+    | inr memory ↦ inr (inr memory)
   ]
 
   -- ---- a run that ended well
@@ -193,12 +200,25 @@ module _ (laws : Laws) (n : Program) (b : PlanBuilder) (infos : List NodeInfo) (
       ap (λ (g : List PlainNode). views_from (printed_in g (map (event_of g) z.history)) 0 (map is_view_node z.graph)) graph_is
       ∙ ap (λ (ns : List Node). views_from (printed_in (graph_of b) h) 0 (map is_view_node ns)) is.graph
 
-  report_is : ended_well (graph_of b) s ≡ true → report_text (views_of z (map is_view_node z.graph)) [] ≡ report_of (meant_by (run_of n b) z.history)
-  report_is well =
-      let shown : ScriptMeaning = record nothing_meant { views = views_of z (map is_view_node z.graph) } in
+  -- the files that the run published
+  abbrev files : List Target
+  files = published_of_run n infos z
+
+  files_are : files ≡ published_in (publishing_of n b.infos.items) (graph_of b) h
+  files_are =
+      ap (λ (xs : List NodeInfo). published_in (publishing_of n xs) (plain_of z) (map (event_of (plain_of z)) z.history)) is.infos_are
+      ∙ ap (λ (g : List PlainNode). published_in (publishing_of n b.infos.items) g (map (event_of g) z.history)) graph_is
+
+  files_meant : ended_well (graph_of b) s ≡ true → IsSameByTests files (graph_meaning x b).targets
+  files_meant well = subst (λ (ts : List Target). IsSameByTests ts (graph_meaning x b).targets) (sym files_are) (laws.published_as_meant x b h ok lawful agrees well)
+
+  report_is : (ts : List Target) → ts ≡ files → ended_well (graph_of b) s ≡ true → report_text (views_of z (map is_view_node z.graph)) ts ≡ report_of (meant_by (run_of n b) z.history)
+  report_is ts told well =
+      let shown : ScriptMeaning = record nothing_meant { views = views_of z (map is_view_node z.graph); targets = ts } in
       laws.by_bags shown (graph_meaning x b) (record {
         views = subst (λ (vs : List (List Plain)). AreSameBags vs (graph_meaning x b).views) (sym views_are) (views_same x b (printed_in (graph_of b) h) (same_at well));
-        targets = subst (λ (ts : List Target). IsSameBag (publish_texts []) (publish_texts ts)) (sym (is.unpublished (by_path (run_of n b) (outcomes_of s)))) (record { at = λ v. refl });
+        targets = subst (λ (us : List Target). IsSameBag (publish_texts us) (publish_texts (graph_meaning x b).targets)) (sym told)
+            (texts_same files (graph_meaning x b).targets (by_tests files (graph_meaning x b).targets (files_meant well)));
       })
 
   well_of : is_over (plain_of z) (state_of z) ≡ true → (state_of z).stop ≡ None → ended_well (graph_of b) s ≡ true
@@ -206,16 +226,30 @@ module _ (laws : Laws) (n : Program) (b : PlanBuilder) (infos : List NodeInfo) (
       let here : is_over (graph_of b) s ≡ true = subst (λ (g : List PlainNode). is_over g (after g (map (event_of g) z.history)) ≡ true) graph_is over in
       closed_all (all_closed (graph_of b) s) s.stop _ here (ap (λ (u : State). u.stop) (sym state_is) ∙ running)
 
-  pub well_comes : (r : Result Output End) → is_over (plain_of z) (state_of z) ≡ true → option_map stop_of (let o : Option Stop = None in o) ≡ (state_of z).stop → GivesOutput z r → ComesTo (run_of n b) z.history r
-  well_comes (Ok o) over running gives =
+  no_faults : ended_well (graph_of b) s ≡ true → (meant_by (run_of n b) z.history).faults ≡ []
+  no_faults well = none_to x b (length b.nodes.items) (ap (faults_to R x.outcomes (graph.bags R x.outcomes (graph_of b)) (graph_of b)) (sym many) ∙ beside.faultless well)
+
+  refuses : ended_well (graph_of b) s ≡ true → (e : End) → RefusesReport files e → EndsByClash (run_of n b) z.history e ⊎ (e ≡ end.Mem)
+  refuses well (end.PublishClash c) why = inl (record {
+    well = well;
+    faultless = no_faults well;
+    first = first_there files (graph_meaning x b).targets (by_tests files (graph_meaning x b).targets (files_meant well)) c why;
+  })
+  refuses well end.Mem why = inr refl
+  refuses well e why = absurd why
+
+  pub well_comes : (r : Result Finished End) → is_over (plain_of z) (state_of z) ≡ true → option_map stop_of (let o : Option Stop = None in o) ≡ (state_of z).stop → GivesFinished n infos z r → ComesTo (run_of n b) z.history r
+  well_comes (Ok f) over running gives =
       let well = well_of over (sym running) in
-      subst (λ (o : Output). ComesTo (run_of n b) z.history (Ok o)) (sym gives) (
+      let meant = files_meant well in
+      subst (λ (o : Output). OwesOutput (run_of n b) z.history f.targets o) (sym gives.1) (
         record {
           well = well;
-          faultless = none_to x b (length b.nodes.items) (ap (faults_to R x.outcomes (graph.bags R x.outcomes (graph_of b)) (graph_of b)) (sym many) ∙ beside.faultless well);
-          unpublished = is.unpublished (by_path (run_of n b) (outcomes_of s));
-          report_is = report_is well;
+          faultless = no_faults well;
+          one = one_there files (graph_meaning x b).targets (by_tests files (graph_meaning x b).targets meant) (subst HaveOneContent gives.0 gives.2);
+          report_is = report_is f.targets gives.0 well;
+          targets_are = subst (λ (ts : List Target). IsSameByTests ts (graph_meaning x b).targets) (sym gives.0) meant;
         },
         refl,
       )
-  well_comes (Err e) over running gives = inr gives
+  well_comes (Err e) over running gives = inr (refuses (well_of over (sym running)) e gives)

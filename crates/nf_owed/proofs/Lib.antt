@@ -4,5 +4,5 @@ pub mod Agreeing
 pub mod Meanings
 pub mod Publishing
 pub mod Finishes
-pub mod NoClash
+pub mod Contents
 pub mod Faultless

@@ -87,8 +87,12 @@ fn copy_between<H: Host>(
     copy_file(alloc, host, from, to, FILE_LIMIT)
 }
 
-/// Makes the folder of a path.
-fn make_parent<H: Host>(host: &mut H, path: &str) -> Result<(), HostRefusal>
+/// Makes the folder of a path, and those around it that are missing (own). A path without a folder needs none.
+///
+/// # Errors
+///
+/// `Failed` if the host failed in this call; it counted that. `Mem` if there is no memory for it.
+pub fn make_parent<H: Host>(host: &mut H, path: &str) -> Result<(), HostRefusal>
     ensures later { H.faults host.old ≤ H.faults host.new }
     ensures cause { OnFailed result (Rose (H.faults host.old) (H.faults host.new)) }
     ensures same { H.files host.new ≡ H.files host.old }

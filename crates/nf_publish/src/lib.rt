@@ -7,6 +7,6 @@ mod fault;
 mod lines;
 mod reports;
 
-pub use copies::copy_out;
+pub use copies::{copy_out, make_parent};
 pub use fault::{Clash, CopyRefusal, PublishFault};
 pub use reports::report;
