@@ -1,0 +1,15 @@
+pub mod Fronts
+pub mod Fronted
+pub mod Words
+pub mod Telling
+pub mod Lists
+pub mod Reading
+pub mod Alike
+pub mod Deciding
+pub mod Targets
+pub mod Meant
+pub mod Agreed
+pub mod Over
+pub mod Parts
+pub mod Stops
+pub mod Resumed
