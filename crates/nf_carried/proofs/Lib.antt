@@ -1,4 +1,5 @@
-pub mod First
+pub mod Leading
 pub mod Refusing
 pub mod Closing
+pub mod Tracing
 pub mod Owing

@@ -1,3 +1,9 @@
 pub mod Objects
+pub mod Tracing
+pub mod Copying
 pub mod Table
 pub mod Carried
+pub use Rattle.nf_ran.specs.Ran
+pub use Rattle.nf_ran.specs.Pool
+pub use Rattle.nf_ran.specs.Ended
+pub use Rattle.nf_ran.specs.Run

@@ -7,10 +7,10 @@ use Rattle.nf_machine.specs.declared.stop.Outside.TheVariants.{Lane, Keeper}
 use Rattle.nf_machine.specs.Event.{PlainStop, fault_stop, charge_stop, outside_stop, memory_stop}
 use Rattle.nf_ends.specs.declared.end.End.{End}
 use Rattle.nf_ends.specs.declared.end.End.TheVariants as end
-use Rattle.nf_ends.specs.declared.writes.Output.{Output}
+use Rattle.nf_owed.specs.declared.finished.Finished.{Finished}
 use Rattle.nf_owed.specs.Run.{Run}
 use Rattle.nf_owed.specs.Ended.{EndsByStop, NamesStop}
-use Rattle.nf_owed.specs.Finished.{ComesTo}
+use Rattle.nf_owed.specs.Finished.{ComesTo, EndsByClash}
 use Rattle.nf_ran.specs.Ran.{Blames}
 use Rattle.nf_ran.proofs.Stopping.{HasStop, stopped_by}
 
@@ -54,7 +54,6 @@ module _ (run : Run) (h : List Event) (lane keeper : Type 0) (of_lane : HasStop 
   by_end (end.Lower f) k = tt
   by_end (end.Order b) k = tt
   by_end (end.BadParams p) k = tt
-  by_end (end.Unbuilt p) k = tt
   by_end end.HostFault k = tt
   by_end end.LaneFault k = of_lane (lane_stopped run h k)
   by_end end.KeeperFault k = of_keeper (keeper_stopped run h k)
@@ -62,10 +61,14 @@ module _ (run : Run) (h : List Event) (lane keeper : Type 0) (of_lane : HasStop 
   by_end (end.Damaged d f) k = tt
   by_end end.Mem k = tt
 
+  by_clash : (e : End) → EndsByClash run h e → Blames lane keeper e
+  by_clash (end.PublishClash c) k = tt
+  by_clash e k = absurd k
+
   -- of what a run comes to, an error that blames an object
-  pub outcome_blames : (r : Result Output End) → ComesTo run h r → IfErr r (Blames lane keeper)
+  pub outcome_blames : (r : Result Finished End) → ComesTo run h r → IfErr r (Blames lane keeper)
   outcome_blames (Ok o) c = tt
   outcome_blames (Err e) c = elim c [
     | inl k ↦ by_end e k
-    | inr mem ↦ subst (Blames lane keeper) (sym mem) tt
+    | inr other ↦ elim other [ inl k ↦ by_clash e k | inr memory ↦ subst (Blames lane keeper) (sym memory) tt ]
   ]

@@ -10,9 +10,9 @@ use Rattle.nf_machine.specs.declared.stop.Stop.TheVariants as s
 use Rattle.nf_machine.specs.declared.stop.Outside.TheVariants.{Lane}
 use Rattle.nf_opstream.proofs.Tally.{count_is_passes, passes, sum_is_tally, tally-map}
 use Rattle.nf_flow.specs.Seen.{Seen}
-use Rattle.nf_serial.specs.Serial.{LaneNow, is_start}
-use Rattle.nf_serial.proofs.Serving.{later_still}
-use Rattle.nf_locked.specs.Locked.{failures_of, is_failure, starts_of}
+use Rattle.nf_pool.specs.Serial.{LaneNow, is_start}
+use Rattle.nf_pool.proofs.Serving.{later_still}
+use Rattle.nf_pool.specs.Locked.{failures_of, is_failure, starts_of}
 use Rattle.nf_pool.specs.Pool.{AnyRose, AreLater, lanes_now, told}
 use Rattle.nf_ran.specs.Ran.{LanesRan, runs_of, told_by}
 

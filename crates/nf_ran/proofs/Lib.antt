@@ -3,7 +3,6 @@ pub mod Blaming
 pub mod Lanes
 pub mod Viewing
 pub mod Idle
-pub mod Publishing
 pub mod Patterns
 pub mod Trees
 pub mod Shared

@@ -1,6 +1,5 @@
 -- A run as its graph and its history.
-use Rattle.std.proofs.Common.{◌≡◌, List, [], refl, ap, sym, subst, ◌∙◌}
-use Rattle.std.specs.Prelude.{Bool}
+use Rattle.std.proofs.Common.{◌≡◌, List, refl, ap, sym, subst, ◌∙◌}
 use Rattle.nf_host.specs.Faults.{Rose}
 use Rattle.nf_graph.specs.declared.node.Node.{Node}
 use Rattle.nf_graph.specs.Rules.{Rules}
@@ -13,15 +12,17 @@ use Rattle.nf_flow.specs.Seen.{Seen, begun, plain_of, events_of}
 use Rattle.nf_core.specs.Opening.{LaneTold, Opening}
 use Rattle.nf_core.specs.Told.{Ending}
 use Rattle.nf_core.specs.Run.{Parts, IsRun}
-use Rattle.nf_serial.specs.Serial.{LaneNow}
+use Rattle.nf_pool.specs.Serial.{LaneNow}
 use Rattle.nf_tasks.specs.Memory.{Program}
 use Rattle.nf_bodies.specs.declared.body.NodeInfo.{NodeInfo}
 use Rattle.nf_bodies.specs.Bodies.{rules_of}
-use Rattle.nf_meaning.specs.Given.{Outcomes}
 use Rattle.nf_plan.specs.declared.builder.PlanBuilder.{PlanBuilder}
 use Rattle.nf_owed.specs.Run.{run_of}
 use Rattle.nf_owed.specs.Finished.{ComesTo, IsRunOf}
-use Rattle.nf_ran.specs.Ran.{IsMade, IsPlanned, KeeperNow, Came, LanesRan, LanesRose, RanPlan, begun_over, opening_of, told_by, with_history}
+use Rattle.nf_ran.specs.Ran.{IsMade, IsPlanned, KeeperNow, Came, LanesRan, IsTraced, LanesRose, RanPlan, begun_over, opening_of, told_by, trace_text, with_history}
+use Rattle.nf_ran.specs.declared.options.RunOptions.{RunOptions}
+use Rattle.nf_core.proofs.Promised.{promises}
+use Rattle.nf_core.proofs.Keeping.{keeps}
 use Rattle.nf_ran.proofs.Stopping.{HasStop}
 use Rattle.nf_ran.proofs.Blaming.{outcome_blames}
 
@@ -53,15 +54,14 @@ module _ (F : Opening) {D S : Type 0} (done : D → Ending → Type 0) (seen : S
   keeper_rose : (z : Parts D S) → IsRun F done seen z → HasStop Keeper (plain_of z.flow) z.flow.history → Rose F.faults z.faults
   keeper_rose z r k = r.blamed k.ticket k.seen
 
-  -- a run of a plan that publishes nothing is one that its plan owes something of
+  -- a run of a plan is one that its plan owes something of
   is_run_of : (n : Program) (b : PlanBuilder) (infos : List NodeInfo) (z : Parts D S) → IsMade b F.graph infos → F.rules ≡ rules_of n infos
-      → ((o : Outcomes) → ((run_of n b).meaning o).targets ≡ []) → IsRun F done seen z → IsRunOf n b infos z.flow
-  is_run_of n b infos z made rules none r = record {
+      → IsRun F done seen z → IsRunOf n b infos z.flow
+  is_run_of n b infos z made rules r = record {
     plan = made.is_plan;
     graph = r.graph ∙ made.graph_is;
     infos_are = made.infos_are;
     lawful = subst (λ (R : Rules). IsHistory (plain_of z.flow) R (events_of z.flow)) (rules ∙ ap (rules_of n) made.infos_are) r.lawful;
-    unpublished = none;
   }
 
 -- one of the lanes failed in a run that their failure stopped
@@ -81,37 +81,40 @@ pub to_nodes : (P : List Node → List NodeInfo → Type 0) (z : Seen) (graph : 
 to_nodes P z graph infos slice is same h =
     subst (λ (y : Seen). P y.graph slice) (sym is) (subst (P graph) (sym same) h)
 
-module _ (n : Program) (old : Seen) (infos : List NodeInfo) (resume : Bool) (keeper : KeeperNow) (lanes : List LaneNow) {D S : Type 0} (done : Rules → D → Ending → Type 0) (seen : S → Ending → Type 0) where
+module _ (n : Program) (old : Seen) (infos : List NodeInfo) (options : RunOptions) (keeper : KeeperNow) (lanes : List LaneNow) {D S : Type 0} (done : Rules → D → Ending → Type 0) (seen : S → Ending → Type 0) where
   -- the same opening under other rules, of lanes that told this
   abbrev pub opening_under : Rules → List LaneTold → Opening
-  opening_under R told = record (opening_of (begun_over n old.graph infos resume keeper lanes)) { rules = R; lanes = told }
+  opening_under R told = record (opening_of (begun_over n old.graph infos options keeper lanes)) { rules = R; lanes = told }
 
   -- a flow's parts with what came
   abbrev pub parts_with : Seen → Came D S → Parts D S
-  parts_with z y = record { flow = z; dones = y.dones; seens = y.seens; resumed = resume; held = y.keeper.held; faults = y.keeper.faults }
+  parts_with z y = record { flow = z; dones = y.dones; seens = y.seens; resumed = options.resume; held = y.keeper.held; faults = y.keeper.faults }
 
   -- a run on several lanes, with what it comes to
   pub ran_on : (z : Seen) (R : Rules) (told : List LaneTold) (y : Came D S) → R ≡ rules_of n infos → told ≡ told_by lanes → y.history ≡ z.history → LanesRan y.history lanes y.lanes
       → IsRun (opening_under R told) (done R) seen (parts_with z y) → IsPlanned old.graph infos
-      → ((b : PlanBuilder) → IsMade b old.graph infos → (o : Outcomes) → ((run_of n b).meaning o).targets ≡ [])
-      → ((b : PlanBuilder) → IsRunOf n b infos z → ComesTo (run_of n b) z.history y.outcome)
-      → RanPlan (begun_over n old.graph infos resume keeper lanes) done seen y
-  ran_on z R told y same same_told history ran run planned unpublished owed =
+      → ((b : PlanBuilder) → IsRunOf n b infos z → ComesTo (run_of n b) z.history y.upshot.outcome)
+      → ((graph : List Node) → z.graph ≡ graph → IsTraced options.traced (trace_text n graph infos z.history) y.upshot)
+      → RanPlan (begun_over n old.graph infos options keeper lanes) done seen y
+  ran_on z R told y same same_told history ran run planned owed traced =
       let due = rules_of n infos in
       let F : Opening = opening_under due (told_by lanes) in
       let there : IsRun (opening_under due told) (done due) seen (parts_with z y) = subst (λ (Q : Rules). IsRun (opening_under Q told) (done Q) seen (parts_with z y)) same run in
       let is : IsRun F (done due) seen (parts_with z y) = subst (λ (ts : List LaneTold). IsRun (opening_under due ts) (done due) seen (parts_with z y)) same_told there in
       let whole = with_graph F (done due) seen (parts_with z y) y.history history is in
-      let comes : (b : PlanBuilder) → IsMade b old.graph infos → ComesTo (run_of n b) y.history y.outcome =
-      λ b made. subst (λ (h : List Event). ComesTo (run_of n b) h y.outcome) (sym history) (owed b (is_run_of F (done due) seen n b infos (parts_with z y) made refl (unpublished b made) is)) in
+      let comes : (b : PlanBuilder) → IsMade b old.graph infos → ComesTo (run_of n b) y.history y.upshot.outcome =
+      λ b made. subst (λ (h : List Event). ComesTo (run_of n b) h y.upshot.outcome) (sym history) (owed b (is_run_of F (done due) seen n b infos (parts_with z y) made refl is)) in
       let b = planned.0 in
       let made = planned.1 in
       record {
         lanes = ran;
         run = whole;
+        promises = promises whole;
+        keeps = keeps whole;
         comes = comes;
+        traced = subst (λ (h : List Event). IsTraced options.traced (trace_text n old.graph infos h) y.upshot) (sym history) (traced old.graph is.graph);
         blamed = outcome_blames (run_of n b) y.history (LanesRose lanes y.lanes) (Rose keeper.faults y.keeper.faults)
             (λ k. lane_rose old.graph y.history lanes y.lanes ran (of_plan Lane b old.graph infos y.history made k))
             (λ k. keeper_rose F (done due) seen _ whole (of_plan Keeper b old.graph infos y.history made k))
-            y.outcome (comes b made);
+            y.upshot.outcome (comes b made);
       }

@@ -2,9 +2,11 @@
 #![tactic(auto)]
 
 mod on_lanes;
+mod options;
 mod plan_run;
-mod unpublished;
+mod upshot;
 
+pub use nf_owed as owed;
 pub use on_lanes::{run_plan, without_memory};
+pub use options::RunOptions;
 pub use plan_run::PlanRun;
-pub use unpublished::publishes_nothing;

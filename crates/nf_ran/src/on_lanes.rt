@@ -9,11 +9,13 @@ ghost use Rattle.nf_bodies.specs.declared.body.NodeInfo.{NodeInfo};
 ghost use Rattle.nf_bodies.specs.Bodies.{rules_of};
 ghost use Rattle.nf_flow.specs.Seen.{begun};
 ghost use Rattle.nf_core.specs.Told.{IsDoneOf, IsSeenOf};
-ghost use Rattle.nf_serial.specs.Serial.{LaneNow};
+ghost use Rattle.nf_pool.specs.Serial.{LaneNow};
 ghost use Rattle.nf_pool.specs.Pool.{lanes_now};
-ghost use Rattle.nf_ran.specs.Ran.{IsPlanned, PublishNone, RanPlan, begun_over, came_to, keeper_now};
+ghost use Rattle.nf_ran.specs.Ran.{IsPlanned, RanPlan, begun_over, came_to, keeper_now, upshot};
 
+use crate::options::RunOptions;
 use crate::plan_run::PlanRun;
+use crate::upshot::come_to;
 use nf_bodies::{NodeInfo, NodeRules};
 use nf_builtins::Natives;
 use nf_ends::End;
@@ -21,7 +23,6 @@ use nf_flow::Flow;
 use nf_graph::Graph;
 use nf_keeper::Keeper;
 use nf_lane::Lane;
-use nf_owed::end_of_run;
 use nf_plan::Plan;
 use nf_pool::{PoolEnd, run};
 use nf_value::Mem;
@@ -31,12 +32,13 @@ use std::sync::Wait;
 use std::thread::Threads;
 
 /// Runs a plan on 1 to 16 lanes at once, with a worker for each, from its first event to its end (own). If the run
-/// resumes an earlier one, the keeper is asked for the records of its jobs. The plan is one of which no report
-/// publishes a file. The lanes come back in their order.
+/// resumes an earlier one, the keeper is asked for the records of its jobs; if its trace is asked for, that is made,
+/// too. The lanes come back in their order.
 ///
 /// The run is lawful, each of its finished tasks was run by a lane, and what it comes to is owed by what the plan
-/// means: the report of its views, or the end that names the stop. The lanes or the keeper are blamed only if one of
-/// their counts of failures rose. Without memory for the first event the history is empty, and the outcome `Mem`.
+/// means: its report and the files that it published, or the end that names why there are none. The lanes or the keeper
+/// are blamed only if one of their counts of failures rose. Without memory for the first event the history is empty, and
+/// the outcome `Mem`.
 pub fn run_plan<L, K, N, T>(
     rt: &T,
     alloc: Global,
@@ -44,7 +46,7 @@ pub fn run_plan<L, K, N, T>(
     keeper: K,
     lanes: Vec<L>,
     natives: &N,
-    resume: bool,
+    options: RunOptions,
 ) -> PlanRun<L, K>
 where
     L: Lane + Send + Drop,
@@ -55,15 +57,15 @@ where
     T: Threads + Wait + Sync,
     requires natives { N.keeps natives.now }
     requires planned { IsPlanned plan.graph plan.infos.items }
-    requires unpublished { PublishNone (program (N.titles natives.now) (N.answer natives.now)) plan.infos.items }
     requires lanes { (0 < vec_len lanes) × (vec_len lanes ≤ 16) }
     requires runs { All (λ l. L.runs l < 2 ^ 62) lanes.items }
     ensures room { (vec_len result.lanes ≡ vec_len lanes) × (vec_capacity result.lanes ≡ vec_capacity lanes) }
     ensures ran { RanPlan (begun_over (program (N.titles natives.now) (N.answer natives.now))
-        plan.graph plan.infos.items resume (keeper_now (K.held keeper) (K.faults keeper))
+        plan.graph plan.infos.items options (keeper_now (K.held keeper) (K.faults keeper))
         (lanes_now L.runs L.faults L.world L.store lanes.items))
         (IsDoneOf L.Done.genuine L.Done.job L.Done.told) (IsSeenOf L.Seen.genuine L.Seen.told)
-        (came_to result.history.items result.kept.dones.items result.kept.seens.items result.outcome
+        (came_to result.history.items result.kept.dones.items result.kept.seens.items
+        (upshot result.outcome result.trace)
         (keeper_now (K.held result.keeper) (K.faults result.keeper))
         (lanes_now L.runs L.faults L.world L.store result.lanes.items)) }
 {
@@ -79,7 +81,7 @@ where
             keeper,
             lanes,
             natives,
-            resume,
+            options,
         ),
         Err(Mem) => PlanRun::idle(alloc, keeper, lanes, Err(End::Mem)),
     }
@@ -92,15 +94,16 @@ pub fn without_memory<L: Lane, K: Keeper, N: Natives>(
     keeper: K,
     lanes: Vec<L>,
     natives: &N,
-    resume: bool,
+    options: RunOptions,
 ) -> PlanRun<L, K>
     requires planned { IsPlanned plan.now.graph plan.now.infos.items }
     ensures lanes { result.lanes ≡ lanes }
     ensures ran { (some : List LaneNow) → RanPlan
         (begun_over (program (N.titles natives.now) (N.answer natives.now)) plan.now.graph plan.now.infos.items
-        resume (keeper_now (K.held keeper) (K.faults keeper)) some)
+        options (keeper_now (K.held keeper) (K.faults keeper)) some)
         (IsDoneOf L.Done.genuine L.Done.job L.Done.told) (IsSeenOf L.Seen.genuine L.Seen.told)
-        (came_to result.history.items result.kept.dones.items result.kept.seens.items result.outcome
+        (came_to result.history.items result.kept.dones.items result.kept.seens.items
+        (upshot result.outcome result.trace)
         (keeper_now (K.held result.keeper) (K.faults result.keeper)) some) }
 {
     plans_tell_apart();
@@ -127,7 +130,7 @@ fn run_flow<L, K, N, T>(
     keeper: K,
     lanes: Vec<L>,
     natives: &N,
-    resume: bool,
+    options: RunOptions,
 ) -> PlanRun<L, K>
 where
     L: Lane + Send + Drop,
@@ -139,34 +142,34 @@ where
     requires begun { flow.history ≡ [] }
     requires natives { N.keeps natives.now }
     requires planned { IsPlanned flow.graph infos.now }
-    requires unpublished { PublishNone (program (N.titles natives.now) (N.answer natives.now)) infos.now }
     requires lanes { (0 < vec_len lanes) × (vec_len lanes ≤ 16) }
     requires runs { All (λ l. L.runs l < 2 ^ 62) lanes.items }
     ensures room { (vec_len result.lanes ≡ vec_len lanes) × (vec_capacity result.lanes ≡ vec_capacity lanes) }
     ensures ran { RanPlan (begun_over (program (N.titles natives.now) (N.answer natives.now)) flow.graph infos.now
-        resume (keeper_now (K.held keeper) (K.faults keeper))
+        options (keeper_now (K.held keeper) (K.faults keeper))
         (lanes_now L.runs L.faults L.world L.store lanes.items))
         (IsDoneOf L.Done.genuine L.Done.job L.Done.told) (IsSeenOf L.Seen.genuine L.Seen.told)
-        (came_to result.history.items result.kept.dones.items result.kept.seens.items result.outcome
+        (came_to result.history.items result.kept.dones.items result.kept.seens.items
+        (upshot result.outcome result.trace)
         (keeper_now (K.held result.keeper) (K.faults result.keeper))
         (lanes_now L.runs L.faults L.world L.store result.lanes.items)) }
 {
     plans_tell_apart();
-    nf_owed::laws::nothing_is_published();
     let rules = NodeRules::new(infos, natives);
     let PoolEnd {
         flow,
         kept,
         lanes,
         keeper,
-    } = run(rt, alloc, flow, lanes, keeper, &rules, resume);
-    let outcome = end_of_run(alloc, infos, &flow);
+    } = run(rt, alloc, flow, lanes, keeper, &rules, options.resume);
+    let (outcome, trace) = come_to(alloc, infos, natives, &flow, options.traced);
     PlanRun {
         history: flow.into_history(),
         kept,
         lanes,
         keeper,
         outcome,
+        trace,
     }
 }
 

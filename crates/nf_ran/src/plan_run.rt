@@ -1,10 +1,12 @@
 //! `PlanRun`: a run that is over.
 
-ghost use Rattle.std.specs.Prelude.{◌≡◌, []};
+ghost use Rattle.std.specs.Prelude.{◌≡◌, [], None};
 
-use nf_ends::{End, Output};
+use nf_ends::End;
 use nf_lane::{Kept, Lane};
 use nf_machine::Event;
+use nf_owed::Finished;
+use nf_value::Txt;
 use std::alloc::Global;
 
 /// A run of a plan that is over (own).
@@ -18,17 +20,19 @@ pub struct PlanRun<L: Lane, K> {
     pub lanes: Vec<L>,
     /// The keeper of the run.
     pub keeper: K,
-    /// What is to be written, or the end that names why it stopped.
-    pub outcome: Result<Output, End>,
+    /// What is to be written and to be copied, or the end that names why nothing is.
+    pub outcome: Result<Finished, End>,
+    /// The trace of the run, if it was asked for and there was memory for it; it is there of a run that stopped, too.
+    pub trace: Option<Txt>,
 }
 
 impl<L: Lane, K> PlanRun<L, K> {
-    /// What a call comes to that ran nothing. Takes no memory.
-    pub fn idle(
+    /// What a run comes to for whose first event there was no memory. Takes no memory.
+    pub(crate) fn idle(
         alloc: Global,
         keeper: K,
         lanes: Vec<L>,
-        outcome: Result<Output, End>,
+        outcome: Result<Finished, End>,
     ) -> PlanRun<L, K>
         ensures history { result.history.items ≡ [] }
         ensures dones { result.kept.dones.items ≡ [] }
@@ -36,6 +40,7 @@ impl<L: Lane, K> PlanRun<L, K> {
         ensures lanes { result.lanes ≡ lanes }
         ensures keeper { result.keeper ≡ keeper }
         ensures outcome { result.outcome ≡ outcome }
+        ensures trace { result.trace ≡ None }
     {
         let kept = Kept {
             dones: Vec::new(alloc),
@@ -47,6 +52,7 @@ impl<L: Lane, K> PlanRun<L, K> {
             lanes,
             keeper,
             outcome,
+            trace: None,
         }
     }
 }

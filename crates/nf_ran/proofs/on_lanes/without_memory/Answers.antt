@@ -13,7 +13,7 @@ returns-clause-ran g c = λ some.
     let r = c.idle.result in
     let before = keeper_now (g.K.Keeper.held c.args.keeper) (g.K.Keeper.faults c.args.keeper) in
     let after = keeper_now (g.K.Keeper.held r.keeper) (g.K.Keeper.faults r.keeper) in
-    ran_nothing (begun_over n graph infos c.args.resume before some) (IsDoneOf g.L.Done.Finished.genuine g.L.Done.Finished.job g.L.Done.Finished.told) (IsSeenOf g.L.Seen.Present.genuine g.L.Seen.Present.told)
-    r.history.items r.kept.dones.items r.kept.seens.items r.outcome after some c.idle.ensures.history c.idle.ensures.dones c.idle.ensures.seens c.idle.ensures.outcome
+    ran_nothing (begun_over n graph infos c.args.options before some) (IsDoneOf g.L.Done.Finished.genuine g.L.Done.Finished.job g.L.Done.Finished.told) (IsSeenOf g.L.Seen.Present.genuine g.L.Seen.Present.told)
+    r.history.items r.kept.dones.items r.kept.seens.items r.outcome r.trace after some c.idle.ensures.history c.idle.ensures.dones c.idle.ensures.seens c.idle.ensures.outcome c.idle.ensures.trace
     (ap (λ k. keeper_now (g.K.Keeper.held k) (g.K.Keeper.faults k)) c.idle.ensures.keeper) refl
     (c.nodes_are_rules.ensures n infos) (c.plans_tell_apart.ensures n graph infos c.requires.planned)

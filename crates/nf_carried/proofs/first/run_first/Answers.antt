@@ -2,12 +2,12 @@ use Rattle.std.proofs.Common.{◌≡◌, ◌<◌, ◌^◌, ◌++◌, ◌∙◌, 
 use Rattle.std.proofs.lemmas.List.Elements.{All-take}
 use Rattle.nf_tasks.specs.Memory.{program}
 use Rattle.nf_core.specs.Told.{IsDoneOf, IsSeenOf}
-use Rattle.nf_serial.specs.Serial.{LaneNow}
-use Rattle.nf_pool.specs.Pool.{lanes_now}
-use Rattle.nf_ran.specs.Ran.{begun_over, came_to, keeper_now}
+use Rattle.nf_ran.specs.Serial.{LaneNow}
+use Rattle.nf_ran.specs.Pool.{lanes_now}
+use Rattle.nf_ran.specs.Ran.{begun_over, came_to, keeper_now, upshot}
 use Rattle.nf_carried.proofs.Closing.{ran_first}
-use Rattle.nf_carried.proofs.First.{first_again}
-use Rattle.nf_carried.proofs.carry.run_first.Goals as goal
+use Rattle.nf_carried.proofs.Leading.{first_again}
+use Rattle.nf_carried.proofs.first.run_first.Goals as goal
 
 pub returns-in_default-clause-ran : goal.returns-in_default-clause-ran
 returns-in_default-clause-ran g c =
@@ -18,8 +18,8 @@ returns-in_default-clause-ran g c =
     let first = lanes_now g.L.Lane.runs g.L.Lane.faults g.L.Lane.world g.L.Lane.store (take c.args.queue c.args.lanes.items) in
     let same : r.lanes ≡ c.args.lanes = c.without_memory.ensures.lanes ∙ c.in_default.ensures.err in
     ran_first (IsDoneOf g.L.Done.Finished.genuine g.L.Done.Finished.job g.L.Done.Finished.told) (IsSeenOf g.L.Seen.Present.genuine g.L.Seen.Present.told)
-    (λ (ls : List LaneNow). begun_over n c.args.plan.graph c.args.plan.infos.items c.args.resume before ls)
-    (λ (ls : List LaneNow). came_to r.history.items r.kept.dones.items r.kept.seens.items r.outcome after ls)
+    (λ (ls : List LaneNow). begun_over n c.args.plan.graph c.args.plan.infos.items c.args.options before ls)
+    (λ (ls : List LaneNow). came_to r.history.items r.kept.dones.items r.kept.seens.items (upshot r.outcome r.trace) after ls)
     first first first _ refl (ap (λ v. lanes_now g.L.Lane.runs g.L.Lane.faults g.L.Lane.world g.L.Lane.store (take c.args.queue v.items)) (sym same)) (c.without_memory.ensures.ran first)
 
 pub run_plan-history-requires-clause-runs : goal.run_plan-history-requires-clause-runs
@@ -35,8 +35,8 @@ returns-clause-ran g c =
     let joined : c.append-is_joined.new.self.items ≡ r.lanes.items ++ c.in-Ok.idle.items = search rules in
     let len : length r.lanes.items ≡ c.args.queue = omega (arith, c.run_plan-history.ensures.room.0, c.in-Ok.ensures.len) in
     ran_first (IsDoneOf g.L.Done.Finished.genuine g.L.Done.Finished.job g.L.Done.Finished.told) (IsSeenOf g.L.Seen.Present.genuine g.L.Seen.Present.told)
-    (λ (ls : List LaneNow). begun_over n c.args.plan.graph c.args.plan.infos.items c.args.resume before ls)
-    (λ (ls : List LaneNow). came_to r.history.items r.kept.dones.items r.kept.seens.items r.outcome after ls)
+    (λ (ls : List LaneNow). begun_over n c.args.plan.graph c.args.plan.infos.items c.args.options before ls)
+    (λ (ls : List LaneNow). came_to r.history.items r.kept.dones.items r.kept.seens.items (upshot r.outcome r.trace) after ls)
     _ _ _ _ (ap (λ ls. lanes_now g.L.Lane.runs g.L.Lane.faults g.L.Lane.world g.L.Lane.store ls) c.in-Ok.ensures.items)
     (ap (λ ls. lanes_now g.L.Lane.runs g.L.Lane.faults g.L.Lane.world g.L.Lane.store ls) (sym (first_again c.args.queue c.append-is_joined.new.self.items r.lanes.items c.in-Ok.idle.items joined len)))
     c.run_plan-history.ensures.ran
