@@ -11,12 +11,11 @@ use Rattle.nf_command.specs.declared.fault.UsageFault.{UsageFault}
 use Rattle.nf_command.specs.Commands.{command_of}
 use Rattle.nf_ends.specs.declared.end.End.{End}
 use Rattle.nf_ends.specs.declared.end.End.TheVariants as end
-use Rattle.nf_unbuilt.specs.Unbuilt.{unbuilt_in}
 use Rattle.nf_request.specs.Held.{IsAtPath, OnHostFault}
 use Rattle.nf_request.specs.Words.{Asks, IsMisuse, script_path, text_for}
 use Rattle.nf_request.specs.Wishes.{Params, Wish, wish_for, plain_wish}
 use Rattle.nf_request.specs.Script.{IsOnlyScript}
-use Rattle.nf_request.specs.Steps.{LacksText, LacksTree, GivesBuilt, GivesParams, IsOrdered, IsRefused}
+use Rattle.nf_request.specs.Steps.{LacksText, LacksTree, GivesParams, IsOrdered, IsRefused}
 use Rattle.nf_asked.specs.declared.answer.Asked.{Asked}
 use Rattle.nf_asked.specs.declared.answer.Asked.TheVariants as asked
 use Rattle.nf_asked.specs.declared.answer.AskedRun.{AskedRun}
@@ -26,7 +25,7 @@ use Rattle.nf_asked.specs.Answers.{IsOnly, Refuses, Answers, AnswersRun, Answers
 use Rattle.nf_asked.specs.Steps.{GivesText, GivesChecked, IsRunOf}
 use Rattle.nf_asked.proofs.Rows.{one_ok, only_formats, only_accepts, only_run}
 use Rattle.nf_asked.proofs.Lines.{only_with_tree}
-use Rattle.nf_asked.proofs.Refusals.{carries, misuse_refused, text_refused, tree_refused, params_refused, order_refused, check_refused, order_blames, built_refused}
+use Rattle.nf_asked.proofs.Refusals.{carries, misuse_refused, text_refused, tree_refused, params_refused, order_refused, check_refused, order_blames}
 
 -- what a `?` hands on
 pub err_is : {T : Type 0} (r : Result T End) (e : End) → IsErrAnd r (λ x. x ≡ e) → r ≡ Err e
@@ -90,18 +89,15 @@ gen_answers told c n start t r is h =
     let k : AnswersRun told (Gen n start) t r = subst (λ (d : Command). AnswersRun told d t r) is h in
     subst (λ (d : Command). AnswersTree told d t r) (sym is) k
 
-pub built_fails : (told : Option Files) (c : Command) (t : Tree) (e : End) → GivesBuilt t (Err e) → AnswersRun told c t (Err e)
-built_fails told c t e h = let s = some_at told (wish_for c).params_file in (s.0, s.1, built_refused c t s.0 e h)
-
 -- parameters that were read, or why they weren't
 abbrev pub SomeParams : Option Files → Command → Result Params End → Type 0
 SomeParams told c r = (held : Option (List ℕ)) × IsAtPath told (wish_for c).params_file held × GivesParams (wish_for c) held r
 
-pub params_fail : (told : Option Files) (c : Command) (t : Tree) (e : End) → unbuilt_in t ≡ None → SomeParams told c (Err e) → AnswersRun told c t (Err e)
-params_fail told c t e built s = (s.0, s.1, params_refused c t s.0 built e s.2)
+pub params_fail : (told : Option Files) (c : Command) (t : Tree) (e : End) → SomeParams told c (Err e) → AnswersRun told c t (Err e)
+params_fail told c t e s = (s.0, s.1, params_refused c t s.0 e s.2)
 
-pub order_fails : (told : Option Files) (c : Command) (t : Tree) (ps : Params) (e : End) → unbuilt_in t ≡ None → SomeParams told c (Ok ps) → IsRefused t e → AnswersRun told c t (Err e)
-order_fails told c t ps e built s h = (s.0, s.1, order_refused c t s.0 ps (record { built = built; params = s.2 }) e h)
+pub order_fails : (told : Option Files) (c : Command) (t : Tree) (ps : Params) (e : End) → SomeParams told c (Ok ps) → IsRefused t e → AnswersRun told c t (Err e)
+order_fails told c t ps e s h = (s.0, s.1, order_refused c t s.0 ps s.2 e h)
 
 pub memory_fails : (told : Option Files) (c : Command) (t : Tree) → AnswersRun told c t (Err end.Mem)
 memory_fails told c t = let s = some_at told (wish_for c).params_file in (s.0, s.1, tt)
@@ -110,14 +106,14 @@ memory_fails told c t = let s = some_at told (wish_for c).params_file in (s.0, s
 run_is : (c : Command) (script : Script) (ps : Params) (run : AskedRun) → IsRunOf c script ps run → request_of run ≡ runs c (view_script script) ps
 run_is c script ps run h = λ i. runs (h.command i) (view_script (h.is_script i)) (h.params i)
 
-pub run_goes : (told : Option Files) (c : Command) (script : Script) (ps : Params) (run : AskedRun) → unbuilt_in (view_script script) ≡ None → SomeParams told c (Ok ps) → IsOrdered (view_script script) → IsRunOf c script ps run → AnswersRun told c (view_script script) (Ok (asked.Run run))
-run_goes told c script ps run built s ordered h =
+pub run_goes : (told : Option Files) (c : Command) (script : Script) (ps : Params) (run : AskedRun) → SomeParams told c (Ok ps) → IsOrdered (view_script script) → IsRunOf c script ps run → AnswersRun told c (view_script script) (Ok (asked.Run run))
+run_goes told c script ps run s ordered h =
     let t = view_script script in
     let P : Request → Type 0 = IsOnly (RunComes c t s.0) in (
       s.0,
       s.1,
       record {
-        is = subst P (sym (run_is c script ps run h)) (only_run c t s.0 (record { built = built; params = s.2 }) ordered);
+        is = subst P (sym (run_is c script ps run h)) (only_run c t s.0 s.2 ordered);
         wish = h.wish;
       },
     )

@@ -7,13 +7,12 @@ use Rattle.nf_ends.specs.declared.end.End.{End}
 use Rattle.nf_ends.specs.declared.end.End.TheVariants as end
 use Rattle.nf_request.specs.Held.{OnHostFault}
 use Rattle.nf_request.specs.Words.{Asks, IsMisuse, text_for}
-use Rattle.nf_request.specs.Wishes.{Params, wish_for, IsBadFile, LacksParams}
-use Rattle.nf_request.specs.Steps.{LacksText, LacksTree, GivesBuilt, IsRefused}
-use Rattle.nf_unbuilt.specs.Unbuilt.{unbuilt_in}
+use Rattle.nf_request.specs.Wishes.{Params, HasParams, wish_for, IsBadFile, LacksParams}
+use Rattle.nf_request.specs.Steps.{LacksText, LacksTree, IsRefused}
 use Rattle.nf_asked.specs.CommandLine.{CommandLine}
-use Rattle.nf_asked.specs.Request.{Request, refused, HasText, HasParameters, RunComes, CheckComes, Comes}
+use Rattle.nf_asked.specs.Request.{Request, refused, HasText, RunComes, CheckComes, Comes}
 use Rattle.nf_asked.specs.Answers.{IsOnly, Refuses}
-use Rattle.nf_asked.proofs.Rows.{only_unbuilt, only_absent, only_long, only_bad, only_disordered, only_fails}
+use Rattle.nf_asked.proofs.Rows.{only_absent, only_long, only_bad, only_disordered, only_fails}
 use Rattle.nf_asked.proofs.Lines.{only_misused, only_no_script, only_unlexed, only_unparsed}
 
 -- ---- what a request alone is, any request of the same work is
@@ -33,7 +32,6 @@ carries f (end.Parse u) h = f _ h
 carries f (end.Lower u) h = f _ h
 carries f (end.Order b) h = f _ h
 carries f (end.BadParams p) h = f _ h
-carries f (end.Unbuilt p) h = f _ h
 carries f end.HostFault h = tt
 carries f end.LaneFault h = f _ h
 carries f end.KeeperFault h = f _ h
@@ -58,7 +56,6 @@ misuse_refused x (end.Parse f) h = absurd h
 misuse_refused x (end.Lower f) h = absurd h
 misuse_refused x (end.Order b) h = absurd h
 misuse_refused x (end.BadParams p) h = absurd h
-misuse_refused x (end.Unbuilt p) h = absurd h
 misuse_refused x end.HostFault h = tt
 misuse_refused x end.LaneFault h = absurd h
 misuse_refused x end.KeeperFault h = absurd h
@@ -81,7 +78,6 @@ misuse_blames words P (end.Parse f) h = tt
 misuse_blames words P (end.Lower f) h = tt
 misuse_blames words P (end.Order b) h = tt
 misuse_blames words P (end.BadParams p) h = tt
-misuse_blames words P (end.Unbuilt p) h = tt
 misuse_blames words P end.HostFault h = absurd h
 misuse_blames words P end.LaneFault h = tt
 misuse_blames words P end.KeeperFault h = tt
@@ -106,7 +102,6 @@ text_refused x c asks (end.Parse f) h = absurd h
 text_refused x c asks (end.Lower f) h = absurd h
 text_refused x c asks (end.Order b) h = absurd h
 text_refused x c asks (end.BadParams p) h = absurd h
-text_refused x c asks (end.Unbuilt p) h = absurd h
 text_refused x c asks end.HostFault h = tt
 text_refused x c asks end.LaneFault h = absurd h
 text_refused x c asks end.KeeperFault h = absurd h
@@ -129,7 +124,6 @@ tree_refused x c text has (end.Parse f) h = only_unparsed x c text has h
 tree_refused x c text has (end.Lower f) h = absurd h
 tree_refused x c text has (end.Order b) h = absurd h
 tree_refused x c text has (end.BadParams p) h = absurd h
-tree_refused x c text has (end.Unbuilt p) h = absurd h
 tree_refused x c text has end.HostFault h = absurd h
 tree_refused x c text has end.LaneFault h = absurd h
 tree_refused x c text has end.KeeperFault h = absurd h
@@ -152,7 +146,6 @@ tree_blames text P (end.Parse f) h = tt
 tree_blames text P (end.Lower f) h = tt
 tree_blames text P (end.Order b) h = tt
 tree_blames text P (end.BadParams p) h = tt
-tree_blames text P (end.Unbuilt p) h = tt
 tree_blames text P end.HostFault h = absurd h
 tree_blames text P end.LaneFault h = tt
 tree_blames text P end.KeeperFault h = tt
@@ -162,39 +155,38 @@ tree_blames text P end.Mem h = tt
 
 -- ---- parameters
 
-file_refused : (c : Command) (t : Tree) (held : Option (List ℕ)) (path : List ℕ) → unbuilt_in t ≡ None → (wish_for c).params_file ≡ Some path → (e : End) → IsBadFile path held e → Refuses (RunComes c t held) e
-file_refused c t held path built at end.Ok h = absurd h
-file_refused c t held path built at (end.TaskFailed p i n f) h = absurd h
-file_refused c t held path built at (end.ItemFault p v) h = absurd h
-file_refused c t held path built at (end.PublishClash v) h = absurd h
-file_refused c t held path built at (end.Charge s) h = absurd h
-file_refused c t held path built at (end.Usage f) h = absurd h
-file_refused c t held path built at end.NoScript h = absurd h
-file_refused c t held path built at (end.NoFile p) h = subst (λ (q : List ℕ). IsOnly (RunComes c t held) (refused (end.NoFile q))) (sym h.0) (only_absent c t held (record { built = built; path_is = at }) h.1)
-file_refused c t held path built at (end.FileTooLong p) h = subst (λ (q : List ℕ). IsOnly (RunComes c t held) (refused (end.FileTooLong q))) (sym h.0) (only_long c t held (record { built = built; path_is = at }) h.1)
-file_refused c t held path built at (end.Lex f) h = absurd h
-file_refused c t held path built at (end.Parse f) h = absurd h
-file_refused c t held path built at (end.Lower f) h = absurd h
-file_refused c t held path built at (end.Order b) h = absurd h
-file_refused c t held path built at (end.BadParams p) h = only_bad c t held (record { built = built; path_is = at }) h.1 h.2
-file_refused c t held path built at (end.Unbuilt p) h = absurd h
-file_refused c t held path built at end.HostFault h = tt
-file_refused c t held path built at end.LaneFault h = absurd h
-file_refused c t held path built at end.KeeperFault h = absurd h
-file_refused c t held path built at end.SinkFault h = absurd h
-file_refused c t held path built at (end.Damaged d f) h = absurd h
-file_refused c t held path built at end.Mem h = tt
+file_refused : (c : Command) (t : Tree) (held : Option (List ℕ)) (path : List ℕ) → (wish_for c).params_file ≡ Some path → (e : End) → IsBadFile path held e → Refuses (RunComes c t held) e
+file_refused c t held path at end.Ok h = absurd h
+file_refused c t held path at (end.TaskFailed p i n f) h = absurd h
+file_refused c t held path at (end.ItemFault p v) h = absurd h
+file_refused c t held path at (end.PublishClash v) h = absurd h
+file_refused c t held path at (end.Charge s) h = absurd h
+file_refused c t held path at (end.Usage f) h = absurd h
+file_refused c t held path at end.NoScript h = absurd h
+file_refused c t held path at (end.NoFile p) h = subst (λ (q : List ℕ). IsOnly (RunComes c t held) (refused (end.NoFile q))) (sym h.0) (only_absent c t held at h.1)
+file_refused c t held path at (end.FileTooLong p) h = subst (λ (q : List ℕ). IsOnly (RunComes c t held) (refused (end.FileTooLong q))) (sym h.0) (only_long c t held at h.1)
+file_refused c t held path at (end.Lex f) h = absurd h
+file_refused c t held path at (end.Parse f) h = absurd h
+file_refused c t held path at (end.Lower f) h = absurd h
+file_refused c t held path at (end.Order b) h = absurd h
+file_refused c t held path at (end.BadParams p) h = only_bad c t held at h.1 h.2
+file_refused c t held path at end.HostFault h = tt
+file_refused c t held path at end.LaneFault h = absurd h
+file_refused c t held path at end.KeeperFault h = absurd h
+file_refused c t held path at end.SinkFault h = absurd h
+file_refused c t held path at (end.Damaged d f) h = absurd h
+file_refused c t held path at end.Mem h = tt
 
-by_file : (c : Command) (t : Tree) (held file : Option (List ℕ)) → unbuilt_in t ≡ None → (wish_for c).params_file ≡ file → (e : End) → LacksParams file held e → Refuses (RunComes c t held) e
-by_file c t held None built at e h = subst (Refuses (RunComes c t held)) (sym h) tt
-by_file c t held (Some path) built at e h = file_refused c t held path built at e h
+by_file : (c : Command) (t : Tree) (held file : Option (List ℕ)) → (wish_for c).params_file ≡ file → (e : End) → LacksParams file held e → Refuses (RunComes c t held) e
+by_file c t held None at e h = subst (Refuses (RunComes c t held)) (sym h) tt
+by_file c t held (Some path) at e h = file_refused c t held path at e h
 
-pub params_refused : (c : Command) (t : Tree) (held : Option (List ℕ)) → unbuilt_in t ≡ None → (e : End) → LacksParams (wish_for c).params_file held e → Refuses (RunComes c t held) e
-params_refused c t held built e h = by_file c t held (wish_for c).params_file built refl e h
+pub params_refused : (c : Command) (t : Tree) (held : Option (List ℕ)) → (e : End) → LacksParams (wish_for c).params_file held e → Refuses (RunComes c t held) e
+params_refused c t held e h = by_file c t held (wish_for c).params_file refl e h
 
 -- ---- the rules of order
 
-pub order_refused : (c : Command) (t : Tree) (held : Option (List ℕ)) (ps : Params) → HasParameters c t held ps → (e : End) → IsRefused t e → Refuses (RunComes c t held) e
+pub order_refused : (c : Command) (t : Tree) (held : Option (List ℕ)) (ps : Params) → HasParams (wish_for c) held ps → (e : End) → IsRefused t e → Refuses (RunComes c t held) e
 order_refused c t held ps has end.Ok h = absurd h
 order_refused c t held ps has (end.TaskFailed p i n f) h = absurd h
 order_refused c t held ps has (end.ItemFault p v) h = absurd h
@@ -209,7 +201,6 @@ order_refused c t held ps has (end.Parse f) h = absurd h
 order_refused c t held ps has (end.Lower f) h = absurd h
 order_refused c t held ps has (end.Order b) h = only_disordered c t held has h
 order_refused c t held ps has (end.BadParams p) h = absurd h
-order_refused c t held ps has (end.Unbuilt p) h = absurd h
 order_refused c t held ps has end.HostFault h = absurd h
 order_refused c t held ps has end.LaneFault h = absurd h
 order_refused c t held ps has end.KeeperFault h = absurd h
@@ -232,7 +223,6 @@ check_refused t (end.Parse f) h = absurd h
 check_refused t (end.Lower f) h = absurd h
 check_refused t (end.Order b) h = only_fails h
 check_refused t (end.BadParams p) h = absurd h
-check_refused t (end.Unbuilt p) h = absurd h
 check_refused t end.HostFault h = absurd h
 check_refused t end.LaneFault h = absurd h
 check_refused t end.KeeperFault h = absurd h
@@ -255,21 +245,12 @@ order_blames t P (end.Parse f) h = tt
 order_blames t P (end.Lower f) h = tt
 order_blames t P (end.Order b) h = tt
 order_blames t P (end.BadParams p) h = tt
-order_blames t P (end.Unbuilt p) h = tt
 order_blames t P end.HostFault h = absurd h
 order_blames t P end.LaneFault h = tt
 order_blames t P end.KeeperFault h = tt
 order_blames t P end.SinkFault h = tt
 order_blames t P (end.Damaged d f) h = tt
 order_blames t P end.Mem h = tt
-
--- ---- forms that aren't run
-
-pub built_refused : (c : Command) (t : Tree) (held : Option (List ℕ)) (e : End) → GivesBuilt t (Err e) → Refuses (RunComes c t held) e
-built_refused c t held e h = subst (Refuses (RunComes c t held)) (sym h.2) (only_unbuilt c t held h.1)
-
-pub built_blames : (t : Tree) (P : Type 0) (e : End) → GivesBuilt t (Err e) → OnHostFault e P
-built_blames t P e h = subst (λ (v : End). OnHostFault v P) (sym h.2) tt
 
 -- ---- counts of failures
 
@@ -291,7 +272,6 @@ blames_on f (end.Parse u) h = tt
 blames_on f (end.Lower u) h = tt
 blames_on f (end.Order b) h = tt
 blames_on f (end.BadParams p) h = tt
-blames_on f (end.Unbuilt p) h = tt
 blames_on f end.HostFault h = f h
 blames_on f end.LaneFault h = tt
 blames_on f end.KeeperFault h = tt

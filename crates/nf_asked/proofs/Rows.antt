@@ -1,17 +1,15 @@
 -- A command with a tree comes to one request.
 use Rattle.std.proofs.Common.{◌≡◌, ℕ, ◌<◌, ◌≤◌, List, length, Option, Some, None, Result, Ok, Err, refl, sym, ap, subst, ◌∙◌, arith}
-use Rattle.nf_value.specs.declared.place.Place.{Place}
 use Rattle.nf_ast.specs.Tree.{Tree}
 use Rattle.nf_kinds.specs.declared.fault.Broken.{Broken}
 use Rattle.nf_pairs.specs.Pairs.{put_all}
 use Rattle.nf_params.specs.Params.{params_in}
-use Rattle.nf_unbuilt.specs.Unbuilt.{unbuilt_in}
 use Rattle.nf_command.specs.declared.command.Command.{Command}
 use Rattle.nf_ends.specs.declared.end.End.TheVariants as end
 use Rattle.nf_request.specs.Held.{IsLonger}
 use Rattle.nf_request.specs.Wishes.{Params, Wish, params_limit, wish_for, HasParamsFile, HasParams, AreInFile}
 use Rattle.nf_request.specs.Steps.{IsOrdered, IsDisordered}
-use Rattle.nf_asked.specs.Request.{Request, refused, formats, accepts, runs, HasParamsPath, HasParameters, RunComes, CheckComes}
+use Rattle.nf_asked.specs.Request.{Request, refused, formats, accepts, runs, HasParamsPath, RunComes, CheckComes}
 use Rattle.nf_asked.specs.Request as row
 use Rattle.nf_asked.specs.Answers.{IsOnly}
 
@@ -81,9 +79,6 @@ ordered_broken h k = some_none k.first h.none
 
 -- ---- one request
 
-unbuilt_end : {p q : Place} → p ≡ q → refused (end.Unbuilt p) ≡ refused (end.Unbuilt q)
-unbuilt_end e = ap (λ v. refused (end.Unbuilt v)) e
-
 no_file_end : {p q : List ℕ} → p ≡ q → refused (end.NoFile p) ≡ refused (end.NoFile q)
 no_file_end e = ap (λ v. refused (end.NoFile v)) e
 
@@ -107,72 +102,56 @@ bad_read {held} {bytes} {pointer} h x r =
     ok_err r.read (subst (λ (b : List ℕ). params_in b ≡ Err pointer) same x)
 
 module _ (c : Command) (t : Tree) (held : Option (List ℕ)) where
-  unbuilt_alone : {p : Place} → unbuilt_in t ≡ Some p → {o : Request} → RunComes c t held o → o ≡ refused (end.Unbuilt p)
-  unbuilt_alone u (row.unbuilt q v) = unbuilt_end (one_some v u)
-  unbuilt_alone u (row.no_params path w n) = absurd (some_none u w.built)
-  unbuilt_alone u (row.long_params path w l) = absurd (some_none u w.built)
-  unbuilt_alone u (row.bad_params path bytes pointer w f b) = absurd (some_none u w.built)
-  unbuilt_alone u (row.disordered ps b h d) = absurd (some_none u h.built)
-  unbuilt_alone u (row.run ps h d) = absurd (some_none u h.built)
-
-  absent_alone : {path : List ℕ} → HasParamsPath c t path → held ≡ None → {o : Request} → RunComes c t held o → o ≡ refused (end.NoFile path)
-  absent_alone at none (row.unbuilt q v) = absurd (some_none v at.built)
-  absent_alone at none (row.no_params path w n) = no_file_end (one_some w.path_is at.path_is)
+  absent_alone : {path : List ℕ} → HasParamsPath c path → held ≡ None → {o : Request} → RunComes c t held o → o ≡ refused (end.NoFile path)
+  absent_alone at none (row.no_params path w n) = no_file_end (one_some w at)
   absent_alone at none (row.long_params path w l) = absurd (longer_none l none)
   absent_alone at none (row.bad_params path bytes pointer w f b) = absurd (file_none f none)
-  absent_alone at none (row.disordered ps b h d) = absurd (file_none (read_from (wish_for c) at.path_is h.params).file none)
-  absent_alone at none (row.run ps h d) = absurd (file_none (read_from (wish_for c) at.path_is h.params).file none)
+  absent_alone at none (row.disordered ps b h d) = absurd (file_none (read_from (wish_for c) at h).file none)
+  absent_alone at none (row.run ps h d) = absurd (file_none (read_from (wish_for c) at h).file none)
 
-  long_alone : {path : List ℕ} → HasParamsPath c t path → IsLonger params_limit held → {o : Request} → RunComes c t held o → o ≡ refused (end.FileTooLong path)
-  long_alone at long (row.unbuilt q v) = absurd (some_none v at.built)
+  long_alone : {path : List ℕ} → HasParamsPath c path → IsLonger params_limit held → {o : Request} → RunComes c t held o → o ≡ refused (end.FileTooLong path)
   long_alone at long (row.no_params path w n) = absurd (longer_none long n)
-  long_alone at long (row.long_params path w l) = long_file_end (one_some w.path_is at.path_is)
+  long_alone at long (row.long_params path w l) = long_file_end (one_some w at)
   long_alone at long (row.bad_params path bytes pointer w f b) = absurd (longer_file long f)
-  long_alone at long (row.disordered ps b h d) = absurd (longer_file long (read_from (wish_for c) at.path_is h.params).file)
-  long_alone at long (row.run ps h d) = absurd (longer_file long (read_from (wish_for c) at.path_is h.params).file)
+  long_alone at long (row.disordered ps b h d) = absurd (longer_file long (read_from (wish_for c) at h).file)
+  long_alone at long (row.run ps h d) = absurd (longer_file long (read_from (wish_for c) at h).file)
 
-  bad_alone : {path bytes pointer : List ℕ} → HasParamsPath c t path → HasParamsFile held bytes → params_in bytes ≡ Err pointer → {o : Request} → RunComes c t held o → o ≡ refused (end.BadParams pointer)
-  bad_alone at file bad (row.unbuilt q v) = absurd (some_none v at.built)
+  bad_alone : {path bytes pointer : List ℕ} → HasParamsPath c path → HasParamsFile held bytes → params_in bytes ≡ Err pointer → {o : Request} → RunComes c t held o → o ≡ refused (end.BadParams pointer)
   bad_alone at file bad (row.no_params path w n) = absurd (file_none file n)
   bad_alone at file bad (row.long_params path w l) = absurd (longer_file l file)
   bad_alone at file bad (row.bad_params path bytes pointer w f b) = bad_params_end (one_pointer f file b bad)
-  bad_alone at file bad (row.disordered ps b h d) = absurd (bad_read file bad (read_from (wish_for c) at.path_is h.params))
-  bad_alone at file bad (row.run ps h d) = absurd (bad_read file bad (read_from (wish_for c) at.path_is h.params))
+  bad_alone at file bad (row.disordered ps b h d) = absurd (bad_read file bad (read_from (wish_for c) at h))
+  bad_alone at file bad (row.run ps h d) = absurd (bad_read file bad (read_from (wish_for c) at h))
 
-  disordered_alone : {ps : Params} {b : Broken} → HasParameters c t held ps → IsDisordered t b → {o : Request} → RunComes c t held o → o ≡ refused (end.Order b)
-  disordered_alone has broken (row.unbuilt q v) = absurd (some_none v has.built)
-  disordered_alone has broken (row.no_params path w n) = absurd (file_none (read_from (wish_for c) w.path_is has.params).file n)
-  disordered_alone has broken (row.long_params path w l) = absurd (longer_file l (read_from (wish_for c) w.path_is has.params).file)
-  disordered_alone has broken (row.bad_params path bytes pointer w f b) = absurd (bad_read f b (read_from (wish_for c) w.path_is has.params))
+  disordered_alone : {ps : Params} {b : Broken} → HasParams (wish_for c) held ps → IsDisordered t b → {o : Request} → RunComes c t held o → o ≡ refused (end.Order b)
+  disordered_alone has broken (row.no_params path w n) = absurd (file_none (read_from (wish_for c) w has).file n)
+  disordered_alone has broken (row.long_params path w l) = absurd (longer_file l (read_from (wish_for c) w has).file)
+  disordered_alone has broken (row.bad_params path bytes pointer w f b) = absurd (bad_read f b (read_from (wish_for c) w has))
   disordered_alone has broken (row.disordered ps b h d) = order_end (one_broken d broken)
   disordered_alone has broken (row.run ps h d) = absurd (ordered_broken d broken)
 
-  run_alone : {ps : Params} → HasParameters c t held ps → IsOrdered t → {o : Request} → RunComes c t held o → o ≡ runs c t ps
-  run_alone has keeps (row.unbuilt q v) = absurd (some_none v has.built)
-  run_alone has keeps (row.no_params path w n) = absurd (file_none (read_from (wish_for c) w.path_is has.params).file n)
-  run_alone has keeps (row.long_params path w l) = absurd (longer_file l (read_from (wish_for c) w.path_is has.params).file)
-  run_alone has keeps (row.bad_params path bytes pointer w f b) = absurd (bad_read f b (read_from (wish_for c) w.path_is has.params))
+  run_alone : {ps : Params} → HasParams (wish_for c) held ps → IsOrdered t → {o : Request} → RunComes c t held o → o ≡ runs c t ps
+  run_alone has keeps (row.no_params path w n) = absurd (file_none (read_from (wish_for c) w has).file n)
+  run_alone has keeps (row.long_params path w l) = absurd (longer_file l (read_from (wish_for c) w has).file)
+  run_alone has keeps (row.bad_params path bytes pointer w f b) = absurd (bad_read f b (read_from (wish_for c) w has))
   run_alone has keeps (row.disordered ps b h d) = absurd (ordered_broken keeps d)
-  run_alone has keeps (row.run ps h d) = ap (runs c t) (one_params (wish_for c) held h.params has.params)
+  run_alone has keeps (row.run ps h d) = ap (runs c t) (one_params (wish_for c) held h has)
 
   -- ---- each row stands alone
 
-  pub only_unbuilt : {p : Place} → unbuilt_in t ≡ Some p → IsOnly (RunComes c t held) (refused (end.Unbuilt p))
-  only_unbuilt {p} u = record { is = row.unbuilt p u; only = λ o h. unbuilt_alone u h }
-
-  pub only_absent : {path : List ℕ} → HasParamsPath c t path → held ≡ None → IsOnly (RunComes c t held) (refused (end.NoFile path))
+  pub only_absent : {path : List ℕ} → HasParamsPath c path → held ≡ None → IsOnly (RunComes c t held) (refused (end.NoFile path))
   only_absent {path} at none = record { is = row.no_params path at none; only = λ o h. absent_alone at none h }
 
-  pub only_long : {path : List ℕ} → HasParamsPath c t path → IsLonger params_limit held → IsOnly (RunComes c t held) (refused (end.FileTooLong path))
+  pub only_long : {path : List ℕ} → HasParamsPath c path → IsLonger params_limit held → IsOnly (RunComes c t held) (refused (end.FileTooLong path))
   only_long {path} at long = record { is = row.long_params path at long; only = λ o h. long_alone at long h }
 
-  pub only_bad : {path bytes pointer : List ℕ} → HasParamsPath c t path → HasParamsFile held bytes → params_in bytes ≡ Err pointer → IsOnly (RunComes c t held) (refused (end.BadParams pointer))
+  pub only_bad : {path bytes pointer : List ℕ} → HasParamsPath c path → HasParamsFile held bytes → params_in bytes ≡ Err pointer → IsOnly (RunComes c t held) (refused (end.BadParams pointer))
   only_bad {path} {bytes} {pointer} at file bad = record { is = row.bad_params path bytes pointer at file bad; only = λ o h. bad_alone at file bad h }
 
-  pub only_disordered : {ps : Params} {b : Broken} → HasParameters c t held ps → IsDisordered t b → IsOnly (RunComes c t held) (refused (end.Order b))
+  pub only_disordered : {ps : Params} {b : Broken} → HasParams (wish_for c) held ps → IsDisordered t b → IsOnly (RunComes c t held) (refused (end.Order b))
   only_disordered {ps} {b} has broken = record { is = row.disordered ps b has broken; only = λ o h. disordered_alone has broken h }
 
-  pub only_run : {ps : Params} → HasParameters c t held ps → IsOrdered t → IsOnly (RunComes c t held) (runs c t ps)
+  pub only_run : {ps : Params} → HasParams (wish_for c) held ps → IsOrdered t → IsOnly (RunComes c t held) (runs c t ps)
   only_run {ps} has keeps = record { is = row.run ps has keeps; only = λ o h. run_alone has keeps h }
 
 -- ---- `fmt` and `check`

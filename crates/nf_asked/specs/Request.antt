@@ -1,12 +1,10 @@
 -- What a command line comes to: a row for each refusal, in the order of the work, and then what it asks for.
 use Rattle.std.specs.Prelude.{◌≡◌, ℕ, List, [], ◌∷◌, codes, Option, Some, None, Err}
-use Rattle.nf_value.specs.declared.place.Place.{Place}
 use Rattle.nf_ast.specs.Tree.{Tree}
 use Rattle.nf_lexer.specs.Tokens.{Breaks}
 use Rattle.nf_lexer.specs.declared.fault.LexFault.{LexFault}
 use Rattle.nf_exprs.specs.declared.fault.ParseFault.{ParseFault}
 use Rattle.nf_kinds.specs.declared.fault.Broken.{Broken}
-use Rattle.nf_unbuilt.specs.Unbuilt.{unbuilt_in}
 use Rattle.nf_sources.specs.Sources.{folder_at}
 use Rattle.nf_params.specs.Params.{params_in}
 use Rattle.nf_command.specs.declared.command.Command.{Command}
@@ -49,15 +47,9 @@ folder_of (Gen n start) = codes "."
 folder_of (Fmt file) = codes "."
 folder_of (Check file) = codes "."
 
--- all forms of the script are run, and the command names a parameter file at this path
-pub record HasParamsPath (c : Command) (t : Tree) (path : List ℕ) : Type 0 where
-  pub built : unbuilt_in t ≡ None
-  pub path_is : (wish_for c).params_file ≡ Some path
-
--- all forms are run, and these are the parameters; the parameter file holds this
-pub record HasParameters (c : Command) (t : Tree) (held : Option (List ℕ)) (ps : Params) : Type 0 where
-  pub built : unbuilt_in t ≡ None
-  pub params : HasParams (wish_for c) held ps
+-- the command names a parameter file at this path
+abbrev pub HasParamsPath : Command → List ℕ → Type 0
+HasParamsPath c path = (wish_for c).params_file ≡ Some path
 
 -- ---- what is asked for
 
@@ -73,15 +65,14 @@ pub data Request : Type 0 where
 
 -- What a command that runs its tree comes to; the parameter file holds this. Each row stands after those above it
 pub data RunComes (c : Command) (t : Tree) (held : Option (List ℕ)) : Request → Type 0 where
-  unbuilt : (p : Place) → unbuilt_in t ≡ Some p → RunComes c t held (refused (end.Unbuilt p))
-  no_params : (path : List ℕ) → HasParamsPath c t path → held ≡ None → RunComes c t held (refused (end.NoFile path))
-  long_params : (path : List ℕ) → HasParamsPath c t path → IsLonger params_limit held
+  no_params : (path : List ℕ) → HasParamsPath c path → held ≡ None → RunComes c t held (refused (end.NoFile path))
+  long_params : (path : List ℕ) → HasParamsPath c path → IsLonger params_limit held
       → RunComes c t held (refused (end.FileTooLong path))
-  bad_params : (path bytes pointer : List ℕ) → HasParamsPath c t path → HasParamsFile held bytes
+  bad_params : (path bytes pointer : List ℕ) → HasParamsPath c path → HasParamsFile held bytes
       → params_in bytes ≡ Err pointer → RunComes c t held (refused (end.BadParams pointer))
-  disordered : (ps : Params) (b : Broken) → HasParameters c t held ps → IsDisordered t b
+  disordered : (ps : Params) (b : Broken) → HasParams (wish_for c) held ps → IsDisordered t b
       → RunComes c t held (refused (end.Order b))
-  run : (ps : Params) → HasParameters c t held ps → IsOrdered t → RunComes c t held (runs c t ps)
+  run : (ps : Params) → HasParams (wish_for c) held ps → IsOrdered t → RunComes c t held (runs c t ps)
 
 -- what `check` comes to
 pub data CheckComes (t : Tree) : Request → Type 0 where

@@ -22,7 +22,7 @@ use std::alloc::Global;
 /// # Errors
 ///
 /// The first refusal in the order of this work, and exactly if there is one, over a host that reveals its files:
-/// `Usage`, `NoScript`, `Lex`, `Parse`; of a run `Unbuilt`, `NoFile`, `FileTooLong` and `BadParams` for its parameter
+/// `Usage`, `NoScript`, `Lex`, `Parse`; of a run `NoFile`, `FileTooLong` and `BadParams` for its parameter
 /// file; of a run and of `check` `Order`. `HostFault` if the host failed, which it counted; `Mem` if there is no
 /// memory.
 pub fn asked<H: Host>(alloc: Global, words: &[String], host: &mut H) -> Result<Asked, End>

@@ -17,7 +17,7 @@ use nf_command::Command;
 use nf_ends::End;
 use nf_host::Host;
 use nf_order::Accepted;
-use nf_request::{accepted, built, params_of_run};
+use nf_request::{accepted, params_of_run};
 use nf_value::{Mem, Pairs};
 use std::alloc::Global;
 
@@ -34,7 +34,6 @@ pub(crate) fn run_of<H: Host>(
     ensures no_start { H.started host.new ≡ H.started host.old }
     ensures answers { AnswersRun (H.files host.old) command (view_script script) result }
 {
-    built(&script)?;
     let params = params_for(alloc, host, &command)?;
     let script = accepted(alloc, script)?;
     let request = asked_run(alloc, command, script, params)?;

@@ -1,6 +1,5 @@
 -- What each step gives, from a command line to an accepted script.
 use Rattle.std.specs.Prelude.{◌≡◌, ℕ, List, Option, Some, None, Result, Ok, Err}
-use Rattle.nf_value.specs.declared.place.Place.{Place}
 use Rattle.nf_ast.specs.Tree.{Tree}
 use Rattle.nf_ast.specs.Tops.{view_script}
 use Rattle.nf_ast.specs.declared.tops.Script.{Script}
@@ -11,7 +10,6 @@ use Rattle.nf_kinds.specs.declared.fault.Broken.{Broken}
 use Rattle.nf_kinds.specs.Fault.{breaks}
 use Rattle.nf_order.specs.declared.fault.OrderFault.{OrderFault}
 use Rattle.nf_order.specs.declared.fault.OrderFault.TheVariants as order
-use Rattle.nf_unbuilt.specs.Unbuilt.{unbuilt_in}
 use Rattle.nf_ends.specs.declared.end.End.{End}
 use Rattle.nf_ends.specs.declared.end.End.TheVariants as end
 use Rattle.nf_request.specs.Words.{Asks, IsMisuse}
@@ -47,11 +45,6 @@ LacksTree text _ = ⊥
 abbrev pub GivesTree : List ℕ → Result Script End → Type 0
 GivesTree text (Ok s) = IsOnlyScript text (view_script s)
 GivesTree text (Err e) = LacksTree text e
-
--- all forms of the tree are run, or the end has the place of the first that isn't
-abbrev pub GivesBuilt : Tree → Result (Unit {0}) End → Type 0
-GivesBuilt t (Ok u) = unbuilt_in t ≡ None
-GivesBuilt t (Err e) = (p : Place) × (unbuilt_in t ≡ Some p) × (e ≡ end.Unbuilt p)
 
 -- the parameters in a file of these bytes, or the value that is refused
 abbrev pub GivesOfBytes : List ℕ → Result Params End → Type 0

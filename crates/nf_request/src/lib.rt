@@ -8,7 +8,7 @@ mod text;
 mod tree;
 
 pub use command::command_of_words;
-pub use order::{accepted, built};
+pub use order::accepted;
 pub use params::{PARAMS_LIMIT, params_of_run};
 pub use text::{SCRIPT_LIMIT, script_text};
 pub use tree::script_of_text;

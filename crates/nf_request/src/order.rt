@@ -1,29 +1,14 @@
-//! Whether a script is run: all of its forms are, and it keeps the order rules.
+//! Whether a script is run: it keeps the order rules.
 
 ghost use Rattle.std.specs.Prelude.{◌≡◌, IfErr, IfOk, OnOk};
 ghost use Rattle.nf_ast.specs.Tops.{view_script};
-ghost use Rattle.nf_request.specs.Steps.{GivesBuilt, IsOrdered, IsRefused, end_of_order};
+ghost use Rattle.nf_request.specs.Steps.{IsOrdered, IsRefused, end_of_order};
 
 use nf_ast::Script;
 use nf_ends::End;
 use nf_kinds::Broken;
 use nf_order::{Accepted, OrderFault, check};
-use nf_unbuilt::unbuilt_in;
 use std::alloc::Global;
-
-/// Looks for forms of a script that aren't run yet (own). Takes no memory.
-///
-/// # Errors
-///
-/// `Unbuilt` exactly if there is such a form, with the place of the first.
-pub fn built(script: &Script) -> Result<(), End>
-    ensures { GivesBuilt (view_script script.now) result }
-{
-    match unbuilt_in(script) {
-        Some(place) => Err(End::Unbuilt { place }),
-        None => Ok(()),
-    }
-}
 
 /// The script, if it breaks no order rule (own).
 ///
