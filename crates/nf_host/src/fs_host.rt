@@ -15,9 +15,10 @@ use std::process::{Command, ExitStatus, Processes, Stdio};
 use std::rt::Files;
 use std::{fs, io};
 
-// What a shell is given to run a folder's script: the folder is its `$0`.
+// What a shell is given to run a folder's script: the folder is its `$0`. It may begin with `-`, and is looked for in no other
+// folder.
 const CHILD_COMMAND: &str =
-    "cd \"$0\" && sh -ue .command.sh < .command.in > .command.out 2> .command.err";
+    "CDPATH= cd -- \"$0\" && sh -ue .command.sh < .command.in > .command.out 2> .command.err";
 
 /// The files and processes of the system that the program runs on. It doesn't reveal them. A path that is missing, empty or
 /// leads through a plain file is absent; a folder in a file's place is a failure (own).
@@ -87,7 +88,7 @@ impl<R: Files + Processes + Copy + Drop> Host for FsHost<R> {
 
     fn read_at(&mut self, alloc: Global, path: &str, at: u64) -> Result<Piece, HostRefusal> {
         let mut room = vec![in alloc; 0u8; PIECE_LEN]?;
-        let mut file = match File::open(&self.rt, path) {
+        let mut file = match open_at(&self.rt, path, at) {
             Ok(file) => file,
             Err(error) if is_absence(&error) => return Ok(Piece::Absent),
             Err(_) => return Err(self.fail()),
@@ -116,16 +117,14 @@ impl<R: Files + Processes + Copy + Drop> Host for FsHost<R> {
 
     fn clear_dir(&mut self, alloc: Global, dir: &str) -> Result<(), HostRefusal> {
         self.written = None;
-        match self.rt.remove_dir_all(alloc, dir) {
-            Err(error) if is_absence(&error) => Ok(()),
-            cleared => self.count(cleared),
-        }
+        let cleared = clear_at(self.rt, alloc, dir);
+        self.count(cleared)
     }
 
     fn create(&mut self, alloc: Global, path: &str) -> Result<(), HostRefusal> {
         self.written = None;
         let name = String::from_str(alloc, path)?;
-        let created = File::create(&self.rt, path);
+        let created = create_plain(&self.rt, path);
         let file = self.count(created)?;
         self.written = Some(Written { path: name, file });
         Ok(())
@@ -183,6 +182,46 @@ fn texts_of(alloc: Global, names: BTreeSet<String>) -> Result<Vec<Txt>, Mem> {
         texts.push(Txt::of(name))?;
     }
     Ok(texts)
+}
+
+// Removes a folder with all that lies in it, or the link or plain file that stands in its place.
+fn clear_at<R: Files + Copy + Drop>(rt: R, alloc: Global, dir: &str) -> io::Result<()> {
+    match fs::symlink_metadata(&rt, dir) {
+        Ok(found) if found.is_dir() => rt.remove_dir_all(alloc, dir),
+        Ok(_) => fs::remove_file(&rt, dir),
+        Err(error) if is_absence(&error) => Ok(()),
+        Err(error) => Err(error),
+    }
+}
+
+// Opens a file to read it from byte `at` on. Before its front is read, it is seen to be a plain file: to open a pipe may take
+// for ever. What else stands in the place of a task's own file is absent, since the task made it: a link may lead anywhere.
+fn open_at<R: Files>(rt: &R, path: &str, at: u64) -> io::Result<R::File> {
+    if at == 0 && is_of_task(path) && !fs::symlink_metadata(rt, path)?.is_file() {
+        return Err(io::Error::from(ErrorKind::NotFound));
+    }
+    if at == 0 && !fs::metadata(rt, path)?.is_file() {
+        return Err(io::Error::from(ErrorKind::InvalidInput));
+    }
+    File::open(rt, path)
+}
+
+// Makes an empty file, or empties the one at the path. A link or a pipe in the place of a task's own file goes first, since
+// the task made it.
+fn create_plain<R: Files>(rt: &R, path: &str) -> io::Result<R::File> {
+    if is_of_task(path) {
+        match fs::symlink_metadata(rt, path) {
+            Ok(found) if !found.is_file() && !found.is_dir() => fs::remove_file(rt, path)?,
+            _ => {}
+        }
+    }
+    File::create(rt, path)
+}
+
+// Whether a file is one of those that tell of a task in its folder: `.exitcode`, or `.command.` and more.
+fn is_of_task(path: &str) -> bool {
+    let name = path.rsplit('/').next().unwrap_or(path);
+    name == ".exitcode" || name.starts_with(".command.")
 }
 
 fn append_all<R: Files>(rt: &R, path: &str, piece: &[u8]) -> io::Result<()> {

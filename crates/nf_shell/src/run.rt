@@ -84,7 +84,7 @@ fn run_child<H: Host>(
     })
 }
 
-// Writes a child's exit status into its folder.
+// Writes a child's exit status into its folder, which is made anew if the child removed it.
 fn write_exit<H: Host>(alloc: Global, host: &mut H, dir: &str, exit: i32) -> Result<(), HostRefusal>
     ensures later { H.faults host.old ≤ H.faults host.new }
     ensures cause { OnFailed result (Rose (H.faults host.old) (H.faults host.new)) }
@@ -94,5 +94,6 @@ fn write_exit<H: Host>(alloc: Global, host: &mut H, dir: &str, exit: i32) -> Res
         option_map (λ f. put f (path_in dir.now (codes ".exitcode")) (signed_decimal exit)) (H.files host.old)) }
 {
     let status = format!(in alloc; "{exit}")?;
+    host.make_dir(dir)?;
     write_in(alloc, host, dir, ".exitcode", status.as_bytes())
 }
