@@ -7,8 +7,8 @@ use Rattle.std.proofs.lemmas.List.Sums.{sum_by-append, sum_by-cons}
 use Rattle.nf_lane.specs.World.{World}
 use Rattle.nf_lane.specs.Store.{Store}
 use Rattle.nf_serial.specs.Serial.{LaneNow, lane_now}
-use Rattle.nf_pool.specs.Pool.{AreLater, lanes_now}
-use Rattle.nf_ran.specs.Ran.{runs_of}
+use Rattle.nf_carried.specs.Pool.{AreLater, lanes_now}
+use Rattle.nf_carried.specs.Ran.{runs_of}
 
 -- the worlds that they tell
 abbrev pub worlds_of : List LaneNow → List (Option World)

@@ -25,7 +25,6 @@ PlainNames = (text : List ℕ) (tokens : List Lexeme × Place) (tree : Tree) →
     → NamesArePlain (definitions_of tree)
 
 names_run : {c : Command} {t : Tree} {held : Option (List ℕ)} {r : Request} → NamesArePlain (definitions_of t) → RunComes c t held r → HasNames r
-names_run plain (row.unbuilt p u) = tt
 names_run plain (row.no_params path at none) = tt
 names_run plain (row.long_params path at long) = tt
 names_run plain (row.bad_params path bytes pointer at file bad) = tt
@@ -57,7 +56,6 @@ RefusesWell (refused e) = IsRefusal e
 RefusesWell _ = Unit {0}
 
 refusal_run : {c : Command} {t : Tree} {held : Option (List ℕ)} {r : Request} → RunComes c t held r → RefusesWell r
-refusal_run (row.unbuilt p u) = tt
 refusal_run (row.no_params path at none) = tt
 refusal_run (row.long_params path at long) = tt
 refusal_run (row.bad_params path bytes pointer at file bad) = tt

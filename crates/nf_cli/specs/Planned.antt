@@ -23,8 +23,8 @@ use Rattle.nf_found.specs.declared.refusal.FoundRefusal.TheVariants as found
 use Rattle.nf_ends.specs.Causes.{end_of_host}
 use Rattle.nf_ends.specs.declared.end.End.{End}
 use Rattle.nf_ends.specs.declared.end.End.TheVariants as end
-use Rattle.nf_owed.specs.Run.{run_of}
-use Rattle.nf_ran.specs.Ran.{IsMade}
+use Rattle.nf_carried.specs.Run.{run_of}
+use Rattle.nf_carried.specs.Ran.{IsMade}
 use Rattle.nf_asked.specs.declared.answer.AskedRun.{AskedRun}
 use Rattle.nf_cli.specs.Scripts.{Script, Patterns, Reads, Sources, IsAtSource, IsRunOf, HasFirstFault, given_with}
 

@@ -14,7 +14,7 @@ use Rattle.nf_meaning.specs.Walk.{Want}
 use Rattle.nf_found.specs.All.{AreAllFound, IsFirst}
 use Rattle.nf_library.specs.Patterns.{pattern_texts}
 use Rattle.nf_library.specs.Shelves.{AreSplit}
-use Rattle.nf_owed.specs.Run.{Run}
+use Rattle.nf_carried.specs.Run.{Run}
 use Rattle.nf_request.specs.Wishes.{Params}
 
 -- a script with all that stands outside of it, but for the files that its sources read

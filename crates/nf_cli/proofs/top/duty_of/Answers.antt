@@ -2,13 +2,18 @@ use Rattle.std.proofs.Common.{subst, arith}
 use Rattle.nf_host.specs.Faults.{Rose}
 use Rattle.nf_tasks.specs.Memory.{program}
 use Rattle.nf_cli.specs.Calls.{IsWorkAsked}
-use Rattle.nf_cli.proofs.Working.{asked_blames, asked_names, refusal_is_one, work_answers}
+use Rattle.nf_cli.proofs.Working.{asked_blames, asked_names, asked_wish, refusal_is_one, work_answers}
 use Rattle.nf_cli.proofs.top.duty_of.Goals as goal
 
 pub duty_asked-requires-clause-names : goal.duty_asked-requires-clause-names
 duty_asked-requires-clause-names g c =
     let it = c.in-Ok.ensures.answers in
     asked_names c.names_are_plain.ensures it.0 c.in-Ok.asked it.2
+
+pub duty_asked-requires-clause-wish : goal.duty_asked-requires-clause-wish
+duty_asked-requires-clause-wish g c =
+    let it = c.in-Ok.ensures.answers in
+    asked_wish it.0 c.in-Ok.asked it.2
 
 pub returns-in-Ok-clause-work : goal.returns-in-Ok-clause-work
 returns-in-Ok-clause-work g c =
