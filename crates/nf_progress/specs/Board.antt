@@ -1,5 +1,5 @@
 -- How far the tasks of all processes are.
-use Rattle.std.specs.Prelude.{ℕ, zero, suc, List, [], ◌∷◌}
+use Rattle.std.specs.Prelude.{ℕ, zero, suc, List, [], ◌∷◌, Bool, bytes_eq}
 use Rattle.nf_progress.specs.declared.board.Board.{Board}
 use Rattle.nf_progress.specs.declared.board.Tasks.{Tasks}
 use Rattle.nf_progress.specs.declared.counts.Step.{Step}
@@ -12,6 +12,10 @@ tasks_of b = b.processes.items
 -- a process none of whose tasks has begun
 abbrev pub fresh : List ℕ → Tasks
 fresh process = record { process = process; counts = record { done = 0; cached = 0; running = 0 } }
+
+-- whether tasks are those of a process of this name
+abbrev pub is_of : List ℕ → Tasks → Bool
+is_of process t = bytes_eq t.process process
 
 -- a task of the process at this place has come so far
 abbrev pub told_of : List Tasks → ℕ → Step → List Tasks

@@ -1,7 +1,8 @@
 //! `Board`: how far the tasks of all processes are, and the line that says so.
 
 ghost use Rattle.std.specs.Prelude.{◌≡◌, ◌++◌, ◌∷◌, [], ◌≤◌, IfOk, OnOk, OnErr, string_len};
-ghost use Rattle.nf_progress.specs.Board.{fresh, tasks_of, told_of};
+ghost use Rattle.std.specs.List.{position};
+ghost use Rattle.nf_progress.specs.Board.{fresh, is_of, tasks_of, told_of};
 
 use crate::counts::{Counts, Step};
 use nf_value::{Mem, Txt};
@@ -54,6 +55,15 @@ impl Board {
         Ok(())
     }
 
+    /// The place of the first process of this name, if there is one. Takes no memory.
+    pub fn place_of(&self, process: &str) -> Option<usize>
+        ensures { result ≡ position (is_of process.now) (tasks_of self.now) }
+    {
+        self.processes
+            .iter()
+            .position(|tasks| is_of(process, tasks))
+    }
+
     /// A task of the process at this place has come so far. Nothing changes if there is no process there. Takes no memory.
     pub fn told(&mut self, process: usize, step: Step)
         ensures { tasks_of self.new ≡ told_of (tasks_of self.old) process step }
@@ -78,6 +88,13 @@ impl Board {
         }
         Ok(line)
     }
+}
+
+// Whether tasks are those of a process of this name.
+fn is_of(process: &str, tasks: &Tasks) -> bool
+    ensures { result ≡ is_of process.now tasks.now }
+{
+    tasks.process.as_str() == process
 }
 
 // A process with its counts, and what parts it from the next: `ALIGN: 3 done, 1 cached, 2 running. `.

@@ -5,10 +5,8 @@ mod board;
 mod counts;
 mod pace;
 mod screen;
-mod watch;
 
 pub use board::Board;
 pub use counts::{Counts, Step};
 pub use pace::is_due;
 pub use screen::Screen;
-pub use watch::{Unwatched, Watch};

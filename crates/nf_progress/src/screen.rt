@@ -3,65 +3,87 @@
 use crate::board::Board;
 use crate::counts::Step;
 use crate::pace::is_due;
-use crate::watch::Watch;
+use nf_value::{Mem, Txt};
+use std::alloc::Global;
 use std::rt::Clock;
-use std::sync::{Mutex, Wait};
 use std::time::Instant;
 
 /// Goes to the line's begin, and erases what stands there.
 const ERASE: &str = "\r\x1b[K";
 
-/// What is drawn, and when it was drawn last.
+/// The line on standard error that says how far a run is (own). It is for a terminal: it is drawn over itself, at most
+/// ten times a second. A line that can't be made or written is passed over. A screen is closed at the end of a run, or
+/// if there is no memory for a process: nothing is drawn on it any more.
 #[derive(Drop)]
-struct Drawn {
+pub struct Screen {
     board: Board,
     last: Option<Instant>,
+    is_closed: bool,
 }
 
-/// A line on standard error that says how far a run is (own). It is for a terminal: it is drawn over itself, at most ten times a second. A
-/// line that can't be made or written is passed over.
-#[derive(Drop)]
-pub struct Screen<'a, R: Wait + Clock + Eprint + AllocGlobal> {
-    rt: &'a R,
-    drawn: Mutex<Drawn>,
-}
-
-impl<'a, R: Wait + Clock + Eprint + AllocGlobal> Screen<'a, R> {
-    /// A screen with these processes, on which nothing is drawn yet.
-    pub fn new(rt: &'a R, board: Board) -> Screen<'a, R> {
+impl Screen {
+    /// A screen with no process, on which nothing is drawn yet. Takes no memory.
+    pub fn new(alloc: Global) -> Screen {
         Screen {
-            rt,
-            drawn: Mutex::new(Drawn { board, last: None }),
+            board: Board::new(alloc),
+            last: None,
+            is_closed: false,
         }
     }
 
-    /// Erases the line.
-    pub fn clear(&self) {
-        let _ = eprint!(self.rt; "{ERASE}");
+    /// How far the tasks of each process are. Takes no memory.
+    pub fn board(&self) -> &Board {
+        &self.board
     }
-}
 
-impl<'a, R: Wait + Clock + Eprint + AllocGlobal> Watch for Screen<'a, R> {
-    fn told(&self, process: usize, step: Step) {
-        let mut guard = self.drawn.lock(self.rt);
-        let drawn = &mut *guard;
-        drawn.board.told(process, step);
-        draw(self.rt, drawn);
+    /// A task of the process has taken these steps, one after another. A process that wasn't told before is added
+    /// behind the others. Draws the line if it is time for that.
+    pub fn told<R: Clock + Eprint + AllocGlobal>(&mut self, rt: &R, process: &Txt, steps: &[Step]) {
+        if self.is_closed {
+            return;
+        }
+        match self.count(process, steps) {
+            Ok(()) => self.draw(rt),
+            Err(Mem) => self.close(rt),
+        }
     }
-}
 
-// Draws the line, if it is time for that.
-fn draw<R: Clock + Eprint + AllocGlobal>(rt: &R, drawn: &mut Drawn) {
-    let Ok(now) = Instant::now(rt) else {
-        return;
-    };
-    if !is_due(drawn.last, now) {
-        return;
+    /// Erases the line if one was drawn. Draws none any more.
+    pub fn close<R: Eprint>(&mut self, rt: &R) {
+        self.is_closed = true;
+        if self.last.is_some() {
+            self.last = None;
+            let _ = eprint!(rt; "{ERASE}");
+        }
     }
-    drawn.last = Some(now);
-    let Ok(line) = drawn.board.line(rt.alloc()) else {
-        return;
-    };
-    let line = line.as_str();
-    let _ = eprint!(rt; "{ERASE}{line}");
+
+    // Counts the steps of a task of the process.
+    fn count(&mut self, process: &Txt, steps: &[Step]) -> Result<(), Mem> {
+        let board = &mut self.board;
+        if board.place_of(process.as_str()).is_none() {
+            board.add(process.copy()?)?;
+        }
+        if let Some(place) = board.place_of(process.as_str()) {
+            for step in steps {
+                board.told(place, *step);
+            }
+        }
+        Ok(())
+    }
+
+    // Draws the line, if it is time for that.
+    fn draw<R: Clock + Eprint + AllocGlobal>(&mut self, rt: &R) {
+        let Ok(now) = Instant::now(rt) else {
+            return;
+        };
+        if !is_due(self.last, now) {
+            return;
+        }
+        self.last = Some(now);
+        let Ok(line) = self.board.line(rt.alloc()) else {
+            return;
+        };
+        let line = line.as_str();
+        let _ = eprint!(rt; "{ERASE}{line}");
+    }
 }

@@ -1,29 +1,33 @@
-//! The program: calls `nf_main` with the command line, the system's files, shells as lanes, a folder of records and standard output.
+//! The program: calls `nf_main` with the command line, the system's files, shells as lanes, a folder of records and
+//! standard output.
 #![tactic(auto)]
 
 mod failed;
+mod handed;
 
-ghost use Rattle.std.specs.Prelude.{◌≡◌, ◌<◌, ◌^◌, All, IfOk, length};
+ghost use Rattle.std.specs.Prelude.{◌≡◌, ◌<◌, ◌^◌, All, length};
 ghost use Rattle.nf_builtins.specs.Natives.{AnswersNative, program_answer};
-ghost use Rattle.nf_shell.specs.ShellLane.{runs_of};
 
 use crate::failed::explain;
+use crate::handed::{keeper, lanes, runs_tasks, work_folder};
 use nf_builtins::{CallFault, Natives, ProgramBook, StoredNatives, program_names, program_native};
-use nf_cli::{LANES, nf_main};
-use nf_command::{Command, read_words};
+use nf_cli::nf_main;
 use nf_ends::End;
 use nf_host::{FsHost, Host, Sink, StdSink};
-use nf_keeper::{FileKeeper, Keeper};
+use nf_keeper::Keeper;
 use nf_kinds::{Broken, OrderRule};
 use nf_lane::Lane;
-use nf_shell::ShellLane;
-use nf_value::{Mem, Txt, Vals, Value};
+use nf_value::{Mem, Vals, Value};
+use nf_watched::{WatchedSink, Watcher};
 use std::alloc::{AllocError, Global};
-use std::process::{ExitCode, Processes};
-use std::rt::Files;
+use std::env::Env;
+use std::fs::File;
+use std::io::IsTerminal;
+use std::process::ExitCode;
+use std::rt::{Clock, Files};
 use std::sync::Wait;
-use std::thread::Threads;
-use std::{env, io};
+use std::thread::{Builder, Threads};
+use std::{env, io, thread};
 
 /// What `--help` prints.
 const HELP: &str = "pasmovuk: runs pipelines written in a subset of Nextflow DSL2
@@ -34,9 +38,10 @@ const HELP: &str = "pasmovuk: runs pipelines written in a subset of Nextflow DSL
     -resume            takes tasks from earlier runs whose records and files are there
     -queue-size N      runs at most N tasks at once, from 1 to 16; 4 without it (-qs is the same)
     -work-dir DIR      works in DIR; work without it (-w is the same)
+    -with-trace FILE   writes a line for each task to FILE
   fmt FILE       prints the script in FILE in its canonical layout
   check FILE     says whether the script in FILE breaks a rule that keeps results from depending on order
-  gen N START    runs a script with N items that it makes from the number START
+  gen N START    runs a script with N items that it makes from the number START, and prints how long its report is
   --help         prints this
   --version      prints the program's name and version
 
@@ -46,6 +51,13 @@ const HELP: &str = "pasmovuk: runs pipelines written in a subset of Nextflow DSL
 /// What `--version` prints.
 const VERSION: &str = "pasmovuk 0.1.0\n";
 
+/// How many bytes of stack the program may take: a script may be nested so deep that reading and lowering it takes more
+/// than a program's first thread has.
+const STACK_BYTES: usize = 1_073_741_824;
+
+/// A file that has no bytes.
+const NO_BYTES: &str = "/dev/null";
+
 /// The exit status if there is no memory for the words or the lanes.
 const NO_MEMORY: u8 = 5;
 
@@ -53,42 +65,83 @@ const NO_MEMORY: u8 = 5;
 const OUTPUT_FAILED: u8 = 4;
 
 fn main(rt: HostRuntime) -> ExitCode {
+    let _held = held(&rt);
+    let is_terminal = rt.stderr().is_terminal();
+    ExitCode::from(thread::scope(thread::scope_env(), &rt, |scope| {
+        match Builder::new()
+            .stack_size(STACK_BYTES)
+            .spawn_scoped(scope, || program(&rt, is_terminal, || FsHost::new(&rt)))
+        {
+            Ok(thread) => thread.join(&rt),
+            Err(_) => program(&rt, is_terminal, || FsHost::new(&rt)),
+        }
+    }))
+}
+
+/// Opens a file that has no bytes three times, if that can be done. While these files are open, no file of a task gets
+/// a descriptor of standard input, output or error that the program was started without.
+fn held<R: Files>(rt: &R) -> [Option<R::File>; 3] {
+    [
+        File::open(rt, NO_BYTES).ok(),
+        File::open(rt, NO_BYTES).ok(),
+        File::open(rt, NO_BYTES).ok(),
+    ]
+}
+
+/// The whole program, over files and processes that `host` gives. Gives its exit status.
+fn program<R, H, F>(rt: &R, is_terminal: bool, host: F) -> u8
+where
+    R: AllocGlobal + Clock + Env + Eprint + Print + Threads + Wait + Sync,
+    H: Host + Send + Drop,
+    F: Fn() -> H + Drop,
+    requires { F.IsAlwaysCallable host }
+{
     let alloc = rt.alloc();
-    let Ok(words) = words(alloc, env::args(&rt)) else {
-        return ExitCode::from(NO_MEMORY);
+    let Ok(words) = words(alloc, env::args(rt)) else {
+        return NO_MEMORY;
     };
-    let mut out = StdSink::new(&rt);
-    if let Some(text) = own_text(&words) {
-        return ExitCode::from(print(&mut out, text));
+    match own_text(&words) {
+        Some(text) => print(&mut StdSink::new(rt), text),
+        None => call(rt, alloc, &words, is_terminal, &host).unwrap_or(NO_MEMORY),
     }
-    let Ok(work) = work_folder(alloc, &words) else {
-        return ExitCode::from(NO_MEMORY);
-    };
-    let Ok(lanes) = lanes(alloc, &rt, work.as_str()) else {
-        return ExitCode::from(NO_MEMORY);
-    };
-    let Ok(folder) = records_folder(alloc, work.as_str()) else {
-        return ExitCode::from(NO_MEMORY);
-    };
-    let Ok(names) = program_names(alloc) else {
-        return ExitCode::from(NO_MEMORY);
-    };
+}
+
+/// Makes what `nf_main` works with, and calls it. A person at a terminal sees how far a run is. Gives the exit status.
+fn call<R, H, F>(
+    rt: &R,
+    alloc: Global,
+    words: &[String],
+    is_terminal: bool,
+    host: &F,
+) -> Result<u8, Mem>
+where
+    R: AllocGlobal + Clock + Eprint + Print + Threads + Wait + Sync,
+    H: Host + Send + Drop,
+    F: Fn() -> H,
+    requires { F.IsAlwaysCallable host.now }
+{
+    let watcher = Watcher::new(rt, is_terminal && runs_tasks(words));
+    let work = work_folder(alloc, words)?;
+    let lanes = lanes(alloc, host, work.as_str(), &watcher)?;
+    let keeper = keeper(alloc, host(), work.as_str(), &watcher)?;
     let natives = StoredNatives::new(
-        names,
+        program_names(alloc)?,
         ProgramBook,
         |alloc: Global, id: u32, args: &Vals| -> Result<Value, CallFault>
             ensures { AnswersNative (program_answer id args.entry.now) result }
         { program_native(alloc, id, args) },
     );
-    let keeper = FileKeeper::new(alloc, FsHost::new(&rt), folder);
-    let mut host = FsHost::new(&rt);
-    ExitCode::from(status(
-        &rt, alloc, &words, &mut host, keeper, lanes, &natives, &mut out,
-    ))
+    let mut host = host();
+    let mut out = WatchedSink::new(StdSink::new(rt), watcher.again());
+    let status = status(
+        rt, alloc, words, &mut host, keeper, lanes, &natives, &mut out,
+    );
+    watcher.close();
+    Ok(status)
 }
 
-/// Calls `nf_main`, and gives its exit status. Of a script that isn't accepted, it says on standard error why, and what to
-/// write instead; of a task that failed, where its folder is and what it wrote to standard error last.
+/// Calls `nf_main`, and gives its exit status. Of a script that isn't accepted, it says on standard error why, and what
+/// to write instead; of a task that failed, where its folder is and what it wrote to standard error last.
 fn status<R, H, K, L, N, O>(
     rt: &R,
     alloc: Global,
@@ -151,37 +204,8 @@ fn advice(rule: OrderRule) -> &'static str {
     }
 }
 
-/// The lanes, each over the system's files and shells, in this work folder.
-fn lanes<R: Files + Processes + Copy + Drop>(
-    alloc: Global,
-    rt: R,
-    work: &str,
-) -> Result<Vec<ShellLane<FsHost<R>>>, Mem>
-    ensures count { IfOk result (λ v. length v.items ≡ 16) }
-    ensures room { IfOk result (λ v. All (λ l. runs_of l < 2 ^ 62) v.items) }
-{
-    let mut lanes = Vec::with_capacity(alloc, LANES)?;
-    for _ in 0..LANES {
-        let work = Txt::of(String::from_str(alloc, work)?);
-        lanes.push(ShellLane::new(alloc, FsHost::new(rt), work))?;
-    }
-    Ok(lanes)
-}
-
-/// The work folder that the words name; `work` if they name none.
-fn work_folder(alloc: Global, words: &[String]) -> Result<Txt, Mem> {
-    match &read_words(alloc, words) {
-        Ok(Command::Run(run)) => run.work.copy(),
-        Ok(_) | Err(_) => Ok(Txt::of(String::from_str(alloc, "work")?)),
-    }
-}
-
-/// The folder of the records of a work folder.
-fn records_folder(alloc: Global, work: &str) -> Result<Txt, Mem> {
-    Ok(Txt::of(format!(in alloc; "{work}/.cache")?))
-}
-
-/// The words after the program's name. If one of them isn't UTF-8, a single empty word stands for all, which is no command.
+/// The words after the program's name. If one of them isn't UTF-8, a single empty word stands for all, which is no
+/// command.
 fn words(alloc: Global, args: io::Result<env::Args<Global>>) -> Result<Vec<String>, AllocError> {
     match args {
         Ok(args) => args.skip(1).collect(alloc),

@@ -1,6 +1,6 @@
 //! The line of a run's progress, and when it is drawn.
 
-use nf_progress::{Board, Counts, Screen, Step, Unwatched, Watch, is_due};
+use nf_progress::{Board, Counts, Screen, Step, is_due};
 use nf_value::{Mem, Txt};
 use std::alloc::Global;
 use std::test::Fail;
@@ -61,12 +61,23 @@ fn a_line_is_drawn_at_most_ten_times_a_second(rt: HostRuntime) -> Result<(), Fai
 }
 
 #[test]
-fn a_screen_is_told_of_steps(rt: HostRuntime) -> Result<(), Fail> {
+fn a_process_is_found_by_its_name(rt: HostRuntime) -> Result<(), Fail> {
+    let board = begun(rt.alloc())?;
+    assert_eq!(rt; board.place_of("COUNT"), Some(1));
+    assert_eq!(rt; board.place_of("SUM"), None);
+    Ok(())
+}
+
+#[test]
+fn a_screen_is_told_of_steps_until_it_is_closed(rt: HostRuntime) -> Result<(), Fail> {
     let alloc = rt.alloc();
-    Unwatched.told(0, Step::Begun);
-    let screen = Screen::new(&rt, begun(alloc)?);
-    screen.told(0, Step::Done);
-    screen.told(0, Step::Lost);
-    screen.clear();
+    let mut screen = Screen::new(alloc);
+    let process = txt(alloc, "ALIGN")?;
+    screen.told(&rt, &process, &[Step::Begun]);
+    screen.told(&rt, &process, &[Step::Done, Step::Begun]);
+    screen.close(&rt);
+    screen.told(&rt, &process, &[Step::Lost]);
+    let line = screen.board().line(alloc)?;
+    assert_eq!(rt; line.as_str(), "ALIGN: 1 done, 0 cached, 1 running. ");
     Ok(())
 }

@@ -1,6 +1,6 @@
 use Rattle.std.proofs.Common.{◌≡◌, ◌≤◌, ◌+◌, length, rules}
-use Rattle.nf_cli.proofs.Rooms.{room_more}
-use Rattle.pasmovuk.proofs.lanes.Goals as goal
+use Rattle.pasmovuk.proofs.Rooms.{room_more}
+use Rattle.pasmovuk.proofs.handed.lanes.Goals as goal
 
 pub loop-preserved : goal.loop-preserved
 loop-preserved g c =
@@ -8,5 +8,5 @@ loop-preserved g c =
     let within : c.loop.counter + 1 ≤ 16 = search rules in (
       longer,
       within,
-      room_more c.loop.lanes.items c.push.new.self.items c.new-in-loop.result c.in_ok-push.ensures.items c.new-in-loop.ensures.runs c.loop.invariant.2,
+      room_more c.loop.lanes.items c.push.new.self.items c.new.result c.new-lane.result c.in_ok-push.ensures.items c.new.ensures c.new-lane.ensures.runs c.loop.invariant.2,
     )

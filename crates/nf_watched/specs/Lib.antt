@@ -1,0 +1,3 @@
+pub mod WatchedKeeper
+pub mod WatchedLane
+pub mod WatchedSink
