@@ -6,18 +6,49 @@ use anyhow::{Result, bail};
 use nf_host::{MemHost, MemSink};
 use std::alloc::Global;
 
-/// The words of calls after each other, and what is around the first of them.
+/// Steps after each other, what is around the first of them, how the calls are made, and the paths of files that are shown
+/// after the last.
 #[derive(Drop)]
 pub(crate) struct Row {
-    pub(crate) calls: Vec<Vec<String>>,
+    pub(crate) steps: Vec<Step>,
+    pub(crate) shown: Vec<String>,
+    pub(crate) way: Way,
     pub(crate) host: MemHost,
     pub(crate) sink: MemSink,
+}
+
+/// What is done with the files that the steps before left.
+#[derive(Drop)]
+pub(crate) enum Step {
+    /// A call with these words.
+    Call(Vec<String>),
+    /// The folder at this path is taken away.
+    Clear(String),
+    /// The lanes of the calls behind it answer from what the records hold.
+    Table,
+}
+
+/// How the calls of a row are made.
+#[derive(Clone, Copy, Drop)]
+pub(crate) struct Way {
+    /// Each lane holds its first run until a second one's begins.
+    pub(crate) lanes_meet: bool,
+    /// `meet` is the only function, and its first call waits for a second.
+    pub(crate) calls_meet: bool,
+    /// The node whose takes before its first give are counted.
+    pub(crate) counted: Option<u32>,
 }
 
 /// The row that a line spells: `WORDS «SCRIPT»` or `WORDS`, and parts, each after `; `.
 pub(crate) fn read_row(alloc: Global, line: &str) -> Result<Row> {
     let mut row = Row {
-        calls: Vec::new(alloc),
+        steps: Vec::new(alloc),
+        shown: Vec::new(alloc),
+        way: Way {
+            lanes_meet: false,
+            calls_meet: false,
+            counted: None,
+        },
         host: MemHost::new(alloc),
         sink: MemSink::new(alloc),
     };
@@ -58,13 +89,13 @@ fn first_part(line: &str) -> (&str, &str) {
     (line, "")
 }
 
-/// Adds a call with these words.
+/// Adds a call with these words, whose pictures are read.
 pub(crate) fn add_call(alloc: Global, row: &mut Row, words: &str) -> Result<()> {
     let mut call = Vec::new(alloc);
     for word in words.split_whitespace() {
-        call.push(String::from_str(alloc, word)?)?;
+        call.push(text(alloc, word)?)?;
     }
-    row.calls.push(call)?;
+    row.steps.push(Step::Call(call))?;
     Ok(())
 }
 

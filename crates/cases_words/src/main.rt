@@ -1,7 +1,8 @@
-//! Reads a table of command lines and parameter files. Standard input has a row a line. `words: WORDS` has words between `<` and `>`, or none;
-//! `file: TEXT` the text of a parameter file; `bytes: HEX` its bytes in hexadecimal. `nested: N` is N lists in each other under the key `a`, and
-//! `deep: N` the same with a number in the innermost. `over: SCRIPT | FILE | WORDS` has the parameters of three places, each as a file.
-//! `gen: N START` has the numbers of a script that is made. Each row is printed with what is read of it. Empty lines and lines that begin with `#` are printed as they are.
+//! Reads a table of command lines and parameter files. Standard input has a row a line. `words: WORDS` has words between `<` and `>`, or
+//! none; `file: TEXT` the text of a parameter file; `bytes: HEX` its bytes in hexadecimal. `nested: N` is N lists in each other under the
+//! key `a`, and `deep: N` the same with a number in the innermost. `over: SCRIPT | FILE | WORDS` has the parameters of three places, each
+//! as a file. `gen: N START` has the numbers of a script that is made, and `line: N START <REPORT>` a report of its run too, with `\n` for
+//! each line end. Each row is printed with what is read of it. Empty lines and lines that begin with `#` are printed as they are.
 #![tactic(auto)]
 
 mod files;
@@ -44,6 +45,7 @@ fn answer(alloc: Global, row: &str) -> Result<String> {
         Some(("deep", count)) => files::deep(alloc, count),
         Some(("over", parts)) => files::over(alloc, parts),
         Some(("gen", numbers)) => generated::generated(alloc, numbers),
+        Some(("line", parts)) => generated::line(alloc, parts),
         _ => bail!("{row}: no question"),
     }
 }

@@ -1,0 +1,2 @@
+pub mod MeetLane
+pub mod Natives
