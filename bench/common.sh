@@ -5,8 +5,12 @@ top=$(dirname "$(readlink -f "$0")")/..
 folder=$(mktemp -d)
 trap 'rm -rf "$folder"' EXIT
 
-# sets `program` to the program of these sources, which is built where there is none yet
+# sets `program` to that of the folder BENCH_PROGRAMS, where it has one, else to the program of these sources, which is built where there is none yet
 find_program() {
+    if [ -n "${BENCH_PROGRAMS:-}" ] && [ -x "$BENCH_PROGRAMS/pasmovuk" ]; then
+        program=$(readlink -f "$BENCH_PROGRAMS/pasmovuk")
+        return
+    fi
     program=$("$top/release/find")
 }
 

@@ -1,5 +1,6 @@
 /* The work of a task without the lane: for each of COUNT tasks it makes the folder, writes the files, starts the same shell without copying its own memory,
-   reads what the shell left, and puts the output in its place. It computes no digest. Prints the microseconds of all tasks. */
+   reads what the shell left, and puts the output in its place. It computes no digest. PROCESSES of them work at once, each on its part of the tasks.
+   Prints the microseconds of all tasks. */
 #include <dirent.h>
 #include <errno.h>
 #include <fcntl.h>
@@ -96,11 +97,28 @@ static void task(unsigned number) {
     if (rename(from, place) != 0) fail(place);
 }
 
+/* every task of those, from `first` on, that is so many behind the one before */
+static void part(unsigned first, unsigned tasks, unsigned step) {
+    for (unsigned number = first; number < tasks; number += step) task(number);
+}
+
 int main(int count, char **words) {
     struct timespec start, end;
     unsigned tasks = count > 1 ? (unsigned)atoi(words[1]) : 1000;
+    unsigned processes = count > 2 ? (unsigned)atoi(words[2]) : 1;
+    int status;
     clock_gettime(CLOCK_MONOTONIC, &start);
-    for (unsigned number = 0; number < tasks; number++) task(number);
+    for (unsigned first = 1; first < processes; first++) {
+        pid_t child = fork();
+        if (child < 0) fail("fork");
+        if (child == 0) {
+            part(first, tasks, processes);
+            exit(0);
+        }
+    }
+    part(0, tasks, processes);
+    while (wait(&status) > 0)
+        if (status != 0) exit(1);
     clock_gettime(CLOCK_MONOTONIC, &end);
     printf("%lld\n", (end.tv_sec - start.tv_sec) * 1000000LL + (end.tv_nsec - start.tv_nsec) / 1000);
     return 0;
