@@ -116,9 +116,9 @@ fn fails_at<R: Wait + Copy + Drop>(rt: R, alloc: Global, call: u64) -> Result<bo
 }
 
 /// The calls of a run and a look: the folder is cleared and made (2), the script and the input are written (4), each staged file
-/// is read and written (6), the child (1), its status (2), its output (1), the names (1), each output is read, written and put
-/// into its place in the store (15). Then each of the three is read there (3).
-const CALLS: u64 = 35;
+/// is read and written (6), the child (1), its folder, if it is gone, and its status (3), its output (1), the names (1), each output
+/// is read, written and put into its place in the store (15). Then each of the three is read there (3).
+const CALLS: u64 = 36;
 
 #[test]
 fn each_call_fails_in_turn(rt: HostRuntime) -> Result<(), Fail> {
