@@ -14,8 +14,8 @@ use Rattle.nf_meaning.specs.Stands.{read}
 use Rattle.nf_meaning.specs.Taken as meaning
 use Rattle.nf_meaning.specs.Things.{Channel, a_channel}
 use Rattle.nf_meaning.specs.Walk.{Walk, ◌>>=◌, gives, then_by}
-use Rattle.nf_around.specs.Gives.{Reads}
-use Rattle.nf_around.specs.declared.surroundings.Surroundings.{Surroundings}
+use Rattle.nf_walked.specs.Gives.{Reads}
+use Rattle.nf_walked.specs.Surroundings.{Surroundings}
 use Rattle.nf_plan.specs.declared.builder.PlanBuilder.{PlanBuilder}
 use Rattle.nf_plan.specs.Plans.{ReadPlan}
 use Rattle.nf_plan.specs.Runs.{Run, bags_of}

@@ -13,7 +13,7 @@ use Rattle.nf_meaning.specs.Walk.{Around, State, gives, then_by}
 use Rattle.nf_lowered.specs.Given.{Gives}
 use Rattle.nf_lowered.proofs.Joining.{fault_by, fault_is}
 use Rattle.nf_opargs.specs.Still.{IsStill}
-use Rattle.nf_around.specs.Gives.{Reads}
+use Rattle.nf_walked.specs.Gives.{Reads}
 use Rattle.nf_lowering.specs.declared.state.Lowering.{Lowering}
 use Rattle.nf_lowering.specs.State.{IsLowering}
 use Rattle.nf_taken.specs.Bodies.{IsIn, IsSame, range_walk}

@@ -15,7 +15,7 @@ use Rattle.nf_arguments.specs.declared.one.One.{One}
 use Rattle.nf_arguments.specs.declared.one.One.TheVariants as one
 use Rattle.nf_arguments.specs.declared.written.Written.{Written}
 use Rattle.nf_arguments.specs.Args.{IsOne, written_arg}
-use Rattle.nf_around.specs.Gives.{Reads}
+use Rattle.nf_walked.specs.Gives.{Reads}
 use Rattle.nf_graph.specs.Meaning.{Bags}
 use Rattle.nf_callees.specs.Found.{held}
 use Rattle.nf_plan.specs.Plans.{want_of}

@@ -13,7 +13,7 @@ use Rattle.nf_meaning.specs.Things.{Channel, Thing, a_channel}
 use Rattle.nf_meaning.specs.Walk.{Walk, ◌>>=◌, gives}
 use Rattle.nf_opargs.specs.declared.sources.Source.{Source}
 use Rattle.nf_opargs.specs.declared.sources.Source.TheVariants as source
-use Rattle.nf_leading.specs.Stays.{Stays}
+use Rattle.nf_walked.specs.Stays.{Stays}
 use Rattle.nf_scopes.specs.declared.things.Thing as memory
 use Rattle.nf_taken.specs.declared.paths.PathArgs.{PathArgs}
 use Rattle.nf_taken.specs.Bodies.{IsPathArgs, range_walk}

@@ -8,7 +8,7 @@ use Rattle.nf_value.specs.declared.value.Value.{Value}
 use Rattle.nf_bag.specs.declared.rows.Row.{Row}
 use Rattle.nf_bag.specs.declared.rows.Row.TheVariants as row
 use Rattle.nf_builtins.specs.Lists.{list_of}
-use Rattle.nf_placed.specs.Placed.{Placed, ◌>>=◌}
+use Rattle.nf_eval.specs.Placed.{Placed, ◌>>=◌}
 use Rattle.nf_eval.specs.Evaluation.{Closing, apply_of}
 use Rattle.nf_eval.specs.declared.closures.Closure.{Closure}
 use Rattle.nf_tasks.specs.Memory.{Program, formula_of, process_of}

@@ -5,9 +5,9 @@ use Rattle.nf_value.specs.Truth.{truth_of}
 use Rattle.nf_builtins.specs.Lists.{list_of}
 use Rattle.nf_ast.specs.Tree.{Tree, empty, cons}
 use Rattle.nf_ast.specs.View.{trees}
-use Rattle.nf_placed.specs.Placed.{Placed, ◌>>=◌}
-use Rattle.nf_placed.specs.Scope.{Env, inside}
-use Rattle.nf_placed.specs.Body.{going, value_of_body, bound, with_all}
+use Rattle.nf_eval.specs.Placed.{Placed, ◌>>=◌}
+use Rattle.nf_eval.specs.Scope.{Env, inside}
+use Rattle.nf_eval.specs.Body.{going, value_of_body, bound, with_all}
 use Rattle.nf_eval.specs.Evaluation.{meaning_of, next, body_of, Closing, apply_of, branch_of, labels_of}
 use Rattle.nf_tasks.specs.Meaning.{Formula}
 use Rattle.nf_bodies.specs.Labels.{Label, label_tree, HasLabels, with_label, first_true, all_values}

@@ -5,15 +5,15 @@ use Rattle.nf_value.specs.View.{plain_of}
 use Rattle.nf_value.specs.declared.fault.EvalKind.TheVariants.{WrongKind}
 use Rattle.nf_pattern.specs.Whole.{found_in}
 use Rattle.nf_pattern.specs.Wrapped.{wrapped}
-use Rattle.nf_infix.specs.Compare.{is_found}
-use Rattle.nf_placed.specs.Placed.{Placed}
+use Rattle.nf_eval.specs.Compare.{is_found}
+use Rattle.nf_eval.specs.Placed.{Placed}
 use Rattle.nf_eval.specs.Evaluation.{nowhere}
-use Rattle.nf_operator.specs.Answer.{literal_answer, pattern_answer}
+use Rattle.nf_meaning.specs.Answer.{literal_answer, pattern_answer}
 use Rattle.nf_job.specs.declared.parts.JobParts.{JobParts}
 use Rattle.nf_job.specs.declared.report.Report.{Report}
 use Rattle.nf_job.specs.declared.fault.TaskFault.{TaskFault}
 use Rattle.nf_job.specs.declared.fault.TaskFault.TheVariants.{Eval}
-use Rattle.nf_graph.specs.Rules.{Rules, Outs}
+use Rattle.nf_meaning.specs.Rules.{Rules, Outs}
 use Rattle.nf_tasks.specs.Judged.{Judged}
 use Rattle.nf_tasks.specs.Memory.{Program, formula_of, process_of}
 use Rattle.nf_tasks.specs.Prepared.{parts_of}

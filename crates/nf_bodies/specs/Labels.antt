@@ -6,7 +6,7 @@ use Rattle.nf_builtins.specs.Lists.{list_of}
 use Rattle.nf_ast.specs.Tree as tree
 use Rattle.nf_ast.specs.Tree.{Tree, empty, cons}
 use Rattle.nf_ast.specs.View.{trees}
-use Rattle.nf_placed.specs.Placed.{Placed, ◌>>=◌}
+use Rattle.nf_eval.specs.Placed.{Placed, ◌>>=◌}
 use Rattle.nf_eval.specs.Evaluation.{Closing}
 use Rattle.nf_tasks.specs.Meaning.{Formula}
 

@@ -5,7 +5,7 @@ use Rattle.nf_job.specs.declared.parts.JobParts.{JobParts}
 use Rattle.nf_job.specs.declared.report.Report.{Report}
 use Rattle.nf_job.specs.declared.fault.TaskFault.{TaskFault}
 use Rattle.nf_job.specs.declared.emitted.Outputs.TheVariants.{Again}
-use Rattle.nf_graph.specs.Rules.{IsRules, Outs, last_attempt}
+use Rattle.nf_meaning.specs.Rules.{IsRules, Outs, last_attempt}
 use Rattle.nf_tasks.specs.Judged.{Judged}
 use Rattle.nf_tasks.specs.Memory.{Program, process_of}
 use Rattle.nf_tasks.proofs.Decided.{not_again, without_a_job}

@@ -2,8 +2,8 @@
 
 ghost use Rattle.std.specs.Prelude.{◌≡◌, [], ◌∷◌, IfOk};
 ghost use Rattle.nf_value.specs.View.{plain_of};
-ghost use Rattle.nf_operator.specs.Answer.{is_text_of};
-ghost use Rattle.nf_placed.specs.Placed.{Evaluates};
+ghost use Rattle.nf_meaning.specs.Answer.{is_text_of};
+ghost use Rattle.nf_eval.specs.Placed.{Evaluates};
 ghost use Rattle.nf_tasks.specs.Memory.{formula_of, program};
 ghost use Rattle.nf_bodies.specs.Bodies.{answer_of, matches_whole};
 

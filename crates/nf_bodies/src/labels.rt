@@ -1,7 +1,7 @@
 //! The labels of `branch` and `multiMap`, each a closure of its own.
 
 ghost use Rattle.std.specs.Prelude.{map};
-ghost use Rattle.nf_placed.specs.Placed.{Evaluates};
+ghost use Rattle.nf_eval.specs.Placed.{Evaluates};
 ghost use Rattle.nf_tasks.specs.Memory.{formula_of, program};
 ghost use Rattle.nf_bodies.specs.Labels.{first_true as first_true_of, value_list};
 

@@ -8,7 +8,7 @@ ghost use Rattle.nf_bag.specs.declared.rows.Row.{Row};
 ghost use Rattle.nf_bag.specs.declared.rows.Row.TheVariants as row;
 ghost use Rattle.nf_eval.specs.Evaluation.{Closing};
 ghost use Rattle.nf_eval.specs.declared.closures.Closure.{Closure};
-ghost use Rattle.nf_graph.specs.Rules as graph;
+ghost use Rattle.nf_meaning.specs.Rules as graph;
 ghost use Rattle.nf_tasks.specs.Memory.{Program, process_of};
 ghost use Rattle.nf_tasks.specs.declared.process.ProcessSpec.{ProcessSpec};
 ghost use Rattle.nf_meaning.specs.Taken.{Taken};

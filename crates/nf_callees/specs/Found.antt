@@ -10,8 +10,8 @@ use Rattle.nf_ast.specs.Tree as tree
 use Rattle.nf_ast.specs.Tree.{Tree}
 use Rattle.nf_ast.specs.Tops.{view_process, view_top, view_workflow}
 use Rattle.nf_ast.specs.View.{names, trees}
-use Rattle.nf_eval.specs.Evaluation.{Definition}
-use Rattle.nf_eval.specs.Functions as eval
+use Rattle.nf_meaning.specs.Evaluation.{Definition}
+use Rattle.nf_meaning.specs.EvalFunctions as eval
 use Rattle.nf_names_used.specs.Uses.{params_uses}
 use Rattle.nf_meaning.specs.Functions.{body_uses}
 use Rattle.nf_meaning.specs.Given.{Definitions, function_named, tree_named}

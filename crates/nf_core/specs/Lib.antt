@@ -8,3 +8,4 @@ pub mod Kept
 pub mod Ran
 pub mod Calls
 pub mod Promises
+pub use Rattle.nf_flow.specs.Seen

@@ -6,7 +6,7 @@ ghost use Rattle.nf_machine.specs.Legal.{CloseIsLegal};
 ghost use Rattle.nf_flight.specs.Ticket.{number_of};
 ghost use Rattle.nf_flow.specs.Seen.{grown, plain_of, state_of, take_of};
 ghost use Rattle.nf_flow.specs.Questions.{IsFlying};
-ghost use Rattle.nf_nodes.specs.Steps.{MayPass, MayTake};
+ghost use Rattle.nf_flow.specs.Steps.{MayPass, MayTake};
 
 use crate::fixed::Fixed;
 use crate::leaves::{can_go_on, give_back};

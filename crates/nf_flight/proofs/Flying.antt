@@ -7,7 +7,7 @@ use Rattle.std.proofs.lemmas.Bool.{cases_eq, cases_lt}
 use Rattle.std.proofs.lemmas.Bool.Decides.{nat_tests}
 use Rattle.std.proofs.lemmas.List.{get_or-set_same, get_or-set_other, get_or_past, get_or_append_left, get_or_push, get_or_default}
 use Rattle.std.proofs.lemmas.List.Sums.{count_by-le-length}
-use Rattle.nf_opstream.proofs.Tally.{passes, one_if, count_is_passes, tally-append}
+use Rattle.nf_machine.proofs.Tally.{passes, one_if, count_is_passes, tally-append}
 use Rattle.nf_machine.specs.State.{Ticket}
 use Rattle.nf_machine.specs.Step.{ticket_at, without, with_ticket}
 use Rattle.nf_machine.proofs.Tickets.{found_tally}

@@ -5,7 +5,7 @@ use Rattle.std.specs.declared.option.Option.{Option}
 use Rattle.std.specs.declared.option.Option.TheVariants.{None, Some}
 use Rattle.std.proofs.lemmas.Bool.{cases_Bool, cases_eq}
 use Rattle.std.proofs.lemmas.Bool.Decides.{nat_tests}
-use Rattle.nf_opstream.proofs.Tally.{passes, one_if}
+use Rattle.nf_machine.proofs.Tally.{passes, one_if}
 use Rattle.nf_machine.specs.State.{Ticket}
 use Rattle.nf_machine.specs.Step.{ticket_at, without, with_ticket}
 

@@ -1,7 +1,7 @@
 //! `Flights`: the takes in flight, by their numbers.
 
 ghost use Rattle.std.specs.Prelude.{◌≡◌, ◌==◌, ◌+◌, ◌<◌, ◌^◌, [], ◌∷◌, ◌++◌, ℕ, List, Some, None, true, false, suc, length, count_by, slice_index_or, IfOk, OnOk, OnErr};
-ghost use Rattle.nf_job.specs.declared.report.Report.{Report};
+ghost use Rattle.nf_machine.specs.Report.{Report};
 ghost use Rattle.nf_machine.specs.State.{Ticket};
 ghost use Rattle.nf_machine.specs.Step.{ticket_at, with_ticket, without};
 

@@ -11,13 +11,13 @@ use Rattle.nf_machine.specs.State as machine
 use Rattle.nf_machine.specs.State.{State}
 use Rattle.nf_machine.specs.Step.{slot_of, takes, ticket_at}
 use Rattle.nf_machine.specs.Legal as legal
-use Rattle.nf_wiring.specs.Places.{place_in}
+use Rattle.nf_nodes.specs.Places.{place_in}
 use Rattle.nf_flight.specs.Flights as flights
 use Rattle.nf_flight.specs.Flights.{HasTickets, nodes_of, next_of}
 use Rattle.nf_flight.specs.Ticket.{number_of, node_of, port_of, inputs_of, n_of, attempt_of}
 use Rattle.nf_flight.specs.declared.ticket.Ticket.{Ticket}
-use Rattle.nf_spot.specs.Spot.{IsTaken}
-use Rattle.nf_spot.specs.declared.node_state.Taken.{Taken}
+use Rattle.nf_nodes.specs.Spot.{IsTaken}
+use Rattle.nf_nodes.specs.Taken.{Taken}
 use Rattle.nf_nodes.specs.Steps.{CanClose, CanEmit, CanGive, CanReceive, CanTakeThere, HasNext, MayTake}
 use Rattle.nf_flow.specs.Questions.{IsTicket}
 use Rattle.nf_flow.specs.Stopped.{IsNamedFault}

@@ -9,7 +9,7 @@ ghost use Rattle.nf_machine.specs.State.{State, opening};
 ghost use Rattle.nf_machine.specs.Step.{limit};
 ghost use Rattle.nf_machine.specs.Legal.{CloseIsLegal, PassIsLegal};
 ghost use Rattle.nf_opstream.specs.Fault.{fault_of};
-ghost use Rattle.nf_wiring.specs.Places.{place_in};
+ghost use Rattle.nf_nodes.specs.Places.{place_in};
 ghost use Rattle.nf_nodes.specs.Steps.{MayTake};
 ghost use Rattle.nf_bounds.specs.Bounds.{IsBounded};
 ghost use Rattle.nf_flow.specs.Stopped.{IsNamedFault};

@@ -7,10 +7,10 @@ use Rattle.nf_graph.specs.Node.{PlainNode}
 use Rattle.nf_graph.specs.Meaning.{Outcomes, bags}
 use Rattle.nf_graph.specs.WellMade.{IsValueSource, no_source, node_in, plain_node, plain_graph}
 use Rattle.nf_graph.specs.declared.port.Port.{Port}
-use Rattle.nf_bodies.specs.declared.body.NodeBody.{NodeBody}
-use Rattle.nf_bodies.specs.declared.body.NodeBody.TheVariants as body
-use Rattle.nf_bodies.specs.declared.body.NodeInfo.{NodeInfo}
-use Rattle.nf_bodies.specs.Bodies.{answer_of, body_in, job_of, outputs_of}
+use Rattle.nf_plan.specs.NodeBody.{NodeBody}
+use Rattle.nf_plan.specs.NodeBody.TheVariants as body
+use Rattle.nf_plan.specs.NodeInfo.{NodeInfo}
+use Rattle.nf_plan.specs.Bodies.{answer_of, body_in, job_of, outputs_of}
 use Rattle.nf_plan.specs.declared.builder.PlanBuilder.{PlanBuilder}
 use Rattle.nf_meaning.specs.Stands.{PortOutput, PortThing, known, read, results, StandsFor, OutputsStand, ThingStands}
 use Rattle.nf_meaning.specs.Things.{Thing, a_value, a_channel, outputs, Channel, Output}

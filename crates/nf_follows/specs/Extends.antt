@@ -1,7 +1,7 @@
 -- A plan to which nodes were added behind.
 use Rattle.std.specs.Prelude.{◌≡◌, List, ◌++◌}
 use Rattle.nf_graph.specs.declared.node.Node.{Node}
-use Rattle.nf_bodies.specs.declared.body.NodeInfo.{NodeInfo}
+use Rattle.nf_plan.specs.NodeInfo.{NodeInfo}
 use Rattle.nf_plan.specs.declared.builder.PlanBuilder.{PlanBuilder}
 
 -- the nodes that were added, and what is known of them

@@ -3,3 +3,4 @@ pub mod Extends
 pub mod Things
 pub mod Lowers
 pub mod Rooms
+pub use Rattle.nf_lowered.specs.Given

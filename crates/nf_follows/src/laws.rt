@@ -2,7 +2,7 @@
 
 ghost use Rattle.std.specs.Prelude.{◌≡◌, ◌<◌, ◌≤◌, ℕ, length};
 ghost use Rattle.nf_graph.specs.declared.node.Node.{Node};
-ghost use Rattle.nf_bodies.specs.declared.body.NodeInfo.{NodeInfo};
+ghost use Rattle.nf_plan.specs.NodeInfo.{NodeInfo};
 ghost use Rattle.nf_meaning.specs.Stands.{PortThing, ThingStands};
 ghost use Rattle.nf_meaning.specs.Things.{Thing};
 ghost use Rattle.nf_plan.specs.declared.builder.PlanBuilder.{PlanBuilder};

@@ -3,8 +3,8 @@ use Rattle.std.proofs.Common.{◌≡◌, ℕ, ◌+◌, ◌≤◌, List, [], ◌�
 use Rattle.std.specs.Prelude.{nat_lt, ◌==◌}
 use Rattle.std.proofs.lemmas.Bool.{cases_Bool, true≢false}
 use Rattle.std.proofs.lemmas.Bool.Decides.{nat_tests}
-use Rattle.nf_opstream.proofs.Members.{IsEq}
-use Rattle.nf_opstream.proofs.Tally.{one_if, passes, Sub, Same, tally-append, sub_of_same, sub_trans, same_refl, same_sym, same_trans, count_is_passes}
+use Rattle.nf_operator.proofs.Members.{IsEq}
+use Rattle.nf_operator.proofs.Tally.{one_if, passes, Sub, Same, tally-append, sub_of_same, sub_trans, same_refl, same_sym, same_trans, count_is_passes}
 use Rattle.nf_graph.specs.Meaning.{numbered}
 
 pub sub_refl : {A : Type 0} (a : List A) → Sub a a

@@ -7,8 +7,8 @@ use Rattle.std.proofs.lemmas.Bool.{cases_eq, cases_Bool}
 use Rattle.std.proofs.lemmas.Bool.Decides.{nat_tests}
 use Rattle.nf_value.specs.Plain.{Plain}
 use Rattle.nf_value.specs.Order.{value_cmp}
-use Rattle.nf_opstream.proofs.Members.{IsEq}
-use Rattle.nf_opstream.proofs.Pushes.{is_same-itself, same_from}
+use Rattle.nf_operator.proofs.Members.{IsEq}
+use Rattle.nf_operator.proofs.Pushes.{is_same-itself, same_from}
 use Rattle.nf_graph.specs.declared.port.Port.{Port}
 use Rattle.nf_graph.specs.Node.{port_in}
 use Rattle.nf_graph.specs.Meaning.{put, filled, same_inputs}

@@ -7,8 +7,8 @@ use Rattle.std.proofs.lemmas.Bool.Decides.{nat_tests}
 use Rattle.nf_value.specs.Plain.{Plain, null}
 use Rattle.nf_value.specs.declared.fault.EvalFault.{EvalFault}
 use Rattle.nf_job.specs.declared.emitted.Outputs.TheVariants.{Emits, Ignored, Failed, Again}
-use Rattle.nf_opstream.specs.Push.{Push}
-use Rattle.nf_opstream.proofs.Tally.{tally, one_if, passes, tally-append, tally-map, count_is_passes}
+use Rattle.nf_operator.specs.Push.{Push}
+use Rattle.nf_operator.proofs.Tally.{tally, one_if, passes, tally-append, tally-map, count_is_passes}
 use Rattle.nf_graph.specs.declared.port.Port.{Port}
 use Rattle.nf_graph.specs.Rules.{Rules, Outs, list_of, emit_at, emitted_by}
 use Rattle.nf_graph.specs.Node.{Kind, source, operator, process, PlainNode, port_in, port_at, node_at, GivesValues, IsGraph}

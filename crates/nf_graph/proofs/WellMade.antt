@@ -8,7 +8,7 @@ use Rattle.nf_bag.specs.Options.{Allows}
 use Rattle.nf_bag.specs.declared.rows.Row.{Row}
 use Rattle.nf_bag.specs.declared.rows.Row.TheVariants.{Concat, Mix}
 use Rattle.nf_bag.specs.declared.options.OpOpts.{OpOpts}
-use Rattle.nf_opstream.specs.Operator.{Operator, IsOperator}
+use Rattle.nf_operator.specs.Operator.{Operator, IsOperator}
 use Rattle.nf_operator.specs.declared.kinds.OutputKind.{OutputKind}
 use Rattle.nf_operator.specs.declared.kinds.OutputKind.TheVariants as output
 use Rattle.nf_operator.specs.Row.{operator_of, ports_of, takes_more, takes_ports, output_kind}

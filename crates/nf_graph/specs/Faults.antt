@@ -3,7 +3,7 @@ use Rattle.std.specs.Prelude.{ℕ, zero, suc, List, [], ◌∷◌, ◌++◌, map
 use Rattle.std.specs.List.{flat_map}
 use Rattle.nf_value.specs.Plain.{Plain}
 use Rattle.nf_value.specs.declared.fault.EvalFault.{EvalFault}
-use Rattle.nf_opstream.specs.Fault.{Fault}
+use Rattle.nf_operator.specs.Fault.{Fault}
 use Rattle.nf_job.specs.declared.fault.TaskFault.{TaskFault}
 use Rattle.nf_graph.specs.Rules.{Rules, fault_by}
 use Rattle.nf_graph.specs.Node.{Kind, source, operator, process, PlainNode, node_at}

@@ -5,3 +5,13 @@ pub mod Faults
 pub mod Singles
 pub mod Attempts
 pub mod WellMade
+pub use Rattle.nf_operator.specs.Answer
+pub use Rattle.nf_operator.specs.Outputs
+pub use Rattle.nf_operator.specs.Row
+pub use Rattle.nf_operator.specs.declared.kinds.OutputKind
+pub use Rattle.nf_operator.specs.Reduce
+pub use Rattle.nf_operator.specs.Rows
+pub use Rattle.nf_operator.specs.Fault
+pub use Rattle.nf_operator.specs.Operator
+pub use Rattle.nf_operator.specs.Push
+pub use Rattle.nf_operator.specs.OpstreamRows

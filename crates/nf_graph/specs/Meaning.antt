@@ -9,7 +9,7 @@ use Rattle.nf_value.specs.Plain.{Plain, null}
 use Rattle.nf_value.specs.Order.{value_cmp}
 use Rattle.nf_value.specs.Code.{code}
 use Rattle.nf_value.specs.declared.fault.EvalFault.{EvalFault}
-use Rattle.nf_opstream.specs.Push.{Push, push_of}
+use Rattle.nf_operator.specs.Push.{Push, push_of}
 use Rattle.nf_operator.specs.Answer.{printed as printed_of}
 use Rattle.nf_job.specs.declared.report.Report.{Report}
 use Rattle.nf_graph.specs.declared.port.Port.{Port}

@@ -3,7 +3,7 @@ use Rattle.std.specs.Prelude.{◌≡◌, ◌≤◌, ◌<◌, ◌⊎◌, ℕ, Lis
 use Rattle.std.specs.declared.option.Option.{Option}
 use Rattle.std.specs.declared.option.Option.TheVariants.{None, Some}
 use Rattle.nf_value.specs.Plain.{Plain}
-use Rattle.nf_opstream.specs.Operator.{Operator, IsOperator}
+use Rattle.nf_operator.specs.Operator.{Operator, IsOperator}
 use Rattle.nf_operator.specs.Outputs.{IsClosing, KeepsOne}
 use Rattle.nf_graph.specs.declared.port.Port.{Port}
 

@@ -10,7 +10,7 @@ use Rattle.nf_machine.specs.declared.event.Event.TheVariants as e
 use Rattle.nf_machine.specs.declared.event.Move.{Move}
 use Rattle.nf_machine.specs.declared.event.Move.TheVariants as m
 use Rattle.nf_machine.specs.declared.stop.Stop.{Stop}
-use Rattle.nf_nodes.specs.Ready.{IsReady}
+use Rattle.nf_flow.specs.Ready.{IsReady}
 use Rattle.nf_flight.specs.declared.ticket.Ticket.{Ticket}
 use Rattle.nf_flight.specs.Ticket.{next_attempt, number_of}
 use Rattle.nf_flow.specs.Seen.{Seen, grown, lost, state_of, take_of}

@@ -9,3 +9,5 @@ pub mod Few
 pub mod Places
 pub mod Working
 pub mod Entering
+pub use Rattle.nf_serial.proofs.Serving
+pub use Rattle.nf_serial.proofs.Turns

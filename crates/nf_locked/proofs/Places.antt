@@ -11,7 +11,7 @@ use Rattle.nf_machine.specs.declared.event.Event.TheVariants as e
 use Rattle.nf_machine.specs.declared.event.Cause.{Cause}
 use Rattle.nf_machine.specs.declared.stop.Stop.{Stop}
 use Rattle.nf_machine.specs.History.{IsHistory}
-use Rattle.nf_nodes.specs.Steps.{MayTake}
+use Rattle.nf_flow.specs.Steps.{MayTake}
 use Rattle.nf_flight.specs.declared.ticket.Ticket.{Ticket}
 use Rattle.nf_flight.specs.Ticket.{number_of}
 use Rattle.nf_flow.specs.Seen.{Seen, plain_of, events_of, state_of, grown, take_of}

@@ -14,7 +14,7 @@ use Rattle.nf_machine.specs.State.{opening}
 use Rattle.nf_machine.specs.Step.{take_at, ticket_at, with_ticket, without}
 use Rattle.nf_machine.specs.History.{IsHistory}
 use Rattle.nf_machine.specs.Legal.{IsOperatorKind, IsProcessKind}
-use Rattle.nf_nodes.specs.Steps.{MayTake}
+use Rattle.nf_flow.specs.Steps.{MayTake}
 use Rattle.nf_flight.specs.declared.ticket.Ticket.{Ticket}
 use Rattle.nf_flight.specs.Ticket.{number_of, node_of, attempt_of}
 use Rattle.nf_flow.specs.Seen.{Seen, plain_of, events_of, state_of, grown, take_of}

@@ -7,7 +7,7 @@ use Rattle.nf_graph.specs.WellMade.{plain_graph, plain_node}
 use Rattle.nf_machine.specs.declared.event.Move.{Move}
 use Rattle.nf_machine.specs.declared.event.Move.TheVariants as v
 use Rattle.nf_machine.specs.Legal.{IsOperatorKind, IsProcessKind}
-use Rattle.nf_nodes.specs.Ready.{IsReady, IsReadyAt, IsTakeOf}
+use Rattle.nf_flow.specs.Ready.{IsReady, IsReadyAt, IsTakeOf}
 use Rattle.nf_flight.specs.declared.ticket.Ticket.{Ticket}
 use Rattle.nf_flight.specs.Ticket.{node_of}
 use Rattle.nf_flow.specs.Seen.{Seen, state_of}

@@ -8,8 +8,8 @@ ghost use Rattle.nf_locked.specs.Leaves.{IsOn, IsTaken};
 ghost use Rattle.nf_locked.specs.Locked.{IsWork};
 ghost use Rattle.nf_machine.specs.Legal.{CloseIsLegal, IsOperatorKind};
 ghost use Rattle.nf_machine.specs.declared.event.Event.TheVariants as e;
-ghost use Rattle.nf_nodes.specs.Ready.{IsReady, IsReadyAt};
-ghost use Rattle.nf_nodes.specs.Steps.{MayPass, MayTake};
+ghost use Rattle.nf_flow.specs.Ready.{IsReady, IsReadyAt};
+ghost use Rattle.nf_flow.specs.Steps.{MayPass, MayTake};
 ghost use Rattle.nf_serial.specs.Serial.{IsLegalMove};
 
 use crate::handed::copy_of;

@@ -48,9 +48,9 @@ use Rattle.nf_plan.specs.declared.builder.PlanBuilder.{PlanBuilder}
 use Rattle.nf_follows.specs.Things.{OutputsRead, PortReads, ThingReads}
 use Rattle.nf_lowering.specs.declared.state.Lowering.{Lowering}
 use Rattle.nf_lowering.specs.State.{IsLowering}
-use Rattle.nf_taken.specs.Calls.{IsCalled, IsOperatorOf, TakesName, TookName}
-use Rattle.nf_taken.specs.declared.taken.Taken.{Taken}
-use Rattle.nf_taken.specs.Taken.{IsTaken}
+use Rattle.nf_applied.specs.Calls.{IsCalled, IsOperatorOf, TakesName, TookName}
+use Rattle.nf_applied.specs.DeclaredTaken.{Taken}
+use Rattle.nf_applied.specs.Taken.{IsTaken}
 use Rattle.nf_walked.specs.Args.{BeforeReads, OneReads}
 use Rattle.nf_walked.specs.Forms.{a_port, a_thing, nothing}
 use Rattle.nf_walked.specs.Parts.{of_args, of_call, of_channel, of_one, thing_arg}

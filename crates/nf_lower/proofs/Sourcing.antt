@@ -41,11 +41,11 @@ use Rattle.nf_plan.specs.Runs.{Run, bags_of}
 use Rattle.nf_plan.specs.declared.builder.PlanBuilder.{PlanBuilder}
 use Rattle.nf_lowering.specs.declared.state.Lowering.{Lowering}
 use Rattle.nf_lowering.specs.State.{IsLowering}
-use Rattle.nf_taken.specs.Bodies.{IsPathArgs, path_args_of, range_walk}
-use Rattle.nf_taken.specs.Paths.{path_walk}
-use Rattle.nf_taken.specs.Shapes.{IsTheRange}
-use Rattle.nf_taken.specs.Sources.{IsMadeBy, IsRefused, made_by}
-use Rattle.nf_taken.specs.declared.paths.PathArgs.{PathArgs}
+use Rattle.nf_applied.specs.Bodies.{IsPathArgs, path_args_of, range_walk}
+use Rattle.nf_applied.specs.Paths.{path_walk}
+use Rattle.nf_applied.specs.Shapes.{IsTheRange}
+use Rattle.nf_applied.specs.TakenSources.{IsMadeBy, IsRefused, made_by}
+use Rattle.nf_applied.specs.PathArgs.{PathArgs}
 use Rattle.nf_walked.specs.Args.{OneReads}
 use Rattle.nf_walked.specs.Arguing.{and_more, of_step}
 use Rattle.nf_walked.specs.Forms.{a_thing, a_value, nothing, values}

@@ -28,9 +28,9 @@ use Rattle.nf_meaning.specs.Walk.{Walk, ◌>>=◌, gives, then_by}
 use Rattle.nf_plan.specs.Runs.{bags_of}
 use Rattle.nf_lowering.specs.declared.state.Lowering.{Lowering}
 use Rattle.nf_lowering.specs.State.{IsLowering}
-use Rattle.nf_taken.specs.declared.taken.Taken.{Taken}
+use Rattle.nf_applied.specs.DeclaredTaken.{Taken}
 use Rattle.nf_plan.specs.Plans.{ReadPlan}
-use Rattle.nf_taken.specs.Taken.{FitsClosing, IsTaken, Keeps, with_channel}
+use Rattle.nf_applied.specs.Taken.{FitsClosing, IsTaken, Keeps, with_channel}
 use Rattle.nf_walked.specs.Arguing.{of_step}
 use Rattle.nf_walked.specs.Forms.{a_port, a_value}
 use Rattle.nf_walked.specs.Parts.{of_args, of_one}

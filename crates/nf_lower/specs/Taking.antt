@@ -6,7 +6,7 @@ use Rattle.nf_arguments.specs.Args.{written_args}
 use Rattle.nf_meaning.specs.declared.fault.LowerFault.{LowerFault}
 use Rattle.nf_meaning.specs.Arguments.{unnamed}
 use Rattle.nf_meaning.specs.Taken.{args_ports}
-use Rattle.nf_taken.specs.declared.taken.Taken.{Taken}
+use Rattle.nf_applied.specs.DeclaredTaken.{Taken}
 
 -- so many more as this many arguments without a name give
 abbrev pub MorePorts : OpRow → ℕ → Taken → Result Taken LowerFault → Type 0

@@ -8,7 +8,7 @@ ghost use Rattle.nf_meaning.specs.Operators as meaning;
 ghost use Rattle.nf_follows.specs.Things.{PortReads, ThingReads};
 ghost use Rattle.nf_applied.specs.Rooms.{Used};
 ghost use Rattle.nf_bag.specs.declared.rows.Row.TheVariants.{Set};
-ghost use Rattle.nf_taken.specs.Rows.{IsRowOf};
+ghost use Rattle.nf_applied.specs.Rows.{IsRowOf};
 ghost use Rattle.nf_walked.specs.Args.{ArgsRead, OneReads};
 ghost use Rattle.nf_walked.specs.Around.{CanWalk, Knows};
 ghost use Rattle.nf_walked.specs.Forms.{a_thing};
@@ -20,6 +20,8 @@ ghost use Rattle.nf_lower.specs.Operators.{IsListed, IsOther, TakesArgs, of_rece
 use crate::args::{channel_arg, thing_arg};
 use crate::sets::set_thing;
 use crate::taking::take_args;
+use nf_applied::taken::laws::inputs_fit;
+use nf_applied::taken::operator_of;
 use nf_applied::{apply_taken, begin_operator, unnamed_of};
 use nf_arguments::{Args, One};
 use nf_bag::Row;
@@ -30,8 +32,6 @@ use nf_meaning::LowerFault;
 use nf_opargs::ports_of;
 use nf_optable::OpRow;
 use nf_scopes::Thing;
-use nf_taken::laws::inputs_fit;
-use nf_taken::operator_of;
 use nf_value::Place;
 use nf_walked::Walker;
 

@@ -6,7 +6,7 @@ ghost use Rattle.nf_meaning.specs.Operators as meaning;
 ghost use Rattle.nf_follows.specs.Things.{OutputsRead, ThingReads};
 ghost use Rattle.nf_bag.specs.declared.rows.Row.TheVariants.{Set};
 ghost use Rattle.nf_scopes.specs.declared.things.Thing.TheVariants.{Outputs};
-ghost use Rattle.nf_taken.specs.Rows.{IsRowOf};
+ghost use Rattle.nf_applied.specs.Rows.{IsRowOf};
 ghost use Rattle.nf_walked.specs.Around.{CanWalk, Knows};
 ghost use Rattle.nf_walked.specs.Forms.{a_thing};
 ghost use Rattle.nf_walked.specs.Parts.{of_call};
@@ -14,6 +14,7 @@ ghost use Rattle.nf_walked.specs.Steps.{Walked};
 ghost use Rattle.nf_lower.specs.Operators.{IsOne};
 
 use crate::taking::take_args;
+use nf_applied::taken::laws::set_takes_a_name;
 use nf_applied::{begin_set, count_each, name_channel, name_outputs};
 use nf_arguments::Args;
 use nf_bag::Row;
@@ -22,7 +23,6 @@ use nf_lowering::Lowering;
 use nf_meaning::LowerFault;
 use nf_optable::OpRow;
 use nf_scopes::{CallOutput, Thing};
-use nf_taken::laws::set_takes_a_name;
 use nf_value::Place;
 use nf_walked::Walker;
 

@@ -16,6 +16,7 @@ ghost use Rattle.nf_applied.specs.Sources.{a_path, gives_value, items_of, placed
 ghost use Rattle.nf_lower.specs.Sources.{HasAsMany, TakesSoMany, list_walk};
 
 use crate::args::value_arg;
+use nf_applied::taken::{PathArgs, range_in, source_wanted};
 use nf_applied::{
     found_file, found_files, found_pairs, give_source, items_in, path_named, range_items, values_in,
 };
@@ -25,7 +26,6 @@ use nf_lowering::Lowering;
 use nf_meaning::LowerFault;
 use nf_opargs::{PathKind, Source};
 use nf_scopes::Thing;
-use nf_taken::{PathArgs, range_in, source_wanted};
 use nf_value::{Place, Txt, Value};
 use nf_walked::{Walker, bad_option};
 

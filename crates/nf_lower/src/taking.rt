@@ -5,8 +5,8 @@ ghost use Rattle.nf_arguments.specs.Args.{before_in, written_arg, written_in};
 ghost use Rattle.nf_meaning.specs.Arguments.{is_unnamed, unnamed};
 ghost use Rattle.nf_meaning.specs.Taken as meaning;
 ghost use Rattle.nf_applied.specs.Taking.{TakenFits, a_taken};
-ghost use Rattle.nf_taken.specs.Rows.{IsRowOf};
-ghost use Rattle.nf_taken.specs.Wanted.{wanted_walk};
+ghost use Rattle.nf_applied.specs.Rows.{IsRowOf};
+ghost use Rattle.nf_applied.specs.Wanted.{wanted_walk};
 ghost use Rattle.nf_walked.specs.Around.{CanWalk, Knows};
 ghost use Rattle.nf_walked.specs.Arguing.{of_step};
 ghost use Rattle.nf_walked.specs.Parts.{of_args};
@@ -14,6 +14,7 @@ ghost use Rattle.nf_walked.specs.Steps.{Walked, from};
 ghost use Rattle.nf_lower.specs.Taking.{MorePorts, TakesPorts};
 
 use crate::args::{channel_arg, value_arg};
+use nf_applied::taken::{Taken, Wanted, wants};
 use nf_applied::{take_alone, take_named};
 use nf_arguments::{Args, One, Written};
 use nf_bag::Row;
@@ -21,7 +22,6 @@ use nf_builtins::Natives;
 use nf_lowering::Lowering;
 use nf_meaning::LowerFault;
 use nf_optable::OpRow;
-use nf_taken::{Taken, Wanted, wants};
 use nf_walked::{Walker, bad_option};
 
 /// What an operator takes of its arguments, beside the channel that it is called on.

@@ -3,7 +3,7 @@ use Rattle.std.proofs.Common.{◌≡◌, ◌≤◌, ℕ, false, List, Ok, length
 use Rattle.nf_bag.specs.declared.rows.Row.{Row}
 use Rattle.nf_graph.specs.declared.node.Node.{Node}
 use Rattle.nf_graph.specs.declared.port.Port.{Port}
-use Rattle.nf_bodies.specs.declared.body.NodeInfo.{NodeInfo}
+use Rattle.nf_plan.specs.NodeInfo.{NodeInfo}
 use Rattle.nf_meaning.specs.Meaning.{and_meant}
 use Rattle.nf_meaning.specs.Operators as operators
 use Rattle.nf_meaning.specs.Operators.{Call, call_meaning, result_of}

@@ -7,7 +7,7 @@ use Rattle.nf_value.specs.declared.place.Place.{Place}
 use Rattle.nf_value.specs.declared.value.Value.{Value}
 use Rattle.nf_graph.specs.declared.node.Node.{Node}
 use Rattle.nf_graph.specs.declared.port.Port.{Port}
-use Rattle.nf_bodies.specs.declared.body.NodeInfo.{NodeInfo}
+use Rattle.nf_plan.specs.NodeInfo.{NodeInfo}
 use Rattle.nf_meaning.specs.declared.fault.LowerFault.{LowerFault}
 use Rattle.nf_meaning.specs.Expressions.{channel_wanted}
 use Rattle.nf_meaning.specs.Lowered.{Lowered}
@@ -16,7 +16,7 @@ use Rattle.nf_meaning.specs.Stands.{PortOutput, known, read, results, OutputsSta
 use Rattle.nf_meaning.specs.Things as meaning
 use Rattle.nf_meaning.specs.Things.{Channel, Output, a_value, a_channel, outputs, value_channel}
 use Rattle.nf_meaning.specs.Walk.{Around, State, gives, then_by}
-use Rattle.nf_lowered.specs.Given.{Gives, HasFault}
+use Rattle.nf_follows.specs.Given.{Gives, HasFault}
 use Rattle.nf_scopes.specs.declared.things.Thing.{Thing}
 use Rattle.nf_scopes.specs.declared.things.Thing.TheVariants as thing
 use Rattle.nf_scopes.specs.Things.{thing_of}

@@ -2,13 +2,13 @@
 use Rattle.std.proofs.Common.{◌≡◌, Bool, true, false, true≢false, ℕ, List, Result, Ok, Err, if◌then◌else◌, refl, sym, ap, ◌∙◌, subst}
 use Rattle.std.specs.Prelude.{OnOk}
 use Rattle.nf_value.specs.declared.place.Place.{Place}
-use Rattle.nf_bodies.specs.declared.body.NodeInfo.{NodeInfo}
+use Rattle.nf_plan.specs.NodeInfo.{NodeInfo}
 use Rattle.nf_meaning.specs.declared.fault.LowerFault.{LowerFault}
 use Rattle.nf_meaning.specs.declared.fault.LowerFault.TheVariants.{TooManyNodes}
 use Rattle.nf_meaning.specs.Lowered.{Lowered}
 use Rattle.nf_meaning.specs.Sizes.{counted, grown, is_within_limits}
 use Rattle.nf_meaning.specs.Walk.{Around, Sizes, State}
-use Rattle.nf_lowered.specs.Given.{HasFault}
+use Rattle.nf_follows.specs.Given.{HasFault}
 use Rattle.nf_plan.specs.declared.builder.PlanBuilder.{PlanBuilder}
 use Rattle.nf_plan.specs.Counts.{Counts, Grows}
 use Rattle.nf_plan.specs.Plans.{HasRoom}

@@ -6,7 +6,7 @@ use Rattle.std.specs.HashSet.{HashSet, IsEmpty, contains_text}
 use Rattle.std.specs.Prelude.{bytes_eq, string_bytes}
 use Rattle.std.specs.List.{list_any}
 use Rattle.nf_builtins.specs.Natives.{is_among}
-use Rattle.nf_bodies.specs.declared.body.NodeInfo.{NodeInfo}
+use Rattle.nf_plan.specs.NodeInfo.{NodeInfo}
 use Rattle.nf_meaning.specs.Script.{opening}
 use Rattle.nf_scopes.specs.declared.things.Thing.{Thing}
 use Rattle.nf_scopes.specs.Held.{Holds}

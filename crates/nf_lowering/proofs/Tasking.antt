@@ -4,7 +4,7 @@ use Rattle.std.specs.Prelude.{IfErr, IfOk, OnOk}
 use Rattle.std.proofs.lemmas.List.{append_assoc}
 use Rattle.nf_builtins.specs.Natives.{is_among}
 use Rattle.nf_graph.specs.declared.port.Port.{Port}
-use Rattle.nf_bodies.specs.declared.body.NodeInfo.{NodeInfo}
+use Rattle.nf_plan.specs.NodeInfo.{NodeInfo}
 use Rattle.nf_meaning.specs.declared.fault.LowerFault.{LowerFault}
 use Rattle.nf_meaning.specs.declared.fault.LowerFault.TheVariants as fault
 use Rattle.nf_meaning.specs.CallPaths.{is_plain_name, BodyCalls, HasNoPath, PathsAreCalled}

@@ -3,7 +3,7 @@ use Rattle.std.specs.Prelude.{◌≡◌, ℕ, Bool, true, false, List, [], ◌�
 use Rattle.std.specs.HashSet.{contains_text}
 use Rattle.nf_builtins.specs.Natives.{is_among}
 use Rattle.nf_graph.specs.declared.port.Port.{Port}
-use Rattle.nf_bodies.specs.declared.body.NodeInfo.{NodeInfo}
+use Rattle.nf_plan.specs.NodeInfo.{NodeInfo}
 use Rattle.nf_meaning.specs.declared.fault.LowerFault.{LowerFault}
 use Rattle.nf_meaning.specs.CallPaths.{BodyCalls, PathsAreCalled}
 use Rattle.nf_meaning.specs.Stands.{StandsFor, ThingStands}

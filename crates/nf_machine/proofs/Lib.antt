@@ -19,3 +19,4 @@ pub mod Falls
 pub mod Growing
 pub mod Outcomes
 pub mod Refused
+pub use Rattle.nf_opstream.proofs.Tally

@@ -6,3 +6,4 @@ pub mod History
 pub mod Beside
 pub mod Going
 pub mod Refused
+pub use Rattle.nf_job.specs.declared.report.Report

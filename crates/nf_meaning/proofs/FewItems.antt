@@ -6,24 +6,24 @@ use Rattle.std.proofs.lemmas.Bool.{cases_Bool}
 use Rattle.std.proofs.lemmas.Bool.Decides.{nat_tests}
 use Rattle.std.proofs.lemmas.List.{length-map}
 use Rattle.nf_value.specs.Plain.{Plain, null}
-use Rattle.nf_placed.specs.Placed.{Placed}
+use Rattle.nf_names_used.specs.Placed.{Placed}
 use Rattle.nf_job.specs.declared.emitted.Outputs.TheVariants.{Emits, Ignored, Failed, Again}
 use Rattle.nf_bag.specs.declared.options.OpOpts.{OpOpts}
 use Rattle.nf_bag.specs.declared.rows.Row.{Row}
 use Rattle.nf_bag.specs.declared.rows.Row.TheVariants as row
-use Rattle.nf_opstream.specs.Push.{Push}
-use Rattle.nf_opstream.specs.Operator.{Operator, oks}
-use Rattle.nf_opstream.specs.Fault.{Fault, not_a_number}
-use Rattle.nf_opstream.specs.Rows.{items_in}
-use Rattle.nf_opstream.proofs.Tally.{tally, one_if, passes, tally-append, tally-map, count_is_passes}
-use Rattle.nf_opclose.specs.Reduce.{refuses, taken, reduced}
-use Rattle.nf_operator.specs.Row.{output_kind, ports_of}
-use Rattle.nf_operator.specs.Outputs.{IsOneEach, IsOfKind}
-use Rattle.nf_operator.specs.declared.kinds.OutputKind.{OutputKind}
-use Rattle.nf_operator.specs.declared.kinds.OutputKind.TheVariants as output
-use Rattle.nf_operator.proofs.Table.{is_of_kind}
-use Rattle.nf_operator.proofs.Few.{closing_closes, if_empty_keeps}
-use Rattle.nf_operator.proofs.Singles.{reduced_few}
+use Rattle.nf_graph.specs.Push.{Push}
+use Rattle.nf_graph.specs.Operator.{Operator, oks}
+use Rattle.nf_graph.specs.Fault.{Fault, not_a_number}
+use Rattle.nf_graph.specs.OpstreamRows.{items_in}
+use Rattle.nf_graph.proofs.Tally.{tally, one_if, passes, tally-append, tally-map, count_is_passes}
+use Rattle.nf_graph.specs.Reduce.{refuses, taken, reduced}
+use Rattle.nf_graph.specs.Row.{output_kind, ports_of}
+use Rattle.nf_graph.specs.Outputs.{IsOneEach, IsOfKind}
+use Rattle.nf_graph.specs.OutputKind.{OutputKind}
+use Rattle.nf_graph.specs.OutputKind.TheVariants as output
+use Rattle.nf_graph.proofs.Table.{is_of_kind}
+use Rattle.nf_graph.proofs.Few.{closing_closes, if_empty_keeps}
+use Rattle.nf_graph.proofs.OperatorSingles.{reduced_few}
 use Rattle.nf_graph.specs.Rules.{Outs, list_of, emit_at, emitted_by}
 use Rattle.nf_graph.specs.Meaning.{answered, numbered, same_inputs}
 use Rattle.nf_graph.proofs.Bags.{count_all}

@@ -4,7 +4,7 @@ use Rattle.std.specs.Str.{bytes_eq}
 use Rattle.std.proofs.lemmas.Bool.{cases_Bool}
 use Rattle.std.proofs.lemmas.List.{append-nil, append_assoc, append_cancel_left}
 use Rattle.std.proofs.lemmas.Slice.Eq.{bytes_eq-Decides}
-use Rattle.nf_builtins.specs.Natives.{is_among}
+use Rattle.nf_names_used.specs.Natives.{is_among}
 use Rattle.nf_meaning.specs.CallPaths.{is_plain_name, EndsName, Belongs, AllBelong, Within, BodyCalls, GoesOn, PathsAreCalled, HasNoPath, inside}
 use Rattle.nf_meaning.proofs.Growth.{same_name, both_belong, all_still, belongs_of}
 

@@ -6,11 +6,11 @@ use Rattle.std.specs.Str.{bytes_eq}
 use Rattle.std.proofs.lemmas.Bool.{cases_Bool}
 use Rattle.std.proofs.lemmas.List.{append-nil, append_assoc, append_cancel_left}
 use Rattle.std.proofs.lemmas.Slice.Eq.{bytes_eq-Decides}
-use Rattle.nf_builtins.specs.Natives.{is_among}
+use Rattle.nf_names_used.specs.Natives.{is_among}
 use Rattle.nf_meaning.specs.Walk.{State}
 use Rattle.nf_meaning.specs.Meaning.{Instance}
 use Rattle.nf_graph.specs.Meaning.{same_inputs}
-use Rattle.nf_opstream.proofs.Tally.{one_if, passes, tally-append}
+use Rattle.nf_graph.proofs.Tally.{one_if, passes, tally-append}
 use Rattle.nf_meaning.specs.CallPaths.{is_plain_name, MadeBy, is_same_task, EndsName, Belongs, AllBelong, Within}
 
 -- ---- the call that a path belongs to

@@ -3,12 +3,12 @@ use Rattle.std.proofs.Common.{◌≡◌, ◌≤◌, ◌<◌, ℕ, zero, suc, Lis
 use Rattle.std.proofs.lemmas.Bool.{cases_Bool}
 use Rattle.std.specs.List.{list_all}
 use Rattle.std.specs.Str.{bytes_eq}
-use Rattle.nf_builtins.specs.Natives.{is_among}
-use Rattle.nf_eval.specs.Evaluation.{Definition}
+use Rattle.nf_names_used.specs.Natives.{is_among}
+use Rattle.nf_tasks.specs.Evaluation.{Definition}
 use Rattle.nf_names_used.specs.declared.uses.Use.{Use}
 use Rattle.nf_names_used.specs.declared.uses.UseKind.{UseKind}
 use Rattle.nf_names_used.specs.declared.uses.UseKind.TheVariants as kind
-use Rattle.nf_opstream.proofs.Members.{In, contains}
+use Rattle.nf_graph.proofs.Members.{In, contains}
 use Rattle.nf_meaning.specs.Functions.{names_of, body_uses, is_placed_use, is_ready, with_ready, in_rounds, in_order, CallsOnlyEarlier, NoneLeftOut}
 
 or_more : (a b c : Bool) → (a || c) ≡ true → (a || (b || c)) ≡ true

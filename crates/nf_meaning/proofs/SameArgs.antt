@@ -10,7 +10,7 @@ use Rattle.nf_value.specs.declared.file.FileRef.{FileRef}
 use Rattle.nf_job.specs.JobText.{file_plain}
 use Rattle.nf_pattern.specs.Literal.{is_literal_path}
 use Rattle.nf_ast.specs.Tree.{Tree}
-use Rattle.nf_eval.specs.Evaluation.{eval_of}
+use Rattle.nf_tasks.specs.Evaluation.{eval_of}
 use Rattle.nf_names_used.specs.Uses.{no_names}
 use Rattle.nf_meaning.specs.declared.fault.LowerFault.TheVariants.{BadOption, TooManyNodes, UnknownName, WrongArity}
 use Rattle.nf_meaning.specs.Lowered.{known, unless, fault_if}

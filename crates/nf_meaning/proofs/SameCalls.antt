@@ -8,14 +8,14 @@ use Rattle.std.proofs.lemmas.Slice.Eq.{bytes_eq-Decides}
 use Rattle.std.proofs.lemmas.Bool.Decides.{nat_tests}
 use Rattle.nf_value.specs.Plain.{Plain}
 use Rattle.nf_value.specs.declared.place.Place.{Place}
-use Rattle.nf_builtins.specs.Natives.{is_among}
+use Rattle.nf_names_used.specs.Natives.{is_among}
 use Rattle.nf_ast.specs.Tree as tree
 use Rattle.nf_ast.specs.Tree.{Tree, empty, cons}
 use Rattle.nf_bag.specs.declared.rows.Row.{Row}
 use Rattle.nf_bag.specs.declared.rows.Row.TheVariants as row
-use Rattle.nf_operator.specs.Row.{output_kind, ports_of}
-use Rattle.nf_operator.specs.declared.kinds.OutputKind.{OutputKind}
-use Rattle.nf_operator.specs.declared.kinds.OutputKind.TheVariants as output
+use Rattle.nf_graph.specs.Row.{output_kind, ports_of}
+use Rattle.nf_graph.specs.OutputKind.{OutputKind}
+use Rattle.nf_graph.specs.OutputKind.TheVariants as output
 use Rattle.nf_optable.specs.declared.rows.OpRow.{OpRow}
 use Rattle.nf_optable.specs.declared.operator.Operator as declared_operator
 use Rattle.nf_optable.specs.declared.operator.Operator.TheVariants.{Bag, Arrival}
@@ -24,7 +24,7 @@ use Rattle.nf_optable.specs.Rows.{operator_rows, row_of}
 use Rattle.nf_graph.specs.Meaning.{numbered, same_inputs}
 use Rattle.nf_graph.proofs.Lists.{inputs_law}
 use Rattle.nf_graph.proofs.Bags.{numbered_once}
-use Rattle.nf_opstream.proofs.Tally.{one_if, tally, tally-map}
+use Rattle.nf_graph.proofs.Tally.{one_if, tally, tally-map}
 use Rattle.nf_tasks.specs.Inputs.{seen_names}
 use Rattle.nf_tasks.specs.Memory.{Program}
 use Rattle.nf_meaning.specs.declared.fault.LowerFault.{LowerFault}

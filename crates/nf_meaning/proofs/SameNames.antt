@@ -4,10 +4,10 @@ use Rattle.std.specs.Prelude.{is_some}
 use Rattle.std.specs.Str.{bytes_eq}
 use Rattle.nf_value.specs.Plain.{Plain}
 use Rattle.nf_value.specs.declared.place.Place.{Place}
-use Rattle.nf_builtins.specs.Natives.{is_among}
+use Rattle.nf_names_used.specs.Natives.{is_among}
 use Rattle.nf_ast.specs.Tree.{Tree}
-use Rattle.nf_placed.specs.Scope.{Function, Env}
-use Rattle.nf_eval.specs.Evaluation.{Definition}
+use Rattle.nf_names_used.specs.Scope.{Function, Env}
+use Rattle.nf_tasks.specs.Evaluation.{Definition}
 use Rattle.nf_names_used.specs.declared.uses.Use.{Use}
 use Rattle.nf_names_used.specs.declared.uses.UseKind.{UseKind}
 use Rattle.nf_names_used.specs.declared.uses.UseKind.TheVariants as kind

@@ -6,16 +6,16 @@ use Rattle.nf_value.specs.Plain.{Plain, null, truth, int, text, file, list, tabl
 use Rattle.nf_value.specs.declared.place.Place.{Place}
 use Rattle.nf_value.specs.declared.fault.EvalKind.TheVariants.{Arity}
 use Rattle.nf_value.specs.Truth.{truth_of}
-use Rattle.nf_texts.specs.Outcome.{limited}
-use Rattle.nf_builtins.specs.Lists.{list_of}
-use Rattle.nf_texts.specs.Args.{items_of}
+use Rattle.nf_names_used.specs.Outcome.{limited}
+use Rattle.nf_names_used.specs.Lists.{list_of}
+use Rattle.nf_names_used.specs.Args.{items_of}
 use Rattle.nf_ast.specs.declared.operators.InfixOperator.{InfixOperator}
 use Rattle.nf_ast.specs.declared.operators.InfixOperator.TheVariants as infix_operator
 use Rattle.nf_ast.specs.Tree as tree
 use Rattle.nf_ast.specs.Tree.{Tree, empty, cons, place_of}
-use Rattle.nf_placed.specs.Placed.{at_place, fault}
-use Rattle.nf_placed.specs.Body.{name_in, names_in, paired, split}
-use Rattle.nf_eval.specs.Evaluation.{opening}
+use Rattle.nf_names_used.specs.Placed.{at_place, fault}
+use Rattle.nf_names_used.specs.Body.{name_in, names_in, paired, split}
+use Rattle.nf_tasks.specs.Evaluation.{opening}
 use Rattle.nf_optable.specs.declared.rows.OpRow.{OpRow}
 use Rattle.nf_optable.specs.Rows.{operator_rows, row_of}
 use Rattle.nf_meaning.specs.declared.fault.LowerFault.{LowerFault}

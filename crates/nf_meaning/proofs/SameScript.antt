@@ -5,10 +5,10 @@ use Rattle.std.specs.List.{IsDistinct}
 use Rattle.std.specs.Str.{bytes_eq}
 use Rattle.nf_value.specs.Plain.{Plain}
 use Rattle.nf_value.specs.declared.place.Place.{Place}
-use Rattle.nf_builtins.specs.Natives.{is_among}
+use Rattle.nf_names_used.specs.Natives.{is_among}
 use Rattle.nf_ast.specs.Tree as tree
 use Rattle.nf_ast.specs.Tree.{Tree, empty, cons, place_of}
-use Rattle.nf_placed.specs.Body.{name_in}
+use Rattle.nf_names_used.specs.Body.{name_in}
 use Rattle.nf_meaning.specs.declared.fault.LowerFault.TheVariants.{TwiceDefined, NoEntry}
 use Rattle.nf_meaning.specs.Lowered.{Lowered, goes_on}
 use Rattle.nf_meaning.specs.Places.{begins_at, first_place}
@@ -21,7 +21,7 @@ use Rattle.nf_meaning.specs.Calls.{names_taken}
 use Rattle.nf_meaning.specs.Workflow.{logged}
 use Rattle.nf_meaning.specs.Script.{emit_label, emit_value, label_fault, label_of, and_label, emitted, emits_of, taken_twice, statements_in, workflow_walk, body_in, take_in, bound, inner_scope, back_in, enter_in, around_at, definitions_of, around, opening, Read, only, with_param, parameter, after, top_read, tops_read, entry_in, first_take, entry_walk, state_of, begun, entry_around, ending, meaning_of, wants_of, paths_of}
 use Rattle.nf_meaning.specs.Few.{OutputsFew, ThingFew, NamedFew, ScopeFew, WalkFew}
-use Rattle.nf_opstream.proofs.Tally.{passes, count_is_passes}
+use Rattle.nf_graph.proofs.Tally.{passes, count_is_passes}
 use Rattle.nf_meaning.specs.CallPaths.{NamesArePlain, MadeBy, is_same_task, EachOnce}
 use Rattle.nf_meaning.specs.Outside.{in_run, fault_of}
 use Rattle.nf_meaning.proofs.Growth.{Grows, inside_grows, made_still}

@@ -4,10 +4,10 @@ use Rattle.std.specs.Prelude.{codes}
 use Rattle.std.specs.Str.{bytes_eq}
 use Rattle.nf_value.specs.Plain.{Plain, null, truth, int, text, file, list, table}
 use Rattle.nf_value.specs.declared.place.Place.{Place}
-use Rattle.nf_builtins.specs.Natives.{is_among}
+use Rattle.nf_names_used.specs.Natives.{is_among}
 use Rattle.nf_ast.specs.Tree as tree
 use Rattle.nf_ast.specs.Tree.{Tree, empty, cons, place_of}
-use Rattle.nf_eval.specs.Evaluation.{Closing, apply_of}
+use Rattle.nf_tasks.specs.Evaluation.{Closing, apply_of}
 use Rattle.nf_names_used.specs.Uses.{no_names, entered, params_of, params_uses}
 use Rattle.nf_bag.specs.declared.options.OpOpts.{OpOpts}
 use Rattle.nf_bag.specs.declared.rows.Row.{Row}

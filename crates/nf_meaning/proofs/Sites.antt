@@ -3,7 +3,7 @@ use Rattle.std.proofs.Common.{◌≡◌, ◌<◌, ℕ, zero, suc, ◌+◌, ◌==
 use Rattle.std.proofs.lemmas.List.{map-append}
 use Rattle.std.specs.List.{flat_map}
 use Rattle.nf_value.specs.Plain.{Plain, null}
-use Rattle.nf_placed.specs.Placed.{Placed}
+use Rattle.nf_names_used.specs.Placed.{Placed}
 use Rattle.nf_job.specs.declared.parts.JobParts.{JobParts}
 use Rattle.nf_job.specs.declared.report.Report.{Report}
 use Rattle.nf_job.specs.declared.fault.TaskFault.{TaskFault}

@@ -1,8 +1,8 @@
 -- Values that are the same but for the digests and lengths of their files.
 use Rattle.std.proofs.Common.{◌≡◌, ℕ, suc, List, [], ◌∷◌, length, Bool, true, false, ◌||◌, refl, ap, sym, ◌∙◌, if◌then◌else◌}
 use Rattle.nf_value.specs.Plain.{Plain, null, truth, int, text, file, list, table, Plains, no_items, item, plains_of}
-use Rattle.nf_texts.specs.Args.{items_of}
-use Rattle.nf_builtins.specs.Lists.{list_of}
+use Rattle.nf_names_used.specs.Args.{items_of}
+use Rattle.nf_names_used.specs.Lists.{list_of}
 use Rattle.nf_meaning.specs.Things.{holds_file, one_holds_file, widened, all_widened}
 
 abbrev pub Alike : Plain → Plain → Type 0

@@ -16,7 +16,7 @@ use Rattle.nf_token.specs.declared.token.TemplateKind.TheVariants as template_ki
 use Rattle.nf_ast.specs.declared.operators.InfixOperator.TheVariants as mark
 use Rattle.nf_ast.specs.Tree as tree
 use Rattle.nf_ast.specs.Tree.{Tree, empty, cons}
-use Rattle.nf_opstream.specs.Fault.{duplicate_key}
+use Rattle.nf_graph.specs.Fault.{duplicate_key}
 use Rattle.nf_job.specs.declared.fault.TaskFault.TheVariants.{Exit, BadStdout, Eval, StageClash}
 use Rattle.nf_job.specs.declared.report.Captured.TheVariants as captured
 use Rattle.nf_job.specs.declared.report.Report.{Report}

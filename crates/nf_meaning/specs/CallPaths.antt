@@ -1,7 +1,7 @@
 -- The paths of calls, which tell the calls of a script apart.
 use Rattle.std.specs.Prelude.{◌≡◌, ◌≤◌, ℕ, ◌==◌, Bool, true, false, not, ◌&&◌, List, [], ◌∷◌, ◌++◌, bytes_eq, codes, count_by}
 use Rattle.std.specs.List.{list_all}
-use Rattle.nf_builtins.specs.Natives.{is_among}
+use Rattle.nf_names_used.specs.Natives.{is_among}
 use Rattle.nf_graph.specs.Meaning.{same_inputs}
 use Rattle.nf_meaning.specs.Given.{Definitions}
 use Rattle.nf_meaning.specs.Meaning.{Instance}

@@ -1,12 +1,12 @@
 -- The closures that operators take.
 use Rattle.std.specs.Prelude.{ℕ, Bool, true, false, List, [], ◌∷◌, if◌then◌else◌, Option, None}
 use Rattle.nf_value.specs.declared.place.Place.{Place}
-use Rattle.nf_builtins.specs.Natives.{is_among}
+use Rattle.nf_names_used.specs.Natives.{is_among}
 use Rattle.nf_ast.specs.Tree as tree
 use Rattle.nf_ast.specs.Tree.{Tree, empty, cons, place_of}
-use Rattle.nf_placed.specs.Scope.{Env}
-use Rattle.nf_placed.specs.Body.{name_in}
-use Rattle.nf_eval.specs.Evaluation.{Closing}
+use Rattle.nf_names_used.specs.Scope.{Env}
+use Rattle.nf_names_used.specs.Body.{name_in}
+use Rattle.nf_tasks.specs.Evaluation.{Closing}
 use Rattle.nf_names_used.specs.Uses.{no_names, entered, params_of, params_uses}
 use Rattle.nf_meaning.specs.declared.fault.LowerFault.{LowerFault}
 use Rattle.nf_meaning.specs.declared.fault.LowerFault.TheVariants.{TwiceDefined, BadOption}

@@ -1,13 +1,13 @@
 -- The directives of a process.
 use Rattle.std.specs.Prelude.{ℕ, pos, nat_le, Bool, true, false, List, [], ◌∷◌, ◌++◌, map, codes, bytes_eq, if◌then◌else◌, Option, Some, None, Ok, Err}
 use Rattle.nf_value.specs.declared.place.Place.{Place}
-use Rattle.nf_builtins.specs.Natives.{is_among}
+use Rattle.nf_names_used.specs.Natives.{is_among}
 use Rattle.nf_ast.specs.Tree as tree
 use Rattle.nf_ast.specs.Tree.{Tree, empty, cons, place_of}
 use Rattle.nf_ast.specs.View.{names}
-use Rattle.nf_placed.specs.Scope.{Env}
-use Rattle.nf_placed.specs.Body.{name_in}
-use Rattle.nf_eval.specs.Evaluation.{apply_of}
+use Rattle.nf_names_used.specs.Scope.{Env}
+use Rattle.nf_names_used.specs.Body.{name_in}
+use Rattle.nf_tasks.specs.Evaluation.{apply_of}
 use Rattle.nf_tasks.specs.declared.process.ErrorStrategy.{ErrorStrategy}
 use Rattle.nf_tasks.specs.declared.process.ErrorStrategy.TheVariants.{Terminate, Ignore, Retry}
 use Rattle.nf_tasks.specs.Meaning.{Formula, PublishMeaning}

@@ -6,7 +6,7 @@ use Rattle.nf_ast.specs.declared.operators.InfixOperator.{InfixOperator}
 use Rattle.nf_ast.specs.declared.operators.InfixOperator.TheVariants as infix_operator
 use Rattle.nf_ast.specs.Tree as tree
 use Rattle.nf_ast.specs.Tree.{Tree, cons}
-use Rattle.nf_eval.specs.Evaluation.{eval_of}
+use Rattle.nf_tasks.specs.Evaluation.{eval_of}
 use Rattle.nf_names_used.specs.Uses.{no_names}
 use Rattle.nf_meaning.specs.declared.fault.LowerFault.{LowerFault}
 use Rattle.nf_meaning.specs.declared.fault.LowerFault.TheVariants.{BadOption}

@@ -2,10 +2,10 @@
 use Rattle.std.specs.Prelude.{◌≡◌, ℕ, zero, suc, Bool, true, false, not, ◌||◌, List, [], ◌∷◌, ◌++◌, map, filter, length, if◌then◌else◌, Option, Some, None}
 use Rattle.std.specs.List.{Contains, list_all}
 use Rattle.nf_value.specs.declared.place.Place.{Place}
-use Rattle.nf_builtins.specs.Natives.{is_among}
+use Rattle.nf_names_used.specs.Natives.{is_among}
 use Rattle.nf_ast.specs.Tree as tree
 use Rattle.nf_ast.specs.Tree.{Tree}
-use Rattle.nf_eval.specs.Evaluation.{Definition}
+use Rattle.nf_tasks.specs.Evaluation.{Definition}
 use Rattle.nf_names_used.specs.declared.uses.Use.{Use}
 use Rattle.nf_names_used.specs.declared.uses.UseKind.{UseKind}
 use Rattle.nf_names_used.specs.declared.uses.UseKind.TheVariants as kind

@@ -3,7 +3,7 @@ use Rattle.std.specs.Prelude.{ℕ, List, [], ◌∷◌, Option, Some, None, byte
 use Rattle.nf_value.specs.Plain.{Plain}
 use Rattle.nf_value.specs.declared.file.FileRef.{FileRef}
 use Rattle.nf_ast.specs.Tree.{Tree}
-use Rattle.nf_eval.specs.Evaluation.{Definition}
+use Rattle.nf_tasks.specs.Evaluation.{Definition}
 use Rattle.nf_job.specs.declared.report.Report.{Report}
 use Rattle.nf_tasks.specs.Memory.{Program}
 

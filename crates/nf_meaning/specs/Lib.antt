@@ -29,3 +29,7 @@ pub mod CallPaths
 pub mod Outside
 pub mod Stands
 pub mod Nodes
+pub use Rattle.nf_graph.specs.Rules
+pub use Rattle.nf_tasks.specs.Evaluation
+pub use Rattle.nf_tasks.specs.Functions as EvalFunctions
+pub use Rattle.nf_graph.specs.Answer

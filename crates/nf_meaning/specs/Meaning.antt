@@ -3,7 +3,7 @@ use Rattle.std.specs.Prelude.{ℕ, List, [], ◌++◌}
 use Rattle.nf_value.specs.Plain.{Plain}
 use Rattle.nf_value.specs.declared.place.Place.{Place}
 use Rattle.nf_value.specs.declared.fault.EvalFault.{EvalFault}
-use Rattle.nf_opstream.specs.Fault.{Fault}
+use Rattle.nf_graph.specs.Fault.{Fault}
 use Rattle.nf_job.specs.declared.fault.TaskFault.{TaskFault}
 use Rattle.nf_tasks.specs.declared.target_list.Target.{Target}
 

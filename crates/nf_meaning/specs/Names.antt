@@ -2,7 +2,7 @@
 use Rattle.std.specs.Prelude.{ℕ, Bool, true, false, ◌||◌, List, [], ◌∷◌, codes, bytes_eq, is_some, if◌then◌else◌, Option, Some, None}
 use Rattle.nf_value.specs.Plain.{Plain}
 use Rattle.nf_value.specs.declared.place.Place.{Place}
-use Rattle.nf_builtins.specs.Natives.{is_among}
+use Rattle.nf_names_used.specs.Natives.{is_among}
 use Rattle.nf_ast.specs.Tree.{Tree}
 use Rattle.nf_names_used.specs.declared.uses.Use.{Use}
 use Rattle.nf_names_used.specs.declared.uses.UseKind.{UseKind}

@@ -5,19 +5,19 @@ use Rattle.nf_value.specs.Plain.{Plain, null}
 use Rattle.nf_value.specs.declared.place.Place.{Place}
 use Rattle.nf_pattern.specs.Whole.{found_in}
 use Rattle.nf_pattern.specs.Wrapped.{wrapped}
-use Rattle.nf_infix.specs.Compare.{is_found}
-use Rattle.nf_placed.specs.Placed.{Placed}
-use Rattle.nf_eval.specs.Evaluation.{Closing, apply_of, branch_of, labels_of}
+use Rattle.nf_names_used.specs.Compare.{is_found}
+use Rattle.nf_names_used.specs.Placed.{Placed}
+use Rattle.nf_tasks.specs.Evaluation.{Closing, apply_of, branch_of, labels_of}
 use Rattle.nf_bag.specs.declared.options.OpOpts.{OpOpts}
 use Rattle.nf_bag.specs.declared.rows.Row.{Row}
 use Rattle.nf_bag.specs.declared.rows.Row.TheVariants as row
-use Rattle.nf_opstream.specs.Push.{Push}
-use Rattle.nf_opstream.specs.Operator.{Operator}
-use Rattle.nf_opclose.specs.Rows.{if_empty_row, reduce_row}
-use Rattle.nf_operator.specs.Row.{operator_of, output_kind}
-use Rattle.nf_operator.specs.Answer.{literal_answer, pattern_answer}
-use Rattle.nf_operator.specs.declared.kinds.OutputKind.{OutputKind}
-use Rattle.nf_operator.specs.declared.kinds.OutputKind.TheVariants as output
+use Rattle.nf_graph.specs.Push.{Push}
+use Rattle.nf_graph.specs.Operator.{Operator}
+use Rattle.nf_graph.specs.Rows.{if_empty_row, reduce_row}
+use Rattle.nf_graph.specs.Row.{operator_of, output_kind}
+use Rattle.nf_graph.specs.Answer.{literal_answer, pattern_answer}
+use Rattle.nf_graph.specs.OutputKind.{OutputKind}
+use Rattle.nf_graph.specs.OutputKind.TheVariants as output
 use Rattle.nf_optable.specs.declared.rows.OpRow.{OpRow}
 use Rattle.nf_optable.specs.declared.operator.Operator as declared_operator
 use Rattle.nf_optable.specs.declared.operator.Operator.TheVariants.{Bag, Arrival}

@@ -2,7 +2,7 @@
 use Rattle.std.specs.Prelude.{ℕ, pos, negsuc, ◌==◌, ◌^◌, nat_lt, Bool, true, false, List, codes, bytes_eq, if◌then◌else◌, Some, None}
 use Rattle.nf_value.specs.Plain.{Plain, null, truth, int, text, file, list, table}
 use Rattle.nf_value.specs.declared.place.Place.{Place}
-use Rattle.nf_builtins.specs.Natives.{is_among}
+use Rattle.nf_names_used.specs.Natives.{is_among}
 use Rattle.nf_bag.specs.declared.options.OpOpts.{OpOpts}
 use Rattle.nf_bag.specs.declared.options.Total.TheVariants.{Sum}
 use Rattle.nf_optable.specs.declared.rows.Options.{Options}

@@ -3,7 +3,7 @@ use Rattle.std.specs.Prelude.{Bool, ◌&&◌, ◌||◌, nat_lt, ◌==◌}
 use Rattle.nf_value.specs.declared.place.Place.{Place}
 use Rattle.nf_ast.specs.Tree as tree
 use Rattle.nf_ast.specs.Tree.{Tree}
-use Rattle.nf_eval.specs.Evaluation.{nowhere}
+use Rattle.nf_tasks.specs.Evaluation.{nowhere}
 
 -- the place of an expression's first token, brackets around it aside
 abbrev pub begins_at : Tree → Place

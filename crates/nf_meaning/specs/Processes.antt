@@ -1,10 +1,10 @@
 -- The definition of a process, as a call of it has it.
 use Rattle.std.specs.Prelude.{ℕ, Bool, false, List, [], ◌∷◌, codes, bytes_eq, if◌then◌else◌, Option, Some, None, Ok, Err}
 use Rattle.nf_value.specs.declared.place.Place.{Place}
-use Rattle.nf_builtins.specs.Natives.{is_among}
+use Rattle.nf_names_used.specs.Natives.{is_among}
 use Rattle.nf_ast.specs.Tree as tree
 use Rattle.nf_ast.specs.Tree.{Tree, empty, cons, place_of}
-use Rattle.nf_placed.specs.Body.{name_in}
+use Rattle.nf_names_used.specs.Body.{name_in}
 use Rattle.nf_tasks.specs.declared.inputs.Input.{Input}
 use Rattle.nf_tasks.specs.declared.inputs.InputShape.{InputShape}
 use Rattle.nf_tasks.specs.declared.inputs.InputShape.TheVariants.{One, Tuple}

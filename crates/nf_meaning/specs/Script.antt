@@ -2,11 +2,11 @@
 use Rattle.std.specs.Prelude.{ℕ, zero, suc, Bool, true, false, List, [], ◌∷◌, ◌++◌, map, length, codes, if◌then◌else◌, Option, Some, None, Ok, Err}
 use Rattle.nf_value.specs.Plain.{Plain, text, table, plain_pairs_of}
 use Rattle.nf_value.specs.declared.place.Place.{Place}
-use Rattle.nf_builtins.specs.Natives.{is_among}
+use Rattle.nf_names_used.specs.Natives.{is_among}
 use Rattle.nf_ast.specs.Tree as tree
 use Rattle.nf_ast.specs.Tree.{Tree, empty, cons, place_of}
-use Rattle.nf_placed.specs.Body.{name_in, names_in}
-use Rattle.nf_eval.specs.Evaluation.{functions_of}
+use Rattle.nf_names_used.specs.Body.{name_in, names_in}
+use Rattle.nf_tasks.specs.Evaluation.{functions_of}
 use Rattle.nf_pairs.specs.Pairs.{put}
 use Rattle.nf_meaning.specs.declared.fault.LowerFault.{LowerFault}
 use Rattle.nf_meaning.specs.declared.fault.LowerFault.TheVariants.{TwiceDefined, CallCycle, BadOption, NoEntry}

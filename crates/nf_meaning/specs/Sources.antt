@@ -4,7 +4,7 @@ use Rattle.std.specs.Str.{chars, encode_utf8_all}
 use Rattle.nf_value.specs.Plain.{Plain, null, truth, int, text, file, list, table}
 use Rattle.nf_value.specs.declared.place.Place.{Place}
 use Rattle.nf_value.specs.declared.file.FileRef.{FileRef}
-use Rattle.nf_texts.specs.Args.{items_of}
+use Rattle.nf_names_used.specs.Args.{items_of}
 use Rattle.nf_ast.specs.declared.operators.InfixOperator.{InfixOperator}
 use Rattle.nf_ast.specs.declared.operators.InfixOperator.TheVariants as infix_operator
 use Rattle.nf_ast.specs.Tree as tree

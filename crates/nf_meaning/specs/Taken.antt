@@ -4,7 +4,7 @@ use Rattle.nf_value.specs.Plain.{Plain, null}
 use Rattle.nf_value.specs.declared.place.Place.{Place}
 use Rattle.nf_ast.specs.Tree as tree
 use Rattle.nf_ast.specs.Tree.{Tree}
-use Rattle.nf_eval.specs.Evaluation.{Closing, apply_of}
+use Rattle.nf_tasks.specs.Evaluation.{Closing, apply_of}
 use Rattle.nf_bag.specs.declared.options.OpOpts.{OpOpts}
 use Rattle.nf_bag.specs.declared.options.Total.{Total}
 use Rattle.nf_bag.specs.declared.rows.Row.{Row}

@@ -6,7 +6,7 @@ use Rattle.nf_ast.specs.Tree as tree
 use Rattle.nf_ast.specs.Tree.{Tree, empty, cons}
 use Rattle.nf_bag.specs.declared.options.Total.{Total}
 use Rattle.nf_bag.specs.declared.options.Total.TheVariants.{Sum, Least, Greatest, All, Any}
-use Rattle.nf_placed.specs.Body.{name_in, is_math}
+use Rattle.nf_names_used.specs.Body.{name_in, is_math}
 
 -- ---- a function of two operands
 

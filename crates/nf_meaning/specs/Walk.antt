@@ -3,7 +3,7 @@ use Rattle.std.specs.Prelude.{ℕ, ◌-◌, Bool, false, List, [], ◌∷◌, �
 use Rattle.nf_value.specs.Plain.{Plain}
 use Rattle.nf_value.specs.declared.place.Place.{Place}
 use Rattle.nf_ast.specs.Tree.{Tree}
-use Rattle.nf_placed.specs.Scope.{Function, Env}
+use Rattle.nf_names_used.specs.Scope.{Function, Env}
 use Rattle.nf_meaning.specs.declared.fault.LowerFault.{LowerFault}
 use Rattle.nf_meaning.specs.Lowered.{Lowered}
 use Rattle.nf_meaning.specs.Things.{Thing, Channel, Output, outputs, value_seen, value_before_run, thing_named}

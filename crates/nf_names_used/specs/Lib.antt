@@ -1,3 +1,11 @@
 pub mod Uses
 pub mod Leaves
 pub mod Chains
+pub use Rattle.nf_placed.specs.Compare
+pub use Rattle.nf_placed.specs.Body
+pub use Rattle.nf_placed.specs.Placed
+pub use Rattle.nf_placed.specs.Scope
+pub use Rattle.nf_placed.specs.Args
+pub use Rattle.nf_placed.specs.Lists
+pub use Rattle.nf_placed.specs.Natives
+pub use Rattle.nf_placed.specs.Outcome

@@ -1,7 +1,7 @@
 -- What an expression uses of its environment, in the order of the text.
 use Rattle.std.specs.Prelude.{ℕ, Bool, true, false, ◌||◌, List, [], ◌∷◌, ◌++◌, codes, if◌then◌else◌}
 use Rattle.nf_value.specs.declared.place.Place.{Place}
-use Rattle.nf_builtins.specs.Natives.{is_among}
+use Rattle.nf_placed.specs.Natives.{is_among}
 use Rattle.nf_ast.specs.declared.operators.InfixOperator.{InfixOperator}
 use Rattle.nf_ast.specs.declared.operators.InfixOperator.TheVariants as infix_operator
 use Rattle.nf_ast.specs.Tree as tree

@@ -2,7 +2,7 @@
 
 ghost use Rattle.std.specs.Prelude.{◌≡◌, ◌∷◌, ◌++◌, [], ℕ, List, IfOk, OnOk};
 ghost use Rattle.nf_ast.specs.View.{names as names_tree};
-ghost use Rattle.nf_builtins.specs.Natives.{is_among};
+ghost use Rattle.nf_placed.specs.Natives.{is_among};
 ghost use Rattle.nf_placed.specs.Body.{names_in};
 
 use nf_value::{Mem, Place, Txt};

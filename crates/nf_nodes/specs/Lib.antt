@@ -4,3 +4,6 @@ pub mod Nodes
 pub mod Flying
 pub mod Steps
 pub mod Ready
+pub use Rattle.nf_spot.specs.Spot
+pub use Rattle.nf_spot.specs.declared.node_state.Taken
+pub use Rattle.nf_wiring.specs.Places

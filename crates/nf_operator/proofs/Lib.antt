@@ -8,3 +8,6 @@ pub mod Table
 pub mod Beginning
 pub mod Pushing
 pub mod Rooms
+pub use Rattle.nf_opstream.proofs.Members
+pub use Rattle.nf_opstream.proofs.Pushes
+pub use Rattle.nf_opstream.proofs.Tally

@@ -5,3 +5,8 @@ pub mod Calls
 pub mod Body
 pub mod Row
 pub mod Blocks
+pub use Rattle.nf_builtins.specs.Natives
+pub use Rattle.nf_infix.specs.Compare
+pub use Rattle.nf_builtins.specs.Args
+pub use Rattle.nf_builtins.specs.Lists
+pub use Rattle.nf_builtins.specs.Outcome

@@ -12,7 +12,7 @@ use Rattle.nf_graph.specs.Node.{source, operator, PlainNode, IsGraph, node_at}
 use Rattle.nf_graph.specs.Meaning.{Outcomes, bags}
 use Rattle.nf_graph.specs.declared.node.NodeKind.TheVariants as k
 use Rattle.nf_graph.specs.WellMade.{IsValueSource, IsWellMade, OpGivesValues, node_in, plain_node, plain_graph}
-use Rattle.nf_eval.specs.Evaluation.{nowhere}
+use Rattle.nf_bodies.specs.Evaluation.{nowhere}
 use Rattle.nf_bodies.specs.declared.body.NodeInfo.{NodeInfo}
 use Rattle.nf_bodies.specs.declared.body.NodeBody.{NodeBody}
 use Rattle.nf_bodies.specs.declared.body.NodeBody.TheVariants as body

@@ -7,7 +7,7 @@ use Rattle.nf_job.specs.JobText.{inputs_text}
 use Rattle.nf_graph.specs.declared.node.NodeKind.{NodeKind}
 use Rattle.nf_graph.specs.declared.node.NodeKind.TheVariants as k
 use Rattle.nf_graph.specs.WellMade.{node_in}
-use Rattle.nf_stored.specs.Attempts.{NamesJobs}
+use Rattle.nf_bodies.specs.Attempts.{NamesJobs}
 use Rattle.nf_tasks.specs.Judged.{Judged, ◌>>=◌}
 use Rattle.nf_tasks.specs.Memory.{Program, process_of}
 use Rattle.nf_tasks.specs.Meaning.{ProcessMeaning}

@@ -7,7 +7,7 @@ use Rattle.nf_graph.specs.Rules.{Rules}
 use Rattle.nf_graph.specs.Node.{PlainNode, node_at}
 use Rattle.nf_graph.specs.Meaning.{Outcomes, bags}
 use Rattle.nf_graph.specs.WellMade.{node_in, no_source, plain_node, plain_graph}
-use Rattle.nf_eval.specs.Evaluation.{nowhere}
+use Rattle.nf_bodies.specs.Evaluation.{nowhere}
 use Rattle.nf_bodies.specs.declared.body.NodeInfo.{NodeInfo}
 use Rattle.nf_bodies.specs.declared.body.NodeBody.{NodeBody}
 use Rattle.nf_bodies.specs.declared.body.NodeBody.TheVariants as body

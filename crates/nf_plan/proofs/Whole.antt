@@ -8,7 +8,7 @@ use Rattle.nf_value.specs.declared.place.Place.{Place}
 use Rattle.nf_bag.specs.declared.options.OpOpts.{OpOpts}
 use Rattle.nf_bag.specs.declared.rows.Row.{Row}
 use Rattle.nf_bag.specs.declared.rows.Row.TheVariants as row
-use Rattle.nf_placed.specs.Placed.{Placed}
+use Rattle.nf_bodies.specs.Placed.{Placed}
 use Rattle.nf_job.specs.declared.report.Report.{Report}
 use Rattle.nf_job.specs.declared.fault.TaskFault.{TaskFault}
 use Rattle.nf_opstream.specs.Fault.{Fault}

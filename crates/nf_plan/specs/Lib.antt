@@ -4,3 +4,6 @@ pub mod Calls
 pub mod Runs
 pub mod Counts
 pub mod Whole
+pub use Rattle.nf_bodies.specs.Bodies
+pub use Rattle.nf_bodies.specs.declared.body.NodeBody
+pub use Rattle.nf_bodies.specs.declared.body.NodeInfo

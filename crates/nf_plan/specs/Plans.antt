@@ -10,7 +10,7 @@ use Rattle.nf_graph.specs.declared.node.NodeKind.{NodeKind}
 use Rattle.nf_graph.specs.declared.node.NodeKind.TheVariants as k
 use Rattle.nf_graph.specs.Node.{PlainNode, port_in}
 use Rattle.nf_graph.specs.WellMade.{FitsKind, IsWellMade, ReadsEarlier, node_in, plain_graph}
-use Rattle.nf_eval.specs.Evaluation.{nowhere}
+use Rattle.nf_bodies.specs.Evaluation.{nowhere}
 use Rattle.nf_bodies.specs.declared.body.NodeInfo.{NodeInfo}
 use Rattle.nf_bodies.specs.declared.body.NodeBody.{NodeBody}
 use Rattle.nf_bodies.specs.declared.body.NodeBody.TheVariants as body

@@ -1,7 +1,7 @@
 //! Laws of plans, each a contract over the definitions alone.
 
 ghost use Rattle.std.specs.Prelude.{◌≡◌};
-ghost use Rattle.nf_stored.specs.Attempts.{NamesJobs};
+ghost use Rattle.nf_bodies.specs.Attempts.{NamesJobs};
 ghost use Rattle.nf_tasks.specs.Memory.{Program};
 ghost use Rattle.nf_meaning.specs.Walk.{State};
 ghost use Rattle.nf_bodies.specs.Bodies.{rules_of};

@@ -5,3 +5,4 @@ pub mod Ends
 pub mod Wholes
 pub mod Duties
 pub mod Crosses
+pub use Rattle.nf_serial.proofs.Serving

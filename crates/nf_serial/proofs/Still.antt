@@ -10,7 +10,7 @@ use Rattle.nf_machine.specs.Legal.{IsLegal}
 use Rattle.nf_machine.specs.History.{IsLawful, IsHistory, after, is_over}
 use Rattle.nf_machine.specs.Going.{IsMove, HasMove, waits_to, is_new, spot_work, work_to, work}
 use Rattle.nf_machine.proofs.Growing.{replay_grows}
-use Rattle.nf_nodes.specs.Ready.{NoPass, NoTake, NoClose}
+use Rattle.nf_flow.specs.Ready.{NoPass, NoTake, NoClose}
 use Rattle.nf_flow.specs.Seen.{Seen, plain_of, events_of, state_of}
 use Rattle.nf_serial.specs.Serial.{IsIdle, work_of}
 use Rattle.nf_graph.specs.declared.node.Node.{Node}

@@ -28,8 +28,8 @@ use Rattle.nf_machine.specs.Legal.{IsOperatorKind, IsProcessKind}
 use Rattle.nf_machine.specs.Legal as legal
 use Rattle.nf_machine.specs.declared.event.Move.{Move}
 use Rattle.nf_machine.specs.declared.event.Move.TheVariants as v
-use Rattle.nf_nodes.specs.Ready.{IsNext}
-use Rattle.nf_nodes.specs.Steps.{MayPass, MayTake}
+use Rattle.nf_flow.specs.Ready.{IsNext}
+use Rattle.nf_flow.specs.Steps.{MayPass, MayTake}
 use Rattle.nf_flight.specs.declared.ticket.Ticket.{Ticket}
 use Rattle.nf_flight.specs.Ticket.{number_of, node_of, inputs_of, next_attempt}
 use Rattle.nf_flow.specs.Seen.{Seen, plain_of, state_of, grown, take_of}

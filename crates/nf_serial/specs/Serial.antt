@@ -27,7 +27,7 @@ use Rattle.nf_lane.specs.declared.refusal.LaneRefusal.{LaneRefusal}
 use Rattle.nf_lane.specs.declared.refusal.LaneRefusal.TheVariants as lanes
 use Rattle.nf_lane.specs.Store.{Store, Grows, lacks}
 use Rattle.nf_lane.specs.World.{World}
-use Rattle.nf_nodes.specs.Steps.{MayPass, MayTake}
+use Rattle.nf_flow.specs.Steps.{MayPass, MayTake}
 use Rattle.nf_flight.specs.declared.ticket.Ticket.{Ticket}
 use Rattle.nf_flight.specs.Ticket.{node_of, inputs_of, n_of, attempt_of}
 use Rattle.nf_flow.specs.Seen.{Seen, plain_of, state_of}

@@ -6,7 +6,7 @@ ghost use Rattle.nf_flow.specs.Questions.{IsFlying};
 ghost use Rattle.nf_flow.specs.Seen.{Seen, grown, plain_of, state_of};
 ghost use Rattle.nf_machine.specs.History.{is_over};
 ghost use Rattle.nf_machine.specs.declared.event.Event.{Event};
-ghost use Rattle.nf_nodes.specs.Ready.{IsReady};
+ghost use Rattle.nf_flow.specs.Ready.{IsReady};
 ghost use Rattle.nf_serial.specs.Serial.{IsIdle, work_of};
 
 use nf_core::{Fixed, RunState};

@@ -12,3 +12,5 @@ pub mod Emission
 pub mod Publishing
 pub mod Outcome
 pub mod Attempts
+pub use Rattle.nf_eval.specs.Evaluation
+pub use Rattle.nf_eval.specs.Functions

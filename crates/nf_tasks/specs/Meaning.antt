@@ -3,7 +3,7 @@ use Rattle.std.specs.Prelude.{ℕ, List, [], ◌∷◌, ◌++◌, Bool, true, fa
 use Rattle.std.specs.List.{list_any}
 use Rattle.nf_value.specs.declared.place.Place.{Place}
 use Rattle.nf_value.specs.Plain.{Plain}
-use Rattle.nf_placed.specs.Placed.{Placed}
+use Rattle.nf_eval.specs.Placed.{Placed}
 use Rattle.nf_tasks.specs.declared.inputs.Input.{Input}
 use Rattle.nf_tasks.specs.declared.process.ErrorStrategy.{ErrorStrategy}
 

@@ -2,7 +2,7 @@
 
 ghost use Rattle.std.specs.Prelude.{◌≡◌, option_map};
 ghost use Rattle.nf_value.specs.View.{plain_of};
-ghost use Rattle.nf_placed.specs.Placed.{Evaluates};
+ghost use Rattle.nf_eval.specs.Placed.{Evaluates};
 ghost use Rattle.nf_tasks.specs.Judged.{Answers, AnswersBy, evaluated, task_refusal, wrong_kind};
 ghost use Rattle.nf_job.specs.declared.fault.TaskRefusal.TheVariants as refusal;
 ghost use Rattle.nf_tasks.specs.Memory.{program, formula_of};

@@ -8,3 +8,6 @@ pub mod Members
 pub mod Emits
 pub mod Filled
 pub mod Depth
+pub use Rattle.nf_leading.specs.Stays
+pub use Rattle.nf_around.specs.Gives
+pub use Rattle.nf_around.specs.declared.surroundings.Surroundings

@@ -13,7 +13,7 @@ use Rattle.nf_machine.specs.Event.{answer_of}
 use Rattle.nf_flight.specs.declared.ticket.Ticket.{Ticket}
 use Rattle.nf_flight.specs.Ticket.{inputs_of, node_of}
 use Rattle.nf_core.specs.Opening.{Opening}
-use Rattle.nf_serial.proofs.Turns.{first_plain}
+use Rattle.nf_locked.proofs.Turns.{first_plain}
 use Rattle.nf_locked.specs.Locked.{AnswersIt, IsItemOf}
 use Rattle.nf_worker.specs.declared.items.Answered.{Answered}
 use Rattle.nf_worker.specs.Worker.{ticket_of}

@@ -3,7 +3,7 @@
 ghost use Rattle.std.specs.Prelude.{◌≡◌, MatchResult};
 ghost use Rattle.nf_core.specs.Told.{attempt_by};
 ghost use Rattle.nf_locked.specs.Locked.{IsLoss, IsTaskOf};
-ghost use Rattle.nf_serial.specs.Serial.{IsStopOf};
+ghost use Rattle.nf_locked.specs.Serial.{IsStopOf};
 ghost use Rattle.nf_stored.specs.Attempts.{IsJobOf};
 
 use nf_core::Fixed;

@@ -3,7 +3,7 @@
 ghost use Rattle.std.specs.Prelude.{◌≡◌, ◌<◌, ◌+◌, ◌^◌, MatchResult};
 ghost use Rattle.nf_core.specs.Calls.{IsEnteredBy};
 ghost use Rattle.nf_core.specs.Opening.{IsLane};
-ghost use Rattle.nf_serial.specs.Serial.{IsLaneStop, IsLookOf, Later, lane_now, lane_stop};
+ghost use Rattle.nf_locked.specs.Serial.{IsLaneStop, IsLookOf, Later, lane_now, lane_stop};
 
 use nf_core::{Fixed, Ran};
 use nf_flight::Ticket;

@@ -75,7 +75,7 @@ use Rattle.nf_scopes.specs.Standing.{Finds, TellsDefined}
 use Rattle.nf_scopes.specs.Things.{output_of}
 use Rattle.nf_scopes.specs.declared.names.BodyNames.{BodyNames}
 use Rattle.nf_scopes.specs.declared.things.CallOutput.{CallOutput}
-use Rattle.nf_taken.specs.Taken.{with_channel, with_literal, with_start}
+use Rattle.nf_applied.specs.Taken.{with_channel, with_literal, with_start}
 use Rattle.nf_takes.specs.Takes.{FaultIs, labels_of, name_at}
 use Rattle.nf_value.specs.Truth.{truth_of}
 use Rattle.nf_value.specs.View.{plain_of}

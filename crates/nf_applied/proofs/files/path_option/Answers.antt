@@ -1,6 +1,6 @@
 use Rattle.nf_applied.proofs.Arguments.{keeps_same}
 use Rattle.std.proofs.Common.{◌≡◌, ℕ, List, rules, subst}
-use Rattle.nf_around.specs.Gives.{Reads}
+use Rattle.nf_walked.specs.Gives.{Reads}
 use Rattle.nf_meaning.specs.Sources as meaning
 use Rattle.nf_taken.specs.Bodies.{IsPathArgs, path_args_of}
 use Rattle.nf_applied.proofs.Looking.{option_read}

@@ -1,5 +1,5 @@
 use Rattle.std.proofs.Common.{◌≡◌, drop}
-use Rattle.nf_builtins.specs.Natives.{is_among}
+use Rattle.nf_placed.specs.Natives.{is_among}
 use Rattle.nf_names_used.proofs.seen.has_name.Given as goal
 
 abbrev pub invariant-loop-other : goal.invariant-loop-other

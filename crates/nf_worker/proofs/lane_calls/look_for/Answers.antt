@@ -1,4 +1,4 @@
-use Rattle.nf_serial.proofs.Serving.{look_so}
+use Rattle.nf_locked.proofs.Serving.{look_so}
 use Rattle.nf_worker.proofs.lane_calls.look_for.Goals as goal
 
 pub returns-in-Ok-clause-look : goal.returns-in-Ok-clause-look

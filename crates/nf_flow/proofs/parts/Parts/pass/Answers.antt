@@ -1,6 +1,6 @@
 use Rattle.std.proofs.Common.{arith, ap, subst, sym, ◌∙◌, refl, ◌+◌}
 use Rattle.nf_value.specs.View.{plain_of}
-use Rattle.nf_wiring.specs.Places.{place_in}
+use Rattle.nf_nodes.specs.Places.{place_in}
 use Rattle.nf_nodes.specs.Nodes.{AreNodes}
 use Rattle.nf_nodes.specs.Steps.{received}
 use Rattle.nf_machine.specs.Event.{halt, pass}

@@ -1,5 +1,5 @@
 use Rattle.nf_flow.specs.Seen.{Seen, state_of}
-use Rattle.nf_nodes.specs.Ready.{IsReady}
+use Rattle.nf_flow.specs.Ready.{IsReady}
 use Rattle.nf_locked.proofs.Entering.{no_step, stepped}
 use Rattle.std.proofs.Common.{refl, ◌∙◌}
 use Rattle.nf_locked.proofs.Working.{ready_so}

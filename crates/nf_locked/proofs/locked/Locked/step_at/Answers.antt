@@ -1,5 +1,5 @@
 use Rattle.nf_flow.specs.Seen.{Seen, state_of}
-use Rattle.nf_nodes.specs.Ready.{IsReadyAt}
+use Rattle.nf_flow.specs.Ready.{IsReadyAt}
 use Rattle.nf_locked.proofs.Entering.{no_step, stepped}
 use Rattle.std.proofs.Common.{refl, ◌∙◌}
 use Rattle.nf_locked.proofs.Working.{ready_at_so}

@@ -2,7 +2,7 @@ use Rattle.nf_locked.proofs.Entering.{nothing_taken, taken, taken_in_vain}
 use Rattle.std.proofs.Common.{refl, ◌∙◌, ◌++◌, ◌∷◌, [], ap, inr, subst, sym}
 use Rattle.std.specs.Prelude.{Some}
 use Rattle.nf_flow.specs.Seen.{Seen, state_of}
-use Rattle.nf_nodes.specs.Steps.{MayTake}
+use Rattle.nf_flow.specs.Steps.{MayTake}
 use Rattle.nf_locked.specs.Leaves.{IsTaken}
 use Rattle.nf_machine.specs.declared.stop.Stop.TheVariants as s
 use Rattle.nf_locked.proofs.Places.{dropped_at, taken_at, unfound}
