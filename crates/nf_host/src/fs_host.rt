@@ -195,9 +195,9 @@ fn clear_at<R: Files + Copy + Drop>(rt: R, alloc: Global, dir: &str) -> io::Resu
 }
 
 // Opens a file to read it from byte `at` on. Before its front is read, it is seen to be a plain file: to open a pipe may take
-// for ever. What else stands in the place of a task's own file is absent, since the task made it: a link may lead anywhere.
+// for ever. A link or a pipe in the place of a task's own file is absent, since the task made it: a link may lead anywhere.
 fn open_at<R: Files>(rt: &R, path: &str, at: u64) -> io::Result<R::File> {
-    if at == 0 && is_of_task(path) && !fs::symlink_metadata(rt, path)?.is_file() {
+    if at == 0 && is_of_task(path) && is_special(rt, path)? {
         return Err(io::Error::from(ErrorKind::NotFound));
     }
     if at == 0 && !fs::metadata(rt, path)?.is_file() {
@@ -206,22 +206,41 @@ fn open_at<R: Files>(rt: &R, path: &str, at: u64) -> io::Result<R::File> {
     File::open(rt, path)
 }
 
-// Makes an empty file, or empties the one at the path. A link or a pipe in the place of a task's own file goes first, since
-// the task made it.
+// Makes an empty file, or empties the one at the path. A link or a pipe in the place of a file of the program's own goes
+// first, since a task made it. A link in the place of a task's folder is a failure: a file would be made behind it.
 fn create_plain<R: Files>(rt: &R, path: &str) -> io::Result<R::File> {
-    if is_of_task(path) {
-        match fs::symlink_metadata(rt, path) {
-            Ok(found) if !found.is_file() && !found.is_dir() => fs::remove_file(rt, path)?,
-            _ => {}
-        }
+    if is_of_task(path) && !is_in_folder(rt, path)? {
+        return Err(io::Error::from(ErrorKind::NotADirectory));
+    }
+    if (is_of_task(path) || is_scratch(path)) && is_special(rt, path).unwrap_or(false) {
+        fs::remove_file(rt, path)?;
     }
     File::create(rt, path)
+}
+
+// Whether a link, a pipe or a device stands at a path.
+fn is_special<R: Files>(rt: &R, path: &str) -> io::Result<bool> {
+    let found = fs::symlink_metadata(rt, path)?;
+    Ok(!found.is_file() && !found.is_dir())
+}
+
+// Whether the folder of a path is one itself, and no link to one.
+fn is_in_folder<R: Files>(rt: &R, path: &str) -> io::Result<bool> {
+    match path.rsplit_once('/') {
+        Some((folder, _)) => Ok(fs::symlink_metadata(rt, folder)?.is_dir()),
+        None => Ok(true),
+    }
 }
 
 // Whether a file is one of those that tell of a task in its folder: `.exitcode`, or `.command.` and more.
 fn is_of_task(path: &str) -> bool {
     let name = path.rsplit('/').next().unwrap_or(path);
     name == ".exitcode" || name.starts_with(".command.")
+}
+
+// Whether a file is written whole at this path, and put in its place then: a record in the cache, or a file in the store.
+fn is_scratch(path: &str) -> bool {
+    path.ends_with("/.cache/new") || path.ends_with("/.files/.new")
 }
 
 fn append_all<R: Files>(rt: &R, path: &str, piece: &[u8]) -> io::Result<()> {
