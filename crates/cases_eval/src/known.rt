@@ -56,7 +56,7 @@ pub(crate) fn known<N: Natives>(alloc: Global, library: Library, natives: &N) ->
 /// Binds names to files.
 fn add_files(alloc: Global, env: &mut Env) -> Result<()> {
     for (name, of) in FILES.iter().copied() {
-        env.define(text(alloc, name)?, Value::File(file(alloc, of)?))?;
+        env.define(text(alloc, name)?, Value::of_file(alloc, file(alloc, of)?)?)?;
     }
     Ok(())
 }

@@ -64,7 +64,7 @@ fn files(alloc: Global, code: &str) -> Result<FileRefs> {
     let mut files = Vec::new(alloc);
     for value in values.items() {
         match value {
-            Value::File(file) => files.push(file.copy()?)?,
+            Value::File(file) => files.push(file.file().copy()?)?,
             _ => bail!("{code}: no files"),
         }
     }

@@ -1,6 +1,7 @@
 //! Lists of values that may be files.
 
 ghost use Rattle.std.specs.Prelude.{◌≡◌, IfOk, map};
+ghost use Rattle.nf_value.specs.Plain.{file as file_plain};
 ghost use Rattle.nf_value.specs.View.{plain_of};
 ghost use Rattle.nf_meaning.specs.Things as spec;
 ghost use Rattle.nf_meaning.specs.Walk as walk;
@@ -51,13 +52,23 @@ fn widened(alloc: Global, value: &Value) -> Result<Value, Mem>
     ensures { IfOk result (λ wide. plain_of wide ≡ spec.widened (plain_of value.now)) }
 {
     match value {
-        Value::File(file) => Ok(Value::File(FileRef {
-            name: file.name.copy()?,
-            digest: Digest([0; 32]),
-            len: LONGEST,
-        })),
+        Value::File(file) => widened_file(alloc, file.file()),
         Value::List(list) => Ok(Value::List(Vals::of(all_widened(alloc, list)?))),
         Value::Null | Value::Truth(_) | Value::Int(_) | Value::Text(_) | Value::Map(_) =>
             value.copy(),
     }
+}
+
+fn widened_file(alloc: Global, file: &FileRef) -> Result<Value, Mem>
+    ensures { IfOk result (λ wide. plain_of wide ≡ spec.widened (file_plain file.now.name file.now.digest.0 file.now.len)) }
+{
+    let name = file.name.copy()?;
+    Value::of_file(
+        alloc,
+        FileRef {
+            name,
+            digest: Digest([0; 32]),
+            len: LONGEST,
+        },
+    )
 }

@@ -7,7 +7,7 @@ ghost use Rattle.nf_codec.specs.Heads.{whole};
 ghost use Rattle.nf_codec.specs.Fronts.{IsFront, IsTextFront, IsDigestOf, IsCount, IsHead};
 
 use crate::number::{decimal_before, int_at, value_of};
-use nf_value::{Digest, FileRef, Mem, Txt, Value};
+use nf_value::{Digest, FileBox, FileRef, Mem, Txt, Value};
 use std::alloc::Global;
 
 /// A head: the whole value, or of a list or map how many items or pairs follow. A count past 64 bits is kept as 2^64 - 1, since
@@ -89,7 +89,7 @@ fn file_tail(bytes: &[u8]) -> Option<((Digest, u64), usize)>
     }
 }
 
-fn file_at(alloc: Global, bytes: &[u8]) -> Result<Option<(FileRef, usize)>, Mem>
+fn file_at(alloc: Global, bytes: &[u8]) -> Result<Option<(FileBox, usize)>, Mem>
     ensures { IfOk result (IsFront (λ f. whole (file f.name f.digest.0 f.len)) (heads.file_at bytes.now) bytes.now) }
 {
     let Some((name, used)) = counted_text(bytes) else {
@@ -99,7 +99,8 @@ fn file_at(alloc: Global, bytes: &[u8]) -> Result<Option<(FileRef, usize)>, Mem>
         return Ok(None);
     };
     let name = Txt::of(String::from_str(alloc, name)?);
-    Ok(Some((FileRef { name, digest, len }, used + more)))
+    let file = FileBox::new(alloc, FileRef { name, digest, len })?;
+    Ok(Some((file, used + more)))
 }
 
 fn count_at(bytes: &[u8]) -> Option<(u64, usize)>

@@ -129,7 +129,7 @@ fn put(out: &mut String, value: &Value) -> Result<(), Mem>
         Value::Truth(false) => out.push_str("f")?,
         Value::Int(number) => put_int(out, *number)?,
         Value::Text(text) => put_text(out, text)?,
-        Value::File(file) => put_file(out, file)?,
+        Value::File(file) => put_file(out, file.file())?,
         Value::List(list) => put_all(out, list)?,
         Value::Map(pairs) => put_pairs(out, pairs)?,
     }

@@ -249,7 +249,7 @@ fn files_value(alloc: Global, files: &FileRefs) -> Result<Value, Mem>
 {
     let mut values = Vec::new(alloc);
     for file in files.items() {
-        values.push(Value::File(file.copy()?))?;
+        values.push(Value::of_file(alloc, file.copy()?)?)?;
     }
     Ok(Value::List(Vals::of(values)))
 }

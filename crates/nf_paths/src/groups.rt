@@ -72,8 +72,8 @@ pub(crate) fn put_pair(
         return Ok(());
     };
     let mut files = Vec::new(alloc);
-    files.push(Value::File(first.copy()?))?;
-    files.push(Value::File(second.copy()?))?;
+    files.push(Value::of_file(alloc, first.copy()?)?)?;
+    files.push(Value::of_file(alloc, second.copy()?)?)?;
     let mut pair = Vec::new(alloc);
     pair.push(Value::Text(Txt::of(String::from_str(alloc, key)?)))?;
     pair.push(Value::List(Vals::of(files)))?;

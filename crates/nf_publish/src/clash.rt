@@ -30,7 +30,7 @@ fn target_values(alloc: Global, targets: &[Target]) -> Result<Vals, Mem>
 {
     let mut values = Vec::new(alloc);
     for target in targets {
-        values.push(Value::File(target_file(target)?))?;
+        values.push(Value::of_file(alloc, target_file(target)?)?)?;
     }
     Ok(Vals::of(values))
 }
@@ -52,7 +52,7 @@ fn clash_in(files: &[Value]) -> Result<Option<Clash>, Mem>
     ensures { IfOk result (λ c. c ≡ clash_in (map plain_of files.now)) }
 {
     match files {
-        [Value::File(first), others @ ..] => clash_after(first, others),
+        [Value::File(first), others @ ..] => clash_after(first.file(), others),
         _ => Ok(None),
     }
 }
@@ -66,6 +66,7 @@ fn clash_after(first: &FileRef, others: &[Value]) -> Result<Option<Clash>, Mem>
         let Value::File(file) = value else {
             return Ok(None);
         };
+        let file = file.file();
         if before.name.as_str() == file.name.as_str() {
             return Ok(Some(clash_of(before, file)?));
         }

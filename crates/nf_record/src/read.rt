@@ -209,7 +209,7 @@ fn file_from(value: &Value) -> Result<Option<FileRef>, Mem>
     ensures { IfOk result (λ o. o ≡ file_in (plain_of value.now)) }
 {
     match value {
-        Value::File(file) => Ok(Some(file.copy()?)),
+        Value::File(file) => Ok(Some(file.file().copy()?)),
         _ => Ok(None),
     }
 }

@@ -15,7 +15,7 @@ use nf_meaning::LowerFault;
 use nf_opargs::{PathKind, text_wanted};
 use nf_paths::name_at;
 use nf_plan::Want;
-use nf_value::{Digest, FileRef, Mem, Place, Txt, Value};
+use nf_value::{Digest, FileBox, FileRef, Mem, Place, Txt, Value};
 use std::alloc::Global;
 
 /// A path, and whether there has to be a file (Nextflow reference documentation, "Channel factories", "fromPath").
@@ -81,21 +81,27 @@ impl PathArgs {
 /// # Errors
 ///
 /// `Mem` for want of memory.
-pub fn first_file(alloc: Global, path: &str, files: &[FileRef]) -> Result<FileRef, Mem>
+pub fn first_file(alloc: Global, path: &str, files: &[FileRef]) -> Result<FileBox, Mem>
     ensures { IfOk result (λ f. file_plain f ≡ meaning.first_file path.now files.now) }
 {
     let name = file_name(alloc, path)?;
     match files {
-        [] => Ok(FileRef {
-            name,
-            digest: Digest([0; 32]),
-            len: 0,
-        }),
-        [first, ..] => Ok(FileRef {
-            name,
-            digest: first.digest,
-            len: first.len,
-        }),
+        [] => FileBox::new(
+            alloc,
+            FileRef {
+                name,
+                digest: Digest([0; 32]),
+                len: 0,
+            },
+        ),
+        [first, ..] => FileBox::new(
+            alloc,
+            FileRef {
+                name,
+                digest: first.digest,
+                len: first.len,
+            },
+        ),
     }
 }
 
@@ -118,7 +124,7 @@ pub fn file_items(alloc: Global, files: &[FileRef]) -> Result<Vec<Value>, Mem>
 {
     let mut items = Vec::new(alloc);
     for file in files {
-        items.push(Value::File(file.copy()?))?;
+        items.push(Value::of_file(alloc, file.copy()?)?)?;
     }
     Ok(items)
 }

@@ -137,7 +137,7 @@ fn files_value(alloc: Global, files: &[FileRef]) -> Result<Value, Mem>
     ensures { IfOk result (λ v. plain_of v ≡ files_plain_of files.now) }
 {
     match files {
-        [file] => Ok(Value::File(file.copy()?)),
+        [file] => Value::of_file(alloc, file.copy()?),
         _ => Ok(Value::List(sorted(file_values(alloc, files)?)?)),
     }
 }
@@ -147,7 +147,7 @@ fn file_values(alloc: Global, files: &[FileRef]) -> Result<Vals, Mem>
 {
     let mut values = Vec::new(alloc);
     for file in files {
-        values.push(Value::File(file.copy()?))?;
+        values.push(Value::of_file(alloc, file.copy()?)?)?;
     }
     Ok(Vals::of(values))
 }

@@ -86,7 +86,7 @@ impl Taking {
     {
         match item {
             Value::File(file) => {
-                self.add_file(file)?;
+                self.add_file(file.file())?;
                 Ok(true)
             }
             Value::List(list) => self.take_all(list.items()),
@@ -177,7 +177,7 @@ fn file_in(value: &Value) -> Option<&FileRef>
         (λ f. file_in (plain_of value.now) ≡ Some f.now) }
 {
     match value {
-        Value::File(file) => Some(file),
+        Value::File(file) => Some(file.file()),
         _ => None,
     }
 }

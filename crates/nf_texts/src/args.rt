@@ -37,7 +37,7 @@ pub fn on_file(recv: &Value) -> Result<&FileRef, EvalKind>
     ensures { MatchResult result (λ f. on_file_of (plain_of recv.now) ≡ Ok f.now.name) (λ k. on_file_of (plain_of recv.now) ≡ Err k) }
 {
     match recv {
-        Value::File(file) => Ok(file),
+        Value::File(file) => Ok(file.file()),
         _ => Err(EvalKind::NoMethod),
     }
 }

@@ -21,7 +21,7 @@ pub fn text_len(value: &Value) -> u64
         Value::Truth(false) => 5,
         Value::Int(number) => number_len(*number),
         Value::Text(text) => capped_len(0, text.as_str().len()),
-        Value::File(file) => capped_len(0, file.name.as_str().len()),
+        Value::File(file) => capped_len(0, file.file().name.as_str().len()),
         Value::List(list) => list_len(list),
         Value::Map(pairs) => map_len(pairs),
     }

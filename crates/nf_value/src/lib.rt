@@ -17,7 +17,7 @@ mod value;
 
 pub use bytes::Bytes;
 pub use fault::{EvalFault, EvalKind, EvalRefusal};
-pub use file::{Digest, FileRef};
+pub use file::{Digest, FileBox, FileRef};
 pub use list::Vals;
 pub use map::{Pairs, is_rising};
 pub use measure::{depth, truth, weight};

@@ -80,7 +80,7 @@ impl Vals {
     pub fn copy(&self) -> Result<Vals, Mem>
         ensures { IfOk result (λ v. v ≡ self.now) }
     {
-        let mut copies = Vec::new(*self.items.allocator());
+        let mut copies = Vec::with_capacity(*self.items.allocator(), self.items.len())?;
         for item in &self.items {
             copies.push(item.copy()?)?;
         }

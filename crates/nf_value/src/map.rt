@@ -89,7 +89,7 @@ impl Pairs {
     pub fn copy(&self) -> Result<Pairs, Mem>
         ensures { IfOk result (λ v. v ≡ self.now) }
     {
-        let mut copies = Vec::new(*self.items.allocator());
+        let mut copies = Vec::with_capacity(*self.items.allocator(), self.items.len())?;
         for (key, item) in &self.items {
             let key = key.copy()?;
             copies.push((key, item.copy()?))?;

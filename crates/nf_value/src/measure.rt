@@ -89,7 +89,7 @@ pub fn weight(value: &Value) -> u64
         Value::Null | Value::Truth(_) => 1,
         Value::Int(number) => int_weight(*number),
         Value::Text(text) => text_weight(text),
-        Value::File(file) => file_weight(file),
+        Value::File(file) => file_weight(file.file()),
         Value::List(list) => capped(head_len(list.len()), weight_all(list)),
         Value::Map(pairs) => capped(head_len(pairs.len()), weight_pairs(pairs)),
     }

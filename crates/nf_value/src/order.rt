@@ -98,7 +98,7 @@ fn compare(a: &Value, b: &Value) -> Ordering
         (Value::Truth(x), Value::Truth(y)) => x.cmp(y),
         (Value::Int(x), Value::Int(y)) => x.cmp(y),
         (Value::Text(x), Value::Text(y)) => compare_bytes(x.as_str(), y.as_str()),
-        (Value::File(x), Value::File(y)) => compare_files(x, y),
+        (Value::File(x), Value::File(y)) => compare_files(x.file(), y.file()),
         (Value::List(x), Value::List(y)) => compare_all(x, y),
         (Value::Map(x), Value::Map(y)) => compare_pairs(x, y),
         _ => kind(a).cmp(&kind(b)),

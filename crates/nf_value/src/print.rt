@@ -45,7 +45,7 @@ fn push_text(out: &mut String, value: &Value) -> Result<(), Mem>
         Value::Truth(false) => out.push_str("false")?,
         Value::Int(number) => push_number(out, *number)?,
         Value::Text(text) => out.push_str(text.as_str())?,
-        Value::File(file) => out.push_str(file.name.as_str())?,
+        Value::File(file) => out.push_str(file.file().name.as_str())?,
         Value::List(list) => push_list(out, list)?,
         Value::Map(pairs) => push_map(out, pairs)?,
     }

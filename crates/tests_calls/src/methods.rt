@@ -134,11 +134,15 @@ fn a(alloc: Global) -> Result<Txt, Mem> {
 }
 
 fn file(alloc: Global) -> Result<Value, Mem> {
-    Ok(Value::File(FileRef {
-        name: a(alloc)?,
-        digest: Digest([7; 32]),
-        len: 1,
-    }))
+    let name = a(alloc)?;
+    Value::of_file(
+        alloc,
+        FileRef {
+            name,
+            digest: Digest([7; 32]),
+            len: 1,
+        },
+    )
 }
 
 fn map(rt: &impl Abort, alloc: Global) -> Result<Value, Mem> {
