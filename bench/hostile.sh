@@ -729,7 +729,7 @@ cached 'a record of a byte more than there may be' 0 'a|a|executed 1 cached 1|'
 truncate -s 16777216 "work/$record"
 cached 'a record of as many bytes as there may be' 0 'a|a|executed 1 cached 1|'
 rm "work/$record" && ln -s /dev/zero "work/$record"
-cached 'a record that never ends' 0 'a|a|executed 1 cached 1|'
+cached 'a record that never ends' 4 'error: KeeperFault|'
 rm "work/$record" && ln -s "$(basename "$record")" "work/$record"
 cached 'a record that is a link to itself' 4 'error: KeeperFault|'
 for other in work/.cache/*; do cp "$other" "$folder/other"; done
@@ -812,7 +812,7 @@ try '100,000 parameters' 0 'null|executed 0 cached 0|' run a.nf $(seq -f --p%.0f
 try 'a word that is not UTF-8' 2 'error: usage: UnknownWord at word 0|' run a.nf "$(printf '\377')"
 try 'a script that is a folder' 4 'error: HostFault|' run in
 try 'a script with an empty name' 3 'error: NoScript|' run ''
-try 'a script that never ends' 3 'error: 1:1: ScriptTooLong|' run /dev/zero
+try 'a script that never ends' 4 'error: HostFault|' run /dev/zero
 try 'a script with a dash' 2 'error: usage: UnknownWord at word 1|' run -a.nf
 or_status=3
 or_text='error: NoScript|'
@@ -928,6 +928,7 @@ may_write='parent/here/q'
 publishing "q\"\$(touch pwned)\\'"
 try 'published to a folder with quotes' 0 'publish q"$(touch pwned)'"'/x.txt $abc|executed 1 cached 0|" run a.nf
 also 'no name was run' is_absent "$here/pwned"
+may_write='parent/here/q|^r(/|$)'
 publishing 'q\nr'
 try 'published to a folder with a line end' 0 "publish q|r/x.txt $abc|executed 1 cached 0|" run a.nf
 may_write='^$'
@@ -952,6 +953,7 @@ may_write='^$'
 also 'published with standard output closed: the file is there' holds results/x.txt abc
 rm -rf results
 try 'a trace in the place of a folder' 4 'error: HostFault|' run a.nf -with-trace in
+may_write='parent/here/results(/|$)'
 try 'a trace in the place of the file that is published' 4 "error: Damaged $abc|" run a.nf -with-trace "$stored"
 may_write='parent/here/(results(/|$)|a[.]nf$)'
 rm -rf work
