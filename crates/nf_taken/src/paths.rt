@@ -84,24 +84,26 @@ impl PathArgs {
 pub fn first_file(alloc: Global, path: &str, files: &[FileRef]) -> Result<FileBox, Mem>
     ensures { IfOk result (λ f. file_plain f ≡ meaning.first_file path.now files.now) }
 {
+    let file = first_found(alloc, path, files)?;
+    let held = FileBox::new(alloc, file)?;
+    Ok(held)
+}
+
+fn first_found(alloc: Global, path: &str, files: &[FileRef]) -> Result<FileRef, Mem>
+    ensures { IfOk result (λ f. file_plain f ≡ meaning.first_file path.now files.now) }
+{
     let name = file_name(alloc, path)?;
     match files {
-        [] => FileBox::new(
-            alloc,
-            FileRef {
-                name,
-                digest: Digest([0; 32]),
-                len: 0,
-            },
-        ),
-        [first, ..] => FileBox::new(
-            alloc,
-            FileRef {
-                name,
-                digest: first.digest,
-                len: first.len,
-            },
-        ),
+        [] => Ok(FileRef {
+            name,
+            digest: Digest([0; 32]),
+            len: 0,
+        }),
+        [first, ..] => Ok(FileRef {
+            name,
+            digest: first.digest,
+            len: first.len,
+        }),
     }
 }
 

@@ -1,6 +1,6 @@
 use Rattle.std.proofs.Common.{arith}
 use Rattle.nf_taken.proofs.Files.{a_first, no_first}
-use Rattle.nf_taken.proofs.paths.first_file.Goals as goal
+use Rattle.nf_taken.proofs.paths.first_found.Goals as goal
 
 pub returns-in-empty : goal.returns-in-empty
 returns-in-empty c = no_first c.args.path.now c.in_ok-name.name c.in_ok-name.ensures c.args.files.now (omega (arith, c.in-empty.len_below))
