@@ -638,6 +638,14 @@ or_status=4
 or_text='error: LaneFault|'
 try 'a task that makes a link of its folder' 0 'a|executed 1 cached 0|' run a.nf
 may_write='^$'
+fresh
+mkdir gone
+task 'd=$PWD; printf a; u=${d%/*}; cd ../..; mv "$u" ../gone/up; ln -s "$PWD/../gone/up" "$u"'
+may_write='gone/up(/[0-9a-f]+)?(/[.]command[.a-z]*)?$'
+or_status=4
+or_text='error: LaneFault|'
+try 'a task that makes a link of the folder above its own' 0 'a|executed 1 cached 0|' run a.nf
+may_write='^$'
 
 # ---- records and the cache
 
@@ -729,7 +737,7 @@ cached 'a record of a byte more than there may be' 0 'a|a|executed 1 cached 1|'
 truncate -s 16777216 "work/$record"
 cached 'a record of as many bytes as there may be' 0 'a|a|executed 1 cached 1|'
 rm "work/$record" && ln -s /dev/zero "work/$record"
-cached 'a record that never ends' 4 'error: KeeperFault|'
+cached 'a record that never ends' 0 'a|a|executed 1 cached 1|'
 rm "work/$record" && ln -s "$(basename "$record")" "work/$record"
 cached 'a record that is a link to itself' 4 'error: KeeperFault|'
 for other in work/.cache/*; do cp "$other" "$folder/other"; done
@@ -812,7 +820,7 @@ try '100,000 parameters' 0 'null|executed 0 cached 0|' run a.nf $(seq -f --p%.0f
 try 'a word that is not UTF-8' 2 'error: usage: UnknownWord at word 0|' run a.nf "$(printf '\377')"
 try 'a script that is a folder' 4 'error: HostFault|' run in
 try 'a script with an empty name' 3 'error: NoScript|' run ''
-try 'a script that never ends' 4 'error: HostFault|' run /dev/zero
+try 'a script that never ends' 3 'error: 1:1: ScriptTooLong|' run /dev/zero
 try 'a script with a dash' 2 'error: usage: UnknownWord at word 1|' run -a.nf
 or_status=3
 or_text='error: NoScript|'

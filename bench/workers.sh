@@ -47,8 +47,8 @@ rm -rf "$memory/work"
 echo "memory of 5,000 tasks: $(cd "$memory" && /usr/bin/time -f %M "$program" run "$folder/five.nf" 2>&1 >/dev/null | tail -n 1) KiB (due: less than 65536)"
 
 echo 'workflow { channel.of(1..200000).map { it + 1 }.filter { it > 0 }.map { it * 2 }.count().view() }' >"$folder/items.nf"
-# closures that take about a millisecond each; a worker takes up to 64 of them at once
-echo 'workflow { channel.of(1..1000).map { i -> (1..1300).collect { x -> (x * i) % 1000003 }.sum() }.count().view() }' >"$folder/closures.nf"
+# a closure that takes some milliseconds
+echo 'workflow { channel.of(1..400).map { i -> (1..3000).collect { x -> (x * i) % 1000003 }.sum() }.count().view() }' >"$folder/closures.nf"
 cd "$memory"
 for _ in $(seq 5); do
     timed "$program" run "$folder/items.nf" -queue-size 1 >>"$folder/items-alone"
@@ -57,7 +57,7 @@ for _ in $(seq 5); do
     timed "$program" run "$folder/closures.nf" -queue-size 4 >>"$folder/closures-four"
 done
 compared "200,000 items on 4 workers" "on one" items-four items-alone 1.3
-echo "1,000 closures of a millisecond on one worker: $(ms "$(least closures-alone)") ms; on 4: $(ms "$(least closures-four)") ms;" \
+echo "400 long closures on one worker: $(ms "$(least closures-alone)") ms; on 4: $(ms "$(least closures-four)") ms;" \
     "ratio $(ratio "$(least closures-alone)" "$(least closures-four)") (due: at least 3)"
 
 echo 'process P { script: "sleep 5" }
